@@ -78,7 +78,7 @@ use Rattle.abstract_steps_single_ways.proofs.CaseTests.{case_test_told}
 use Rattle.abstract_steps_single_copied.proofs.ToldCopies.{copy_step_told}
 use Rattle.abstract_steps_single_tests.proofs.IntegerTests.{integer_test_told}
 use Rattle.abstract_steps_single_starts.proofs.ToldStarts.{start_is_told}
-use Rattle.abstract_steps_single_runs.specs.SingleRuns.{SingleLaws, SwitchesAreApart, IsNeverStuck, IsSingleProgram, IsViolatedAlone}
+use Rattle.abstract_steps_single_runs.specs.SingleRuns.{SingleLaws, SwitchesAreApart, IsNeverStuckAlone, IsSingleProgram, IsViolatedAlone}
 use Rattle.abstract_steps_single_analyses.specs.SingleAnalyses.{FindsJustRunOf, FindsJustRunsOfChecked}
 use Rattle.abstract_steps_single_runs.proofs.PassedBlocks.{both}
 use Rattle.abstract_steps_single_analyses.proofs.PlainObjects.{has_objects}
@@ -177,7 +177,7 @@ module _ (flow : Flow) (list : List ℤ) (found : List Diag) (a : IsAnalysis flo
         (runs_begin flow standard_limits regular.well_formed regular.initial p u starts)
         (replicate flow.width Nothing) (start_of interval_lattice interval_numbers flow list) (length-replicate flow.width Nothing) (regular_fits flow list a.regular enough.reaches a.started) [] begin (begins single.parameters)
 
-    only_run : SwitchesAreApart flow → IsNeverStuck flow u → IsSingleProgram flow u → (d : Diag) → Contains found d → IsViolatedAlone flow u d.place d.rule
+    only_run : SwitchesAreApart flow → IsNeverStuckAlone flow u → IsSingleProgram flow u → (d : Diag) → Contains found d → IsViolatedAlone flow u d.place d.rule
     only_run apart unstuck single d there =
         let laid = laid_out standard_limits flow regular.well_formed (omega (arith)) in
         let named = all_named standard_limits flow regular.well_formed regular.scalars in

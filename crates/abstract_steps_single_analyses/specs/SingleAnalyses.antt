@@ -6,11 +6,11 @@ use Rattle.c_layout.specs.CheckedUnits.{UnitView}
 use Rattle.flow_program.specs.declared.programs.Flow.{Flow}
 use Rattle.abstract_steps_sound_entries.specs.UnitStarts.{StartsAs}
 use Rattle.abstract_steps_sound_checked_starts.specs.CheckedStarts.{IsUnitOf}
-use Rattle.abstract_steps_single_runs.specs.SingleRuns.{SwitchesAreApart, IsNeverStuck, IsSingleProgram, IsViolatedAlone}
+use Rattle.abstract_steps_single_runs.specs.SingleRuns.{SwitchesAreApart, IsNeverStuckAlone, IsSingleProgram, IsViolatedAlone}
 
 -- the pairs that are found are just those that the run of the unit under no numbers of the outside violates
 abbrev pub FindsJustRunOf : Flow → List Diag → UnitView → Type 0
-FindsJustRunOf flow found u = SwitchesAreApart flow → IsNeverStuck flow u → IsSingleProgram flow u → (d : Diag) → Contains found d ↔ IsViolatedAlone flow u d.place d.rule
+FindsJustRunOf flow found u = SwitchesAreApart flow → IsNeverStuckAlone flow u → IsSingleProgram flow u → (d : Diag) → Contains found d ↔ IsViolatedAlone flow u d.place d.rule
 
 -- of a unit with whose tables the program begins
 abbrev pub FindsJustRuns : Flow → List Diag → Type 0

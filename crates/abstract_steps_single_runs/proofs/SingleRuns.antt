@@ -56,7 +56,7 @@ use Rattle.abstract_steps_single.specs.SingleSteps.{IsDefined}
 use Rattle.abstract_steps_single_copies.specs.TypedAccesses.{HasObjects}
 use Rattle.abstract_steps_single_ways.specs.WayLaws.{FitsWay, IsWay, TestsAreTold}
 use Rattle.abstract_steps_single.specs.SingleLaws.{HasRight}
-use Rattle.abstract_steps_single_runs.specs.SingleRuns.{SwitchesAreApart, IsTypedStep, HasRightOperands, IsNeverStuck, IsSingleProgram, IsViolatedAlone, SingleLaws, AdmitOnlyRun, MapsAdmitOnlyRun}
+use Rattle.abstract_steps_single_runs.specs.SingleRuns.{SwitchesAreApart, IsTypedStep, HasRightOperands, IsNeverStuckAlone, IsSingleProgram, IsViolatedAlone, SingleLaws, AdmitOnlyRun, MapsAdmitOnlyRun}
 use Rattle.abstract_steps_single_runs.proofs.ApartWays.{ways_apart}
 use Rattle.abstract_steps_single_runs.proofs.BlockEdges.{edge_leads}
 use Rattle.abstract_steps_covered.proofs.MapPairs.{admitted_in}
@@ -84,7 +84,7 @@ module _ {I : Type 0} {l : LatticeOf I} {n : IntegersOf I} {stands : I → ℤ �
     (leaves : (number : ℕ) (row : List (Cell I)) → is_own_row l n list flow.bases.items flow.width row ≡ true → through l n flow list number row ≡ edge_end l n flow (edge_at flow.edges.items number).from number row)
     (owns : (block number : ℕ) (row x : List (Cell I)) → is_own_row l n list flow.bases.items flow.width row ≡ true → edge_end l n flow block number row ≡ Some x → is_own_row l n list flow.bases.items flow.width x ≡ true)
     (start_own : is_own_row l n list flow.bases.items flow.width (start_of l n flow list) ≡ true)
-    (structs : HasStructs flow) (texts : SpellsOverCharacters flow) (objects : HasObjects flow) (switches : SwitchesAreApart flow) (u : UnitView) (typed : HasTypedRuns flow u) (rights : HasRightOperands flow u) (unstuck : IsNeverStuck flow u) (single : IsSingleProgram flow u) where
+    (structs : HasStructs flow) (texts : SpellsOverCharacters flow) (objects : HasObjects flow) (switches : SwitchesAreApart flow) (u : UnitView) (typed : HasTypedRuns flow u) (rights : HasRightOperands flow u) (unstuck : IsNeverStuckAlone flow u) (single : IsSingleProgram flow u) where
   abbrev f : FlowView
   f = flow_view flow
 

@@ -1,6 +1,6 @@
 -- The run of a plain unit that ends is that of its program, which is never stuck and violates the same.
 use Rattle.std.proofs.Common.{◌≡◌, ℕ, Option, Some, None, List, [], subst, sym, refl, ap, ◌∙◌}
-use Rattle.std.specs.Prelude.{ℤ}
+use Rattle.std.specs.Prelude.{◌↔◌, ℤ}
 use Rattle.std.specs.List.{Contains}
 use Rattle.cc_base.specs.declared.diagnostics.Diag.{Diag}
 use Rattle.cc_base.specs.declared.diagnostics.Place.{Place}
@@ -19,11 +19,11 @@ use Rattle.ref_machine.specs.SourceRuns.{Run}
 use Rattle.template_runs_ends.specs.UnitRuns.{IsProgramOf, Agree}
 use Rattle.template_runs_looked.specs.LookedRuns.{PassesLooks, LookedUnitsAreNeverStuck, LookedRunsAreProgramRuns}
 use Rattle.abstract_steps_single_analyses.specs.Analyses.{IsAnalysis}
-use Rattle.abstract_steps_single_analyses.specs.SingleRuns.{IsNeverStuck, IsViolatedAlone}
+use Rattle.abstract_steps_single_analyses.specs.SingleRuns.{IsNeverStuckAlone, IsSingleProgram, IsViolatedAlone}
 use Rattle.abstract_steps_single_switches.specs.UnitSwitches.{UnitSwitchesAreApart}
 use Rattle.abstract_steps_single_analyses.proofs.SingleAnalyses.{finds_checked_run}
 use Rattle.template_runs_ends.specs.EndedRuns.{HasStopped, UnitsWithoutLoopsEnd}
-use Rattle.abstract_steps_single_units.specs.SingleUnits.{FindsJustUnitRuns}
+use Rattle.abstract_steps_single_units.specs.SingleUnits.{RunViolates, FindsJustUnitRuns}
 use Rattle.abstract_steps_single_units.proofs.EndedRuns.{one_cause, all_found}
 
 same_cause : (a b : Why) → Some a ≡ Some b → a ≡ b
@@ -65,7 +65,7 @@ module _ (laws : LookedRunsAreProgramRuns) (never : LookedUnitsAreNeverStuck) (u
   has_stopped : ProgramHasStopped (flow_steps f count begin)
   has_stopped = stopped_by (flow_steps f count begin) (sym agree.why ∙ ended)
 
-  never_stuck : IsNeverStuck program u
+  never_stuck : IsNeverStuckAlone program u
   never_stuck n w found e = defined (one_cause f begin count n end.why Stuck has_stopped.world w has_stopped.found found has_stopped.is e)
 
   to_source : (n : ℕ) (v : Violation) → Contains (flow.found_in (flow_steps f n begin)) v → Contains (source.found_in (Run u [] turns)) v
@@ -77,11 +77,17 @@ from_source laws u limits program o looks turns place rule h =
     let followed = laws u limits program o looks [] turns in
     record { count = followed.0; there = subst (λ z. Contains z (record { at = place; rule = rule })) (followed.1.found) h }
 
-pub finds_unit_run : LookedRunsAreProgramRuns → LookedUnitsAreNeverStuck → UnitSwitchesAreApart → UnitsWithoutLoopsEnd → (program : Flow) (list : List ℤ) (found : List Diag) → IsAnalysis program list found → FindsJustUnitRuns program found
-finds_unit_run laws never apart ends program list found a u limits is o looks single d =
+-- what is found just where the run of the program violates it is found just where that of the unit does
+pub by_unit_run : LookedRunsAreProgramRuns → LookedUnitsAreNeverStuck → UnitsWithoutLoopsEnd → (u : UnitView) (limits : Limits) (program : Flow) → IsProgramOf u limits program → PassesLooks u → IsSingleProgram program u → (found : List Diag) (d : Diag)
+    → (IsNeverStuckAlone program u → Contains found d ↔ IsViolatedAlone program u d.place d.rule) → Contains found d ↔ RunViolates u (record { at = d.place; rule = d.rule })
+by_unit_run laws never ends u limits program o looks single found d told =
     let stop = ends u limits program o single.headless [] in
-    let both = finds_checked_run program list found a u is (apart u limits program o) (never_stuck laws never u limits program o looks stop.0 stop.1) single d in
+    let both = told (never_stuck laws never u limits program o looks stop.0 stop.1) in
     let v : Violation = record { at = d.place; rule = d.rule } in (
       λ there. let h = both.0 there in record { turns = stop.0; there = to_source laws never u limits program o looks stop.0 stop.1 h.count v h.there },
       λ h. both.1 (from_source laws u limits program o looks h.turns d.place d.rule h.there),
     )
+
+pub finds_unit_run : LookedRunsAreProgramRuns → LookedUnitsAreNeverStuck → UnitSwitchesAreApart → UnitsWithoutLoopsEnd → (program : Flow) (list : List ℤ) (found : List Diag) → IsAnalysis program list found → FindsJustUnitRuns program found
+finds_unit_run laws never apart ends program list found a u limits is o looks single d =
+    by_unit_run laws never ends u limits program o looks single found d (λ unstuck. finds_checked_run program list found a u is (apart u limits program o) unstuck single d)

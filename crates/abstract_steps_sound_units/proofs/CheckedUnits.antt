@@ -17,14 +17,14 @@ use Rattle.abstract_steps_sound_units.specs.CheckedUnits.{FindsPairsOfChecked}
 use Rattle.abstract_steps_sound_units.proofs.SoundUnits.{units_found}
 use Rattle.abstract_steps_sound_units.proofs.TurnedSound.{turned_found}
 
-analysed_structs : (flow : Flow) (list : List ℤ) (found : List Diag) → IsAnalysis flow list found → HaveSoundStructs flow
+pub analysed_structs : (flow : Flow) (list : List ℤ) (found : List Diag) → IsAnalysis flow list found → HaveSoundStructs flow
 analysed_structs flow list found a = sound_structs flow list a.regular a.checked.structs
 
 pub checked_found : (flow : Flow) (list : List ℤ) (found : List Diag) → IsAnalysis flow list found → FindsPairsOfChecked flow found
 checked_found flow list found a u is v there = units_found flow list found a u (unit_starts u flow (analysed_structs flow list found a) is) v there
 
 -- unrolling keeps structs and data model
-same_structs : (turns : ℕ) (flow turned : Flow) → flow_view turned ≡ split turns (flow_view flow) → HaveSoundStructs turned → HaveSoundStructs flow
+pub same_structs : (turns : ℕ) (flow turned : Flow) → flow_view turned ≡ split turns (flow_view flow) → HaveSoundStructs turned → HaveSoundStructs flow
 same_structs turns flow turned h sound =
     let structs : structs_view turned.structs ≡ structs_view flow.structs = ap (λ (f : FlowView). f.structs) h in
     let model : turned.model ≡ flow.model = ap (λ (f : FlowView). f.model) h in

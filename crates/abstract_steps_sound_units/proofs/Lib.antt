@@ -1,6 +1,6 @@
 pub mod SoundUnits
-mod CheckedUnits
+pub mod CheckedUnits
 mod WorkedProgram
 mod WorkedOperands
 mod MetPremises
-mod TurnedSound
+pub mod TurnedSound

@@ -23,7 +23,7 @@ use Rattle.abstract_steps_sound_lowered_starts.specs.UnitStarts.{StartsAs, AreSh
 use Rattle.abstract_steps_sound_units.specs.SoundUnits.{FindsPairsOf}
 use Rattle.abstract_steps_sound_units.proofs.SoundUnits.{units_found}
 
-found_same : (turns : ℕ) (f : FlowView) (r q : FlowRun) → SameRun turns f r q → found_in r ≡ found_in q
+pub found_same : (turns : ℕ) (f : FlowView) (r q : FlowRun) → SameRun turns f r q → found_in r ≡ found_in q
 found_same turns f (running s found) (running t more) m = sym m.1
 found_same turns f (running s found) (stopped why w more) m = absurd m
 found_same turns f (stopped why w found) (running t more) m = absurd m
@@ -43,7 +43,7 @@ module _ (turns : ℕ) (limits : Limits) (flow turned : Flow) (good : is_well_fo
     own = λ j k p q a b e. i.own j k p q (ap (λ ps. slice_get ps j) parameters_same ∙ a) (ap (λ ps. slice_get ps k) parameters_same ∙ b) e;
   }
 
-  starts_same : (u : UnitView) → StartsAs u flow → StartsAs u turned
+  pub starts_same : (u : UnitView) → StartsAs u flow → StartsAs u turned
   starts_same u s = record {
     model = s.model ∙ sym (ap (λ (v : FlowView). v.model) h);
     table = s.table;

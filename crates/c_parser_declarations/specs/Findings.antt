@@ -9,13 +9,12 @@ use Rattle.c_parser_expressions_grammar.specs.declared.specifier_words.Specifier
 use Rattle.c_parser_expressions.specs.Fronts.{first_place, IsSign, IsWord}
 use Rattle.c_parser_expressions.specs.Spans as spans
 use Rattle.c_parser_expressions.specs.Spans.{Chain, Span}
-use Rattle.c_parser_expressions.specs.TypeNames.{Stars, is_qualifier, type_word_of}
+use Rattle.c_parser_expressions.specs.TypeNames.{Stars, is_qualifier, storage_class, type_word_of}
 use Rattle.c_parser_declarations.specs.Declarations.{IsParameter, parameter_height, Parameters, list_height, parameters_height, IsFunction, function_height, IsDeclared, IsInitialized, bare, init_height, local_init_height, is_object, IsLocalDeclarator, LocalDeclarators, IsLocal, local_height}
 use Rattle.c_parser_declarations.specs.Declarators.{IsSuffix, Inside, Shape, IsDeclarator, is_something, length_height, flat, climbed, inside_height, shape_height, declarator_height}
 use Rattle.c_parser_declarations.specs.Initializers.{DeriveInitializer, DeriveItems, initializer_height, items_height, has_item}
 use Rattle.c_parser_declarations.specs.Lists.{Trailed, Listed, highest}
 use Rattle.c_parser_declarations.specs.Specifiers.{IsNamed, IsEnumerator, Enumerators, enumerator_height, IsSpec, DeriveWord, DeriveWords, DeriveMember, DeriveMembers, has_member, counts_of, word_height, words_height, member_height, members_height, spec_height}
-use Rattle.c_parser_declarations.specs.StorageClasses.{storage_class}
 
 pub record FoundSuffix (known : List (List ℕ)) (suffix : SuffixView) (high : ℕ) (ts rest : List Terminal) : Type 0 where
   pub derives : IsSuffix known suffix ts rest

@@ -9,10 +9,9 @@ use Rattle.c_parser_tokens.specs.declared.terminals.Punctuator.TheVariants as p
 use Rattle.c_parser_expressions_grammar.specs.declared.specifier_words.SpecifierCounts.{SpecifierCounts}
 use Rattle.c_parser_expressions.specs.Expressions.{Derives, height_of}
 use Rattle.c_parser_expressions.specs.Fronts.{first_place, IsSign, IsWord, IsName, IsTypedefName}
-use Rattle.c_parser_expressions.specs.TypeNames.{type_word_of, is_qualifier, is_one_type, no_words, with_type, with_storage, with_other}
+use Rattle.c_parser_expressions.specs.TypeNames.{type_word_of, storage_class, is_qualifier, is_one_type, no_words, with_type, with_storage, with_other}
 use Rattle.c_parser_declarations.specs.Declarators.{IsDeclarator, declarator_height}
 use Rattle.c_parser_declarations.specs.Lists.{Trailed, Listed, highest}
-use Rattle.c_parser_declarations.specs.StorageClasses.{storage_class}
 
 -- a tag, or none
 abbrev pub Tag : List (List ℕ) → Option NameView → List Terminal → List Terminal → Type 0

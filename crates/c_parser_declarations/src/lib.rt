@@ -15,4 +15,4 @@ mod storage_classes;
 pub use file_declarators::{file_declarator, initialized, named_by};
 pub use local_declarations::local_declaration;
 pub use specifier_lists::specifiers;
-pub use storage_classes::{is_typedef, storage_class};
+pub use storage_classes::is_typedef;

@@ -13,15 +13,14 @@ ghost use Rattle.c_parser_expressions.specs.Fronts.{first_symbol};
 ghost use Rattle.c_parser_tokens.specs.declared.terminals.Terminal.{Terminal};
 ghost use Rattle.c_parser_declarations.specs.DeclaratorReaders.{above};
 ghost use Rattle.c_parser_declarations.specs.Specifiers.{counts_of};
-ghost use Rattle.c_parser_declarations.specs.StorageClasses.{storage_class};
-ghost use Rattle.c_parser_expressions.specs.TypeNames.{type_word_of};
+ghost use Rattle.c_parser_expressions.specs.TypeNames.{storage_class, type_word_of};
 
 use crate::declarators::declarator_list;
 use crate::enumerations::{enumeration, optional_tag};
-use crate::storage_classes::storage_class;
 use c_layout::{Declarator, Member, Name, SpecWord};
 use c_parser_expressions::{
-    Parsed, Reader, Scope, SpecifierCounts, Trouble, inner, is_qualifier, made, type_word,
+    Parsed, Reader, Scope, SpecifierCounts, Trouble, inner, is_qualifier, made, storage_class,
+    type_word,
 };
 use c_parser_tokens::{Keyword, Punctuator, Symbol};
 use cc_base::Place;

@@ -2,24 +2,9 @@
 ghost use Rattle.std.specs.Prelude.{◌≡◌, map};
 ghost use Rattle.std.specs.List.{list_any};
 ghost use Rattle.c_layout.specs.DeclarationTrees.{spec_tree};
-ghost use Rattle.c_parser_declarations.specs.StorageClasses.{storage_class, is_typedef_class, is_typedef_word, is_typedef};
+ghost use Rattle.c_parser_declarations.specs.StorageClasses.{is_typedef_class, is_typedef_word, is_typedef};
 
 use c_layout::{SpecWord, Storage};
-use c_parser_tokens::Keyword;
-
-/// The storage class that a keyword is.
-pub fn storage_class(word: Keyword) -> Option<Storage>
-    ensures { result ≡ storage_class word }
-{
-    match word {
-        Keyword::Typedef => Some(Storage::Typedef),
-        Keyword::Extern => Some(Storage::Extern),
-        Keyword::Static => Some(Storage::Static),
-        Keyword::Auto => Some(Storage::Auto),
-        Keyword::Register => Some(Storage::Register),
-        _ => None,
-    }
-}
 
 /// Whether a storage class is `typedef`.
 fn is_typedef_class(class: Storage) -> bool

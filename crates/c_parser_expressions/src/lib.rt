@@ -11,7 +11,7 @@ mod unary_expressions;
 
 pub use c_parser_expressions_grammar::{
     GREATEST_HEIGHT, Parsed, Reader, Scope, SpecifierCounts, Trouble, TypedefNames, inner,
-    is_qualifier, made, type_word,
+    is_qualifier, made, storage_class, type_word,
 };
 pub use expressions::{assignment, conditional, expression};
 pub use pointer_stars::{is_one_star, stars};

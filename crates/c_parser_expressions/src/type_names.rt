@@ -15,7 +15,7 @@ use crate::pointer_stars::stars;
 use c_layout::TypeNameWord;
 use c_parser_expressions_grammar::{
     AbstractParts, ArrayLength, ArrayParts, Parsed, Reader, Scope, SpecifierCounts, Trouble,
-    TypeNameParts, count_word, inner, is_qualifier, is_storage, type_word, words_height,
+    TypeNameParts, count_word, inner, is_qualifier, storage_class, type_word, words_height,
 };
 use c_parser_tokens::{Keyword, Punctuator, Symbol};
 
@@ -45,11 +45,11 @@ fn keyword_word(
     if let Some(named) = type_word(word) {
         return Ok(TypeNameWord::Type(reader.expect_word(word)?, named));
     }
+    if let Some(class) = storage_class(word) {
+        return Ok(TypeNameWord::Storage(reader.expect_word(word)?, class));
+    }
     if is_qualifier(word) {
         return Ok(TypeNameWord::Qualifier(reader.expect_word(word)?));
-    }
-    if is_storage(word) {
-        return Ok(TypeNameWord::Storage(reader.expect_word(word)?));
     }
     tagged(scope, reader, word)
 }

@@ -1,6 +1,7 @@
 -- The readers of type names and abstract declarators as definitions.
 use Rattle.std.specs.Prelude.{◌+◌, ◌||◌, ℕ, zero, suc, Bool, true, false, cond, max, length, nat_lt, List, [], ◌∷◌, Option, Some, None}
 use Rattle.c_layout.specs.SyntaxTrees.{Trees, LayerView, End, More}
+use Rattle.c_layout.specs.declared.syntax_tree.declarations.Storage.{Storage}
 use Rattle.c_layout.specs.declared.syntax_tree.declarations.TypeWord.{TypeWord}
 use Rattle.c_layout.specs.declared.syntax_tree.expressions.Brackets.{Brackets}
 use Rattle.c_layout.specs.declared.syntax_tree.expressions.Name.{Name}
@@ -13,7 +14,7 @@ use Rattle.c_parser_tokens.specs.declared.terminals.Symbol.{Symbol}
 use Rattle.c_parser_tokens.specs.declared.terminals.Symbol.TheVariants as symbol
 use Rattle.c_parser_tokens.specs.declared.terminals.Terminal.{Terminal}
 use Rattle.c_parser_expressions_grammar.specs.Fronts.{first_symbol, first_place, first_text, behind_first, is_typedef_first, is_identifier_first, begins_specifiers}
-use Rattle.c_parser_expressions_grammar.specs.TypeNames.{type_word_of, is_storage, is_qualifier, is_pointer_qualifier, is_something, is_lone_star, is_one_type, counts_of, words_height}
+use Rattle.c_parser_expressions_grammar.specs.TypeNames.{type_word_of, storage_class, is_qualifier, is_pointer_qualifier, is_something, is_lone_star, is_one_type, counts_of, words_height}
 use Rattle.c_parser_expressions_grammar.specs.Readings.{Got, GotName, GotLayers, Reading, after_layers, is_left_parenthesis, is_right_parenthesis, is_left_bracket, is_right_bracket}
 use Rattle.c_parser_expressions_grammar.specs.ExpressionReaders.{Readers, NameReaders, readers, inside}
 
@@ -39,11 +40,13 @@ other_word known ts k.Struct = tagged known ts (word.Struct (first_place ts) (na
 other_word known ts k.Enum = tagged known ts (word.Enum (first_place ts) (name_first (behind_first ts)))
 other_word known ts _ = None
 
+abbrev pub untyped_word : List (List ℕ) → List Terminal → Keyword → Option Storage → Option GotWord
+untyped_word known ts w (Some class) = Some (record { word = word.Storage (first_place ts) class; rest = behind_first ts })
+untyped_word known ts w None = cond (is_qualifier w) (Some (record { word = word.Qualifier (first_place ts); rest = behind_first ts })) (other_word known ts w)
+
 abbrev pub keyword_word : List (List ℕ) → List Terminal → Keyword → Option TypeWord → Option GotWord
 keyword_word known ts w (Some named) = Some (record { word = word.Type (first_place ts) named; rest = behind_first ts })
-keyword_word known ts w None =
-    cond (is_qualifier w) (Some (record { word = word.Qualifier (first_place ts); rest = behind_first ts }))
-    (cond (is_storage w) (Some (record { word = word.Storage (first_place ts); rest = behind_first ts })) (other_word known ts w))
+keyword_word known ts w None = untyped_word known ts w (storage_class w)
 
 abbrev pub word_by : List (List ℕ) → List Terminal → Symbol → Option GotWord
 word_by known ts (symbol.Keyword w) = keyword_word known ts w (type_word_of w)

@@ -3,6 +3,8 @@
 use Rattle.std.specs.Prelude.{◌≡◌, ◌+◌, ◌-◌, ◌==◌, ℕ, zero, suc, Bool, true, false, ◌&&◌, ◌||◌, not, cond, min, max, List, [], ◌∷◌, ◌++◌, take, drop, length, fold, nat_le, Option, Some, None}
 use Rattle.std.specs.List.{list_any}
 use Rattle.c_layout.specs.SyntaxTrees.{LayerView, TypeNameView}
+use Rattle.c_layout.specs.declared.syntax_tree.declarations.Storage.{Storage}
+use Rattle.c_layout.specs.declared.syntax_tree.declarations.Storage.TheVariants as storage
 use Rattle.c_layout.specs.declared.syntax_tree.declarations.TypeWord.{TypeWord}
 use Rattle.c_layout.specs.declared.syntax_tree.declarations.TypeWord.TheVariants as type_word
 use Rattle.c_layout.specs.declared.syntax_tree.expressions.Brackets.{Brackets}
@@ -31,14 +33,14 @@ type_word_of k.Signed = Some type_word.Signed
 type_word_of k.Unsigned = Some type_word.Unsigned
 type_word_of _ = None
 
--- the storage classes (6.7.1)
-abbrev pub is_storage : Keyword → Bool
-is_storage k.Typedef = true
-is_storage k.Extern = true
-is_storage k.Static = true
-is_storage k.Auto = true
-is_storage k.Register = true
-is_storage _ = false
+-- the storage class that a keyword is (6.7.1)
+abbrev pub storage_class : Keyword → Option Storage
+storage_class k.Typedef = Some storage.Typedef
+storage_class k.Extern = Some storage.Extern
+storage_class k.Static = Some storage.Static
+storage_class k.Auto = Some storage.Auto
+storage_class k.Register = Some storage.Register
+storage_class _ = None
 
 -- the qualifiers, and `inline`
 abbrev pub is_qualifier : Keyword → Bool
@@ -49,7 +51,7 @@ is_qualifier _ = false
 
 -- one word of a type name
 abbrev pub IsTypeNameWord : List (List ℕ) → TypeNameWord → List Terminal → List Terminal → Type 0
-IsTypeNameWord known (word.Storage at) ts rest = (at ≡ first_place ts) × (w : Keyword) × (is_storage w ≡ true) × IsWord w ts rest
+IsTypeNameWord known (word.Storage at class) ts rest = (at ≡ first_place ts) × (w : Keyword) × (storage_class w ≡ Some class) × IsWord w ts rest
 IsTypeNameWord known (word.Qualifier at) ts rest = (at ≡ first_place ts) × (w : Keyword) × (is_qualifier w ≡ true) × IsWord w ts rest
 IsTypeNameWord known (word.Type at named) ts rest = (at ≡ first_place ts) × (w : Keyword) × (type_word_of w ≡ Some named) × IsWord w ts rest
 IsTypeNameWord known (word.Struct at tag) ts rest = (at ≡ first_place ts) × (a : List Terminal) × IsWord k.Struct ts a × IsName known tag.place tag.text a rest
@@ -98,7 +100,7 @@ abbrev pub is_one_type : SpecifierCounts → Bool
 is_one_type c = nat_le c.storages 1 && ((c.others == 0 && is_word_type c) || (c.others == 1 && has_no_word_type c))
 
 abbrev pub counted : SpecifierCounts → TypeNameWord → SpecifierCounts
-counted c (word.Storage at) = with_storage c
+counted c (word.Storage at class) = with_storage c
 counted c (word.Qualifier at) = c
 counted c (word.Type at named) = with_type c named
 counted c (word.Struct at tag) = with_other c

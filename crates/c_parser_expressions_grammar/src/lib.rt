@@ -22,7 +22,7 @@ pub use operators::{
     unary_at, unary_sign,
 };
 pub use postfix_operators::{Suffix, suffix_node};
-pub use specifier_words::{SpecifierCounts, is_qualifier, is_storage, type_word};
+pub use specifier_words::{SpecifierCounts, is_qualifier, storage_class, type_word};
 pub use terminal_reader::{Reader, Scope};
 pub use type_name_parts::{AbstractParts, ArrayLength, ArrayParts, TypeNameParts};
 pub use type_name_words::{count_word, words_height};

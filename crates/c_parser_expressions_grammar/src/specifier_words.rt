@@ -1,8 +1,8 @@
 //! Which lists of specifiers name one type (6.7.2).
 ghost use Rattle.std.specs.Prelude.{◌≡◌};
-ghost use Rattle.c_parser_expressions_grammar.specs.TypeNames.{up, no_words, with_type, with_storage, with_other, is_word_type, has_no_word_type, is_one_type, type_word_of, is_storage, is_qualifier};
+ghost use Rattle.c_parser_expressions_grammar.specs.TypeNames.{up, no_words, with_type, with_storage, with_other, is_word_type, has_no_word_type, is_one_type, type_word_of, storage_class, is_qualifier};
 
-use c_layout::TypeWord;
+use c_layout::{Storage, TypeWord};
 use c_parser_tokens::Keyword;
 
 /// How often each kind of word stands in a list of specifiers. A count stops at 255.
@@ -36,14 +36,18 @@ pub fn type_word(word: Keyword) -> Option<TypeWord>
     }
 }
 
-/// Whether a keyword is a storage class (6.7.1).
-pub fn is_storage(word: Keyword) -> bool
-    ensures { result ≡ is_storage word }
+/// The storage class that a keyword is (6.7.1).
+pub fn storage_class(word: Keyword) -> Option<Storage>
+    ensures { result ≡ storage_class word }
 {
-    matches!(
-        word,
-        Keyword::Typedef | Keyword::Extern | Keyword::Static | Keyword::Auto | Keyword::Register
-    )
+    match word {
+        Keyword::Typedef => Some(Storage::Typedef),
+        Keyword::Extern => Some(Storage::Extern),
+        Keyword::Static => Some(Storage::Static),
+        Keyword::Auto => Some(Storage::Auto),
+        Keyword::Register => Some(Storage::Register),
+        _ => None,
+    }
 }
 
 /// Whether a keyword is a qualifier or `inline`.

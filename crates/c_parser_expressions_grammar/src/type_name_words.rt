@@ -11,7 +11,7 @@ pub fn count_word(counts: &mut SpecifierCounts, word: &TypeNameWord)
     ensures { counts.new ≡ counted counts.old word.now }
 {
     match word {
-        TypeNameWord::Storage(_) => counts.add_storage(),
+        TypeNameWord::Storage(_, _) => counts.add_storage(),
         TypeNameWord::Qualifier(_) => {}
         TypeNameWord::Type(_, named) => counts.add_type(*named),
         TypeNameWord::Struct(_, _) | TypeNameWord::Enum(_, _) | TypeNameWord::Typedef(_) => {

@@ -13,15 +13,14 @@ use Rattle.c_parser_tokens.specs.declared.terminals.Punctuator.TheVariants as p
 use Rattle.c_parser_expressions.specs.Expressions.{Derives}
 use Rattle.c_parser_expressions.specs.Fronts.{first_symbol, first_text, is_typedef, is_identifier, IsSign, IsName}
 use Rattle.c_parser_expressions.specs.Spans.{Chain}
-use Rattle.c_parser_expressions.specs.TypeNames.{Stars}
+use Rattle.c_parser_expressions.specs.TypeNames.{Stars, storage_class}
 use Rattle.c_parser_declarations.specs.Declarations.{is_declarator_sign, begins_declarator}
 use Rattle.c_parser_declarations.specs.Declarators.{IsDeclarator, Shape, Core, IsSuffix, is_something}
 use Rattle.c_parser_declarations.specs.Lists.{Listed}
 use Rattle.c_parser_declarations.specs.Specifiers.{Tag, Value, IsEnumerator, Enumerators, IsNamed, DeriveWord, DeriveWords, DeriveMember, DeriveMembers, IsSpec}
-use Rattle.c_parser_declarations.specs.StorageClasses.{storage_class}
 use Rattle.c_parser_laws_expressions.specs.Endings.{EndsBefore}
 use Rattle.c_parser_laws_expressions.proofs.Reading.{is_comma}
-use Rattle.c_parser_laws_expressions.proofs.WordReading.{WordKind, OfStorage, OfQualifier, OfType, OfStruct, OfEnum, OfOther, word_kind, qualifier_kind, type_kind}
+use Rattle.c_parser_laws_expressions.proofs.WordReading.{WordKind, OfStorage, OfQualifier, OfType, OfStruct, OfEnum, OfOther, word_kind, storage_kind, qualifier_kind, type_kind}
 use Rattle.c_parser_laws_expressions.proofs.Unique.{one_expression}
 use Rattle.c_parser_laws.proofs.Listing.{next, true_false, Fixes, all_fix, listed_fix, Rowed, listed_rowed, trailed_rowed, rowed_fix, AtBrace, at_brace, is_right_brace}
 use Rattle.c_parser_laws.proofs.Fronts.{names_fix, is_end, Ends}
@@ -48,7 +47,7 @@ abbrev pub kind_at : List (List ℕ) → List Terminal → Kind
 kind_at known ts = kind_by (first_symbol ts) (is_typedef known (first_text ts))
 
 abbrev pub kind_of : SpecTree → Kind
-kind_of (StorageWord at class) = OfWord OfStorage
+kind_of (StorageWord at class) = OfWord (OfStorage class)
 kind_of (Qualifier at) = OfWord OfQualifier
 kind_of (TypeOf at named) = OfWord (OfType named)
 kind_of (StructTag at tag) = OfWord OfStruct
@@ -57,16 +56,8 @@ kind_of (EnumTag at tag) = OfWord OfEnum
 kind_of (EnumBody at tag enumerators) = OfWord OfEnum
 kind_of (TypedefName name) = OfName
 
-class_kind : (w : Keyword) (class : Storage) → storage_class w ≡ Some class → word_kind w ≡ OfStorage
-class_kind k.Typedef class h = refl
-class_kind k.Extern class h = refl
-class_kind k.Static class h = refl
-class_kind k.Auto class h = refl
-class_kind k.Register class h = refl
-class_kind _ class h = cc
-
 pub kind_is : (w : SpecTree) (known : List (List ℕ)) (ts r : List Terminal) → DeriveWord w known ts r → kind_at known ts ≡ kind_of w
-kind_is (StorageWord at class) known ts r (place, w, is, front) = rw (front.symbol, class_kind w class is)
+kind_is (StorageWord at class) known ts r (place, w, is, front) = rw (front.symbol, storage_kind w class is)
 kind_is (Qualifier at) known ts r (place, w, is, front) = rw (front.symbol, qualifier_kind w is)
 kind_is (TypeOf at named) known ts r (place, w, is, front) = rw (front.symbol, type_kind w named is)
 kind_is (StructTag at tag) known ts r (place, some, a, front, name) = rw front.symbol

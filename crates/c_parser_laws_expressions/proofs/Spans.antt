@@ -1,6 +1,7 @@
 -- Expressions at spans: each is read, since what stands behind it ends it.
 use Rattle.std.proofs.Common.{◌≡◌, ℕ, zero, suc, ◌≤◌, Bool, true, false, List, [], ◌∷◌, ◌++◌, Some, None, refl, arith}
 use Rattle.c_layout.specs.SyntaxTrees.{LayerView, TypeNameView, Trees, End, More}
+use Rattle.c_layout.specs.declared.syntax_tree.declarations.Storage.{Storage}
 use Rattle.c_layout.specs.declared.syntax_tree.declarations.TypeWord.{TypeWord}
 use Rattle.c_layout.specs.declared.syntax_tree.expressions.Brackets.{Brackets}
 use Rattle.c_layout.specs.declared.syntax_tree.expressions.TypeNameWord.{TypeNameWord}
@@ -13,7 +14,7 @@ use Rattle.c_parser_tokens.specs.declared.terminals.Symbol.TheVariants as symbol
 use Rattle.c_parser_expressions.specs.Expressions.{DeriveEach}
 use Rattle.c_parser_expressions.specs.Fronts.{first_symbol, behind_first, IsSign}
 use Rattle.c_parser_expressions.specs.Spans.{Span, Separated}
-use Rattle.c_parser_expressions.specs.TypeNames.{type_word_of, is_storage, is_qualifier, Length, Arrays, Layers, Declarator, IsTypeName, IsTypeNameWord}
+use Rattle.c_parser_expressions.specs.TypeNames.{type_word_of, storage_class, is_qualifier, Length, Arrays, Layers, Declarator, IsTypeName, IsTypeNameWord}
 use Rattle.c_parser_laws_expressions.specs.Endings.{EndsBefore}
 use Rattle.c_parser_laws_expressions.proofs.Scanning.{StopsAtBracket}
 use Rattle.c_parser_laws_expressions.proofs.WordReading.{BeginsWord}
@@ -92,9 +93,9 @@ no_keyword w other known zero l ts at = refl
 no_keyword k.Sizeof other known (suc m) l ts at = absurd (cc other)
 no_keyword _ other known (suc m) l ts at = rw at
 
-storage_other : (w : Keyword) → is_storage w ≡ true → is_sizeof w ≡ false
-storage_other k.Sizeof is = cc
-storage_other _ is = refl
+storage_other : (w : Keyword) (class : Storage) → storage_class w ≡ Some class → is_sizeof w ≡ false
+storage_other k.Sizeof class is = cc
+storage_other _ class is = refl
 
 qualifier_other : (w : Keyword) → is_qualifier w ≡ true → is_sizeof w ≡ false
 qualifier_other k.Sizeof is = cc
@@ -105,7 +106,7 @@ type_other k.Sizeof named is = cc
 type_other _ named is = refl
 
 no_word : (known : List (List ℕ)) (w : TypeNameWord) (m l : ℕ) (ts rest : List Terminal) → IsTypeNameWord known w ts rest → read known m l ts ≡ None
-no_word known (word.Storage at) m l ts rest (place, w, is, front) = no_keyword w (storage_other w is) known m l ts front.symbol
+no_word known (word.Storage at class) m l ts rest (place, w, is, front) = no_keyword w (storage_other w class is) known m l ts front.symbol
 no_word known (word.Qualifier at) m l ts rest (place, w, is, front) = no_keyword w (qualifier_other w is) known m l ts front.symbol
 no_word known (word.Type at named) m l ts rest (place, w, is, front) = no_keyword w (type_other w named is) known m l ts front.symbol
 no_word known (word.Struct at tag) m l ts rest (place, a, front, name) = no_keyword k.Struct refl known m l ts front.symbol

@@ -1,6 +1,8 @@
 -- Reading the words of a type name, and type names.
 use Rattle.std.proofs.Common.{◌≡◌, ℕ, zero, suc, ◌+◌, ◌≤◌, true, cond, List, [], ◌∷◌, length, Option, Some, None, refl, arith}
 use Rattle.c_layout.specs.SyntaxTrees.{TypeNameView}
+use Rattle.c_layout.specs.declared.syntax_tree.declarations.Storage.{Storage}
+use Rattle.c_layout.specs.declared.syntax_tree.declarations.Storage.TheVariants as storage
 use Rattle.c_layout.specs.declared.syntax_tree.declarations.TypeWord.{TypeWord}
 use Rattle.c_layout.specs.declared.syntax_tree.declarations.TypeWord.TheVariants as type_word
 use Rattle.c_layout.specs.declared.syntax_tree.expressions.Name.{Name}
@@ -15,13 +17,13 @@ use Rattle.c_parser_tokens.specs.declared.terminals.Punctuator.{Punctuator}
 use Rattle.c_parser_tokens.specs.declared.terminals.Punctuator.TheVariants as p
 use Rattle.c_parser_expressions.specs.Fronts.{first_symbol, first_place, first_text, behind_first, is_typedef, IsSign, IsName}
 use Rattle.c_parser_expressions.specs.Spans.{Span, Chain}
-use Rattle.c_parser_expressions.specs.TypeNames.{type_word_of, is_storage, is_qualifier, IsTypeNameWord, IsTypeName, is_one_type, counts_of}
+use Rattle.c_parser_expressions.specs.TypeNames.{type_word_of, storage_class, is_qualifier, IsTypeNameWord, IsTypeName, is_one_type, counts_of}
 use Rattle.c_parser_laws_expressions.proofs.Scanning.{Skip, Layered, StopsAtBracket, AllSkipped, declarator, declarator_is, declarator_weight, declarator_sign}
 
 -- ---- what a keyword is to a type name
 
 pub data WordKind : Type 0 where
-  OfStorage : WordKind
+  OfStorage : (class : Storage) → WordKind
   OfQualifier : WordKind
   OfType : (named : TypeWord) → WordKind
   OfStruct : WordKind
@@ -29,11 +31,11 @@ pub data WordKind : Type 0 where
   OfOther : WordKind
 
 abbrev pub word_kind : Keyword → WordKind
-word_kind k.Typedef = OfStorage
-word_kind k.Extern = OfStorage
-word_kind k.Static = OfStorage
-word_kind k.Auto = OfStorage
-word_kind k.Register = OfStorage
+word_kind k.Typedef = OfStorage storage.Typedef
+word_kind k.Extern = OfStorage storage.Extern
+word_kind k.Static = OfStorage storage.Static
+word_kind k.Auto = OfStorage storage.Auto
+word_kind k.Register = OfStorage storage.Register
 word_kind k.Const = OfQualifier
 word_kind k.Restrict = OfQualifier
 word_kind k.Inline = OfQualifier
@@ -48,13 +50,13 @@ word_kind k.Struct = OfStruct
 word_kind k.Enum = OfEnum
 word_kind _ = OfOther
 
-pub storage_kind : (w : Keyword) → is_storage w ≡ true → word_kind w ≡ OfStorage
-storage_kind k.Typedef h = refl
-storage_kind k.Extern h = refl
-storage_kind k.Static h = refl
-storage_kind k.Auto h = refl
-storage_kind k.Register h = refl
-storage_kind _ h = cc
+pub storage_kind : (w : Keyword) (class : Storage) → storage_class w ≡ Some class → word_kind w ≡ OfStorage class
+storage_kind k.Typedef class h = cc
+storage_kind k.Extern class h = cc
+storage_kind k.Static class h = cc
+storage_kind k.Auto class h = cc
+storage_kind k.Register class h = cc
+storage_kind _ class h = cc
 
 pub qualifier_kind : (w : Keyword) → is_qualifier w ≡ true → word_kind w ≡ OfQualifier
 qualifier_kind k.Const h = refl
@@ -78,7 +80,7 @@ abbrev pub name_first : List Terminal → Name
 name_first ts = record { place = first_place ts; text = first_text ts }
 
 abbrev pub word_of_kind : List Terminal → WordKind → Option (TypeNameWord × List Terminal)
-word_of_kind ts OfStorage = Some (word.Storage (first_place ts), behind_first ts)
+word_of_kind ts (OfStorage class) = Some (word.Storage (first_place ts) class, behind_first ts)
 word_of_kind ts OfQualifier = Some (word.Qualifier (first_place ts), behind_first ts)
 word_of_kind ts (OfType named) = Some (word.Type (first_place ts) named, behind_first ts)
 word_of_kind ts OfStruct = Some (word.Struct (first_place ts) (name_first (behind_first ts)), behind_first (behind_first ts))
@@ -94,7 +96,7 @@ abbrev name_is : (known : List (List ℕ)) (name : Name) (ts rest : List Termina
 name_is known name ts rest is = λ i. record { place = is.place i; text = is.spelled i }
 
 pub word_is : (known : List (List ℕ)) (w : TypeNameWord) (ts rest : List Terminal) → IsTypeNameWord known w ts rest → word_by known ts (first_symbol ts) ≡ Some (w, rest)
-word_is known (word.Storage at) ts rest (place, w, is, front) = rw (front.symbol, storage_kind w is, front.behind, place)
+word_is known (word.Storage at class) ts rest (place, w, is, front) = rw (front.symbol, storage_kind w class is, front.behind, place)
 word_is known (word.Qualifier at) ts rest (place, w, is, front) = rw (front.symbol, qualifier_kind w is, front.behind, place)
 word_is known (word.Type at named) ts rest (place, w, is, front) = rw (front.symbol, type_kind w named is, front.behind, place)
 word_is known (word.Struct at tag) ts rest (place, a, front, name) =

@@ -60,7 +60,7 @@ separated_count (s ∷ (next ∷ more)) ts rest all sep =
 -- ---- type names
 
 pub word_shrinks : (known : List (List ℕ)) (w : TypeNameWord) (ts rest : List Terminal) → IsTypeNameWord known w ts rest → IsNoLonger rest ts
-word_shrinks known (word.Storage at) ts rest (place, w, is, front) = behind_shrinks ts rest front.behind
+word_shrinks known (word.Storage at class) ts rest (place, w, is, front) = behind_shrinks ts rest front.behind
 word_shrinks known (word.Qualifier at) ts rest (place, w, is, front) = behind_shrinks ts rest front.behind
 word_shrinks known (word.Type at named) ts rest (place, w, is, front) = behind_shrinks ts rest front.behind
 word_shrinks known (word.Struct at tag) ts rest (place, a, front, name) = let one = behind_shrinks ts a front.behind in let two = behind_shrinks a rest name.behind in omega arith

@@ -2,6 +2,7 @@
 use Rattle.std.proofs.Common.{◌≡◌, ℕ, zero, suc, ◌<◌, true, false, max, List, Some, None, refl, arith}
 use Rattle.cc_base.specs.declared.diagnostics.Place.{Place}
 use Rattle.c_layout.specs.SyntaxTrees.{Tree, Trees, TypeNameView, Name, Number, Literal, Paren, Subscript, Call, Member, Arrow, Postfix, Prefix, Unary, SizeofExpr, SizeofType, Cast, Binary, Logical, Conditional, Assign, Comma}
+use Rattle.c_layout.specs.declared.syntax_tree.declarations.Storage.{Storage}
 use Rattle.c_layout.specs.declared.syntax_tree.declarations.TypeWord.{TypeWord}
 use Rattle.c_layout.specs.declared.syntax_tree.expressions.StepOp.{StepOp}
 use Rattle.c_layout.specs.declared.syntax_tree.expressions.StepOp.TheVariants as step
@@ -18,7 +19,7 @@ use Rattle.c_parser_expressions.specs.Expressions.{Derives, DeriveEach, height_o
 use Rattle.c_parser_expressions.specs.Fronts.{behind_first, begins_specifiers, is_specifier, IsSign}
 use Rattle.c_parser_expressions.specs.Levels.{step_sign, step_of, unary_sign, unary_of}
 use Rattle.c_parser_expressions.specs.Spans.{Span}
-use Rattle.c_parser_expressions.specs.TypeNames.{type_word_of, is_storage, is_qualifier, IsTypeName, IsTypeNameWord, type_name_height}
+use Rattle.c_parser_expressions.specs.TypeNames.{type_word_of, storage_class, is_qualifier, IsTypeName, IsTypeNameWord, type_name_height}
 use Rattle.c_parser_laws_expressions.proofs.Levels.{below, level_low, logical_low}
 use Rattle.c_parser_laws_expressions.proofs.WordReading.{begins_word}
 use Rattle.c_parser_expressions.specs.Readings.{is_left_parenthesis}
@@ -88,13 +89,13 @@ no_type_name (Comma at x y) known ts rest d = let h = d.0 in absurd (omega arith
 
 -- ---- type names begin as specifiers do
 
-storage_specifies : (w : Keyword) → is_storage w ≡ true → is_specifier w ≡ true
-storage_specifies k.Typedef is = refl
-storage_specifies k.Extern is = refl
-storage_specifies k.Static is = refl
-storage_specifies k.Auto is = refl
-storage_specifies k.Register is = refl
-storage_specifies _ is = absurd (cc is)
+storage_specifies : (w : Keyword) (class : Storage) → storage_class w ≡ Some class → is_specifier w ≡ true
+storage_specifies k.Typedef class is = refl
+storage_specifies k.Extern class is = refl
+storage_specifies k.Static class is = refl
+storage_specifies k.Auto class is = refl
+storage_specifies k.Register class is = refl
+storage_specifies _ class is = absurd (cc is)
 
 qualifier_specifies : (w : Keyword) → is_qualifier w ≡ true → is_specifier w ≡ true
 qualifier_specifies k.Const is = refl
@@ -113,7 +114,7 @@ type_specifies k.Unsigned named is = refl
 type_specifies _ named is = absurd (cc is)
 
 pub word_specifies : (known : List (List ℕ)) (w : TypeNameWord) (ts rest : List Terminal) → IsTypeNameWord known w ts rest → begins_specifiers known ts ≡ true
-word_specifies known (word.Storage at) ts rest (place, w, is, front) = let yes = storage_specifies w is in rw front.symbol yes
+word_specifies known (word.Storage at class) ts rest (place, w, is, front) = let yes = storage_specifies w class is in rw front.symbol yes
 word_specifies known (word.Qualifier at) ts rest (place, w, is, front) = let yes = qualifier_specifies w is in rw front.symbol yes
 word_specifies known (word.Type at named) ts rest (place, w, is, front) = let yes = type_specifies w named is in rw front.symbol yes
 word_specifies known (word.Struct at tag) ts rest (place, a, front, name) = rw front.symbol refl

@@ -1,5 +1,6 @@
 -- The words of type names are read.
 use Rattle.std.proofs.Common.{◌≡◌, ℕ, zero, suc, ◌+◌, ◌≤◌, true, false, List, [], ◌∷◌, length, Some, None, refl, arith}
+use Rattle.c_layout.specs.declared.syntax_tree.declarations.Storage.{Storage}
 use Rattle.c_layout.specs.declared.syntax_tree.expressions.Name.{Name}
 use Rattle.c_layout.specs.declared.syntax_tree.expressions.TypeNameWord.{TypeNameWord}
 use Rattle.c_layout.specs.declared.syntax_tree.expressions.TypeNameWord.TheVariants as word
@@ -8,24 +9,24 @@ use Rattle.c_parser_tokens.specs.declared.terminals.Keyword.TheVariants as k
 use Rattle.c_parser_tokens.specs.declared.terminals.Terminal.{Terminal}
 use Rattle.c_parser_expressions.specs.Fronts.{first_symbol, behind_first, begins_specifiers, is_identifier_first, is_typedef_first, IsName, IsTypedefName}
 use Rattle.c_parser_expressions.specs.Spans.{Chain}
-use Rattle.c_parser_expressions.specs.TypeNames.{type_word_of, is_storage, is_qualifier, IsTypeNameWord}
+use Rattle.c_parser_expressions.specs.TypeNames.{type_word_of, storage_class, is_qualifier, IsTypeNameWord}
 use Rattle.c_parser_expressions.specs.TypeNameReaders.{name_first, word_by, words}
 use Rattle.c_parser_laws_finding.proofs.Unaries.{word_specifies}
 
 -- ---- one word
 
-storage_word : (w : Keyword) → is_storage w ≡ true → (type_word_of w ≡ None) × (is_qualifier w ≡ false)
-storage_word k.Typedef is = (refl, refl)
-storage_word k.Extern is = (refl, refl)
-storage_word k.Static is = (refl, refl)
-storage_word k.Auto is = (refl, refl)
-storage_word k.Register is = (refl, refl)
-storage_word _ is = absurd (cc is)
+storage_word : (w : Keyword) (class : Storage) → storage_class w ≡ Some class → type_word_of w ≡ None
+storage_word k.Typedef class is = refl
+storage_word k.Extern class is = refl
+storage_word k.Static class is = refl
+storage_word k.Auto class is = refl
+storage_word k.Register class is = refl
+storage_word _ class is = absurd (cc is)
 
-qualifier_word : (w : Keyword) → is_qualifier w ≡ true → type_word_of w ≡ None
-qualifier_word k.Const is = refl
-qualifier_word k.Restrict is = refl
-qualifier_word k.Inline is = refl
+qualifier_word : (w : Keyword) → is_qualifier w ≡ true → (type_word_of w ≡ None) × (storage_class w ≡ None)
+qualifier_word k.Const is = (refl, refl)
+qualifier_word k.Restrict is = (refl, refl)
+qualifier_word k.Inline is = (refl, refl)
 qualifier_word _ is = absurd (cc is)
 
 name_is : (known : List (List ℕ)) (name : Name) (ts rest : List Terminal) → IsName known name.place name.text ts rest → name ≡ name_first ts
@@ -41,8 +42,8 @@ typedef_first : (known : List (List ℕ)) (name : Name) (ts rest : List Terminal
 typedef_first known name ts rest is = rw (is.symbol, is.among) refl
 
 pub word_is : (known : List (List ℕ)) (w : TypeNameWord) (ts rest : List Terminal) → IsTypeNameWord known w ts rest → word_by known ts (first_symbol ts) ≡ Some (record { word = w; rest = rest })
-word_is known (word.Storage at) ts rest (place, w, is, front) = let other = storage_word w is in rw (front.symbol, other.0, other.1, is, front.behind, place) refl
-word_is known (word.Qualifier at) ts rest (place, w, is, front) = let other = qualifier_word w is in rw (front.symbol, other, is, front.behind, place) refl
+word_is known (word.Storage at class) ts rest (place, w, is, front) = let other = storage_word w class is in rw (front.symbol, other, is, front.behind, place) refl
+word_is known (word.Qualifier at) ts rest (place, w, is, front) = let other = qualifier_word w is in rw (front.symbol, other.0, other.1, is, front.behind, place) refl
 word_is known (word.Type at named) ts rest (place, w, is, front) = rw (front.symbol, is, front.behind, place) refl
 word_is known (word.Struct at tag) ts rest (place, a, front, name) =
     let from : IsName known tag.place tag.text (behind_first ts) rest = rw front.behind at name in
@@ -77,7 +78,7 @@ takes_one known [] is = absurd (cc is)
 takes_one known (t ∷ ts) is = omega arith
 
 word_takes : (known : List (List ℕ)) (w : TypeNameWord) (ts rest : List Terminal) → IsTypeNameWord known w ts rest → length rest + 1 ≤ length ts
-word_takes known (word.Storage at) ts rest (place, w, is, front) = let one = takes_one known ts (word_specifies known (word.Storage at) ts rest (place, w, is, front)) in rw front.behind one
+word_takes known (word.Storage at class) ts rest (place, w, is, front) = let one = takes_one known ts (word_specifies known (word.Storage at class) ts rest (place, w, is, front)) in rw front.behind one
 word_takes known (word.Qualifier at) ts rest (place, w, is, front) = let one = takes_one known ts (word_specifies known (word.Qualifier at) ts rest (place, w, is, front)) in rw front.behind one
 word_takes known (word.Type at named) ts rest (place, w, is, front) = let one = takes_one known ts (word_specifies known (word.Type at named) ts rest (place, w, is, front)) in rw front.behind one
 word_takes known (word.Struct at tag) ts rest (place, a, front, name) =

@@ -99,12 +99,12 @@ only_declared index s = Ok (tt, s)
 abbrev pub plain_object : State → SpecifiedView → NameView → List DeclaratorLayerView → Ruled (Unit {0} × State)
 plain_object s base n layers = after (declared_object s base n layers false) only_declared
 
-abbrev pub initializer_by : Place → Place → InitializerTree → ℕ → State → Ruled (Ty × ℕ) → Ruled (Unit {0} × State)
-initializer_by at equals i index s (Ok o) = static_initializer s at index o.1 equals o.0 i
-initializer_by at equals i index s (Err f) = Err f
+abbrev pub initializer_by : Place → InitializerTree → ℕ → State → Ruled (Ty × ℕ) → Ruled (Unit {0} × State)
+initializer_by equals i index s (Ok o) = static_initializer s index o.1 equals o.0 i
+initializer_by equals i index s (Err f) = Err f
 
 abbrev pub initializer_at : Place → Place → InitializerTree → ℕ → State → Ruled (Unit {0} × State)
-initializer_at at equals i index s = initializer_by at equals i index s (object_at s at index)
+initializer_at at equals i index s = initializer_by equals i index s (object_at s at index)
 
 -- a second initializer of an object is refused
 abbrev pub object_initializer : Place → Place → InitializerTree → ℕ → State → Ruled (Unit {0} × State)

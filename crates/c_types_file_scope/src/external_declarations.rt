@@ -212,7 +212,7 @@ fn initializer_at(
     ensures { Leads (λ _. tt) (spec.initializer_at place equals (initializer_tree initializer.now) index (state cx.old)) result (state cx.new) }
 {
     let (ctype, number) = object_at(cx, place, index)?;
-    static_initializer(cx, place, index, number, equals, ctype, initializer)
+    static_initializer(cx, index, number, equals, ctype, initializer)
 }
 
 /// The initializer of an object, which has one at most.

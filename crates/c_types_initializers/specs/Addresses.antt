@@ -55,8 +55,8 @@ abbrev pub whole : Known → ℕ → Ty → Option Address
 whole k n t = option_map (from_0 (base.Object n)) (reach k t)
 
 -- a whole literal, whose size is known
-abbrev pub spelled : Known → ℕ → Ty → Option Address
-spelled k n t = option_map (from_0 (base.Literal n)) (size_of k t)
+abbrev pub whole_literal : Known → ℕ → Ty → Option Address
+whole_literal k n t = option_map (from_0 (base.Literal n)) (size_of k t)
 
 abbrev pub address_in : PointerConstant → Option Address
 address_in pointer.Null = None
@@ -116,7 +116,7 @@ abbrev mutual
   pub located_form : Known → Ty → LvalueFormTree → Option Address
   located_form k t (tree.Object (object.Static n)) = whole k n t
   located_form k t (tree.Object (object.Local n)) = None
-  located_form k t (tree.Literal n) = spelled k n t
+  located_form k t (tree.Literal n) = whole_literal k n t
   located_form k t (tree.Target e) = address (pointed k e)
   located_form k t (tree.Member l distance) = member_at (located k l) distance (size_of k t)
   located_form k t (tree.Copied target source) = None

@@ -115,8 +115,8 @@ fn whole(cx: &Context, number: u32, t: &CType) -> Option<Address>
 }
 
 /// A whole string literal, whose size is known.
-fn spelled(cx: &Context, number: u32, t: &CType) -> Option<Address>
-    ensures { result ≡ spec.spelled (known cx.now) number (view t.now) }
+fn whole_literal(cx: &Context, number: u32, t: &CType) -> Option<Address>
+    ensures { result ≡ spec.whole_literal (known cx.now) number (view t.now) }
 {
     Some(Address {
         base: StaticBase::Literal(number),
@@ -162,7 +162,7 @@ fn located(cx: &Context, lvalue: &Lvalue) -> Option<Address>
     match &lvalue.form {
         LvalueForm::Object(ObjectRef::Static(number)) => whole(cx, *number, &lvalue.ctype),
         LvalueForm::Object(ObjectRef::Local(_)) => None,
-        LvalueForm::Literal(number) => spelled(cx, *number, &lvalue.ctype),
+        LvalueForm::Literal(number) => whole_literal(cx, *number, &lvalue.ctype),
         LvalueForm::Target(pointer) => match pointed(cx, pointer)? {
             PointerConstant::Address(found) => Some(found),
             PointerConstant::Null => None,

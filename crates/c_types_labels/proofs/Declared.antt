@@ -55,18 +55,18 @@ plain_by n d parts (Ok true) s h = h
 plain_by n d parts (Ok false) s h = with_one (with_object parts (length s.body.locals)) _ h refl
 plain_by n d parts (Err f) s h = tt
 
-automatic_by : (at : Place) (k : ℕ) (parts : PartsView) (m : InitializedView × Ty) (t : State) → HasParts parts → Gives HasParts (locals.start_automatic at k parts m t)
-automatic_by at k parts m t h = by_size (has_size t.known m.1)
+automatic_by : (at equals : Place) (k : ℕ) (parts : PartsView) (m : InitializedView × Ty) (t : State) → HasParts parts → Gives HasParts (locals.start_automatic at equals k parts m t)
+automatic_by at equals k parts m t h = by_size (has_size t.known m.1)
   where
-    by_size : (b : Bool) → Gives HasParts (cond b (Ok (locals.started at k m.0 parts, with_local_type k m.1 t)) (type_fault at))
+    by_size : (b : Bool) → Gives HasParts (cond b (Ok (locals.started at k m.0 parts, with_local_type k m.1 t)) (type_fault equals))
     by_size true = with_one parts (start at k m.0) h (started at k m.0)
     by_size false = tt
 
 initialized_by : (n : NameView) (d : DeclaredView) (equals : Place) (i : InitializerTree) (parts : PartsView) (b : Ruled Bool) (s : State) → HasParts parts → Gives HasParts (locals.initialized_by n d equals i parts b s)
 initialized_by n d equals i parts (Ok true) s h = behind HasParts (locals.initialized_static n d equals i s) (locals.parts_kept parts) (λ u t. h)
 initialized_by n d equals i parts (Ok false) s h =
-    behind HasParts (initializer_of (with_automatic n d s) equals d.ctype i) (locals.start_automatic n.at (length s.body.locals) (with_object parts (length s.body.locals)))
-    (λ m t. automatic_by n.at (length s.body.locals) (with_object parts (length s.body.locals)) m t h)
+    behind HasParts (initializer_of (with_automatic n d s) equals d.ctype i) (locals.start_automatic n.at equals (length s.body.locals) (with_object parts (length s.body.locals)))
+    (λ m t. automatic_by n.at equals (length s.body.locals) (with_object parts (length s.body.locals)) m t h)
 initialized_by n d equals i parts (Err f) s h = tt
 
 plain_named : (s : State) (base : SpecifiedView) (at : Place) (n : Option NameView) (layers : List DeclaratorLayerView) (parts : PartsView) → HasParts parts → Gives HasParts (locals.plain_named s base at n layers parts)

@@ -47,7 +47,7 @@ pub record HasBlocks (R : State → State → Type 0) : Type 0 where
   pub started : (n : NameView) (d : DeclaredView) (s t : State) (made : Ty) → R (with_automatic n d s) t → R s (with_local_type (length s.body.locals) made t)
   pub static : (n : NameView) (d : DeclaredView) (s : State) → R s (with_static_object n d s)
   pub initial : (s u : State) (equals : Place) (index number : ℕ) (t made : Ty) (i : InitializerTree) (v : InitializedView) (stores : List StaticStoreView) → IsNumbered s index number → initializer_of s equals t i ≡ Ok ((v, made), u) → R s u
-      → statics.has_size u.known made ≡ true → constant_stores u.known equals v ≡ Ok stores → R u (with_expressions u v) → R s (statics.with_stores number stores (with_static_type index number made (with_expressions u v)))
+      → statics.has_size u.known made ≡ true → constant_stores u.known equals v ≡ Ok stores → R u (with_expressions u v) → R s (statics.with_stores equals number stores (with_static_type index number made (with_expressions u v)))
 
 -- the point behind a statement that is not refused
 abbrev pub Comes : {V : Type 0} → (State → State → Type 0) → State → Ruled (V × Point) → Type 0
@@ -81,18 +81,18 @@ module _ (R : State → State → Type 0) (has : HasBlocks R) where
   expressions_kept s (ByLvalue l) = has.specifies.steps.same s
   expressions_kept s (ByStores stores) = list_kept stores s
 
-  pub static_leads : (s : State) (at : Place) (index number : ℕ) (equals : Place) (t : Ty) (i : InitializerTree) → IsNumbered s index number → Leads R s (statics.static_initializer s at index number equals t i)
-  static_leads s at index number equals t i numbered = of_made (initializer_of s equals t i) refl (initializer_leads R has.specifies.steps s equals t i)
+  pub static_leads : (s : State) (index number : ℕ) (equals : Place) (t : Ty) (i : InitializerTree) → IsNumbered s index number → Leads R s (statics.static_initializer s index number equals t i)
+  static_leads s index number equals t i numbered = of_made (initializer_of s equals t i) refl (initializer_leads R has.specifies.steps s equals t i)
     where
-      of_stores : (v : InitializedView) (made : Ty) (u : State) → initializer_of s equals t i ≡ Ok ((v, made), u) → R s u → statics.has_size u.known made ≡ true → (r : Ruled (List StaticStoreView)) → constant_stores u.known equals v ≡ r → Leads R s (after (kept (with_expressions u v) r) (statics.with_initial index number made))
+      of_stores : (v : InitializedView) (made : Ty) (u : State) → initializer_of s equals t i ≡ Ok ((v, made), u) → R s u → statics.has_size u.known made ≡ true → (r : Ruled (List StaticStoreView)) → constant_stores u.known equals v ≡ r → Leads R s (after (kept (with_expressions u v) r) (statics.with_initial equals index number made))
       of_stores v made u is g sized (Ok stores) constant = has.initial s u equals index number t made i v stores numbered is g sized constant (expressions_kept u v)
       of_stores v made u is g sized (Err f) constant = tt
 
-      of_size : (v : InitializedView) (made : Ty) (u : State) → initializer_of s equals t i ≡ Ok ((v, made), u) → R s u → (b : Bool) → statics.has_size u.known made ≡ b → Leads R s (cond b (statics.store_static equals index number v made u) (type_fault at))
+      of_size : (v : InitializedView) (made : Ty) (u : State) → initializer_of s equals t i ≡ Ok ((v, made), u) → R s u → (b : Bool) → statics.has_size u.known made ≡ b → Leads R s (cond b (statics.store_static equals index number v made u) (type_fault equals))
       of_size v made u is g true sized = of_stores v made u is g sized (constant_stores u.known equals v) refl
       of_size v made u is g false sized = tt
 
-      of_made : (r : Ruled ((InitializedView × Ty) × State)) → initializer_of s equals t i ≡ r → Leads R s r → Leads R s (after r (statics.judged_static at index number equals))
+      of_made : (r : Ruled ((InitializedView × Ty) × State)) → initializer_of s equals t i ≡ r → Leads R s r → Leads R s (after r (statics.judged_static index number equals))
       of_made (Ok p) is g = of_size p.0.0 p.0.1 p.1 is g (statics.has_size p.1.known p.0.1) refl
       of_made (Err f) is g = tt
 
@@ -112,19 +112,19 @@ module _ (R : State → State → Type 0) (has : HasBlocks R) where
   plain_leads n d p (Ok false) s = has.automatic n d s
   plain_leads n d p (Err f) s = tt
 
-  started_leads : (n : NameView) (d : DeclaredView) (s t : State) (p : PartsView) (m : InitializedView × Ty) → R (with_automatic n d s) t → Leads R s (locals.start_automatic n.at (length s.body.locals) p m t)
-  started_leads n d s t p m g = cond_leads R s (statics.has_size t.known m.1) _ _ (has.started n d s t m.1 g) tt
+  started_leads : (n : NameView) (d : DeclaredView) (equals : Place) (s t : State) (p : PartsView) (m : InitializedView × Ty) → R (with_automatic n d s) t → Leads R s (locals.start_automatic n.at equals (length s.body.locals) p m t)
+  started_leads n d equals s t p m g = cond_leads R s (statics.has_size t.known m.1) _ _ (has.started n d s t m.1 g) tt
 
-  automatic_leads : (n : NameView) (d : DeclaredView) (s : State) (p : PartsView) (r : Ruled ((InitializedView × Ty) × State)) → Leads R (with_automatic n d s) r → Leads R s (after r (locals.start_automatic n.at (length s.body.locals) p))
-  automatic_leads n d s p (Ok m) g = started_leads n d s m.1 p m.0 g
-  automatic_leads n d s p (Err f) g = tt
+  automatic_leads : (n : NameView) (d : DeclaredView) (equals : Place) (s : State) (p : PartsView) (r : Ruled ((InitializedView × Ty) × State)) → Leads R (with_automatic n d s) r → Leads R s (after r (locals.start_automatic n.at equals (length s.body.locals) p))
+  automatic_leads n d equals s p (Ok m) g = started_leads n d equals s m.1 p m.0 g
+  automatic_leads n d equals s p (Err f) g = tt
 
   initialized_leads : (n : NameView) (d : DeclaredView) (equals : Place) (i : InitializerTree) (p : PartsView) (b : Ruled Bool) (s : State) → Leads R s (locals.initialized_by n d equals i p b s)
   initialized_leads n d equals i p (Ok true) s =
       step s (locals.initialized_static n d equals i s) (locals.parts_kept p)
-      (go s (with_static_object n d s) (locals.initialized_static n d equals i s) (has.static n d s) (static_leads (with_static_object n d s) n.at (length s.objects) (length s.statics) equals d.ctype i (newest_numbered n d s)))
+      (go s (with_static_object n d s) (locals.initialized_static n d equals i s) (has.static n d s) (static_leads (with_static_object n d s) (length s.objects) (length s.statics) equals d.ctype i (newest_numbered n d s)))
       (λ u t. has.specifies.steps.same t)
-  initialized_leads n d equals i p (Ok false) s = automatic_leads n d s (with_object p (length s.body.locals)) (initializer_of (with_automatic n d s) equals d.ctype i) (initializer_leads R has.specifies.steps (with_automatic n d s) equals d.ctype i)
+  initialized_leads n d equals i p (Ok false) s = automatic_leads n d equals s (with_object p (length s.body.locals)) (initializer_of (with_automatic n d s) equals d.ctype i) (initializer_leads R has.specifies.steps (with_automatic n d s) equals d.ctype i)
   initialized_leads n d equals i p (Err f) s = tt
 
   plain_named_leads : (s : State) (base : SpecifiedView) (at : Place) (n : Option NameView) (layers : List DeclaratorLayerView) (p : PartsView) → Leads R s (locals.plain_named s base at n layers p)

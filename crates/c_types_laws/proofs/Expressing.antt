@@ -4,6 +4,8 @@ use Rattle.cc_base.specs.declared.diagnostics.Place.{Place}
 use Rattle.c_layout.specs.CheckedTrees.{TermTree}
 use Rattle.c_layout.specs.SyntaxTrees as syntax
 use Rattle.c_layout.specs.SyntaxTrees.{Tree, Trees, LayerView, TypeNameView}
+use Rattle.c_layout.specs.declared.syntax_tree.declarations.Storage.{Storage}
+use Rattle.c_layout.specs.declared.syntax_tree.declarations.Storage.TheVariants as storage
 use Rattle.c_layout.specs.declared.syntax_tree.expressions.Name.{Name}
 use Rattle.c_layout.specs.declared.syntax_tree.expressions.TypeNameWord.{TypeNameWord}
 use Rattle.c_layout.specs.declared.syntax_tree.expressions.TypeNameWord.TheVariants as word
@@ -80,8 +82,15 @@ module _ (R : State → State → Type 0) (has : HasSteps R) where
   as_enumeration_leads s (Ok p) h = h
   as_enumeration_leads s (Err f) h = tt
 
+  storage_leads : (s : State) (at : Place) (class : Storage) → Leads R s (names.storage_word s at class)
+  storage_leads s at storage.Auto = has.same s
+  storage_leads s at storage.Register = has.same s
+  storage_leads s at storage.Typedef = tt
+  storage_leads s at storage.Extern = tt
+  storage_leads s at storage.Static = tt
+
   word_leads : (s : State) (at : Place) (w : TypeNameWord) → Leads R s (names.word_type s at w)
-  word_leads s at (word.Storage p) = tt
+  word_leads s at (word.Storage p class) = storage_leads s at class
   word_leads s at (word.Qualifier p) = has.same s
   word_leads s at (word.Type p w) = has.same s
   word_leads s at (word.Struct p n) = as_struct_leads s (names.struct_tag s n) (struct_tag_leads s n)

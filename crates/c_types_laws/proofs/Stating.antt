@@ -36,7 +36,7 @@ pub record HasBodies (R : State → State → Type 0) : Type 0 where
   pub local_type : (s : State) (number : ℕ) (t : Ty) → R s (with_local_type number t s)
   pub static : (n : NameView) (d : DeclaredView) (s : State) → R s (with_static_object n d s)
   pub initial : (s u : State) (equals : Place) (index number : ℕ) (t made : Ty) (i : InitializerTree) (v : InitializedView) (stores : List StaticStoreView) → IsNumbered s index number → initializer_of s equals t i ≡ Ok ((v, made), u) → R s u
-      → statics.has_size u.known made ≡ true → constant_stores u.known equals v ≡ Ok stores → R u (with_expressions u v) → R s (statics.with_stores number stores (with_static_type index number made (with_expressions u v)))
+      → statics.has_size u.known made ≡ true → constant_stores u.known equals v ≡ Ok stores → R u (with_expressions u v) → R s (statics.with_stores equals number stores (with_static_type index number made (with_expressions u v)))
 
 -- the point behind a statement that is not refused
 abbrev pub Comes : {V : Type 0} → (State → State → Type 0) → State → Ruled (V × Point) → Type 0
@@ -61,8 +61,8 @@ module _ (R : State → State → Type 0) (has : HasBodies R) where
     initial = has.initial;
   }
 
-  pub static_leads : (s : State) (at : Place) (index number : ℕ) (equals : Place) (t : Ty) (i : InitializerTree) → IsNumbered s index number → Leads R s (statics.static_initializer s at index number equals t i)
-  static_leads s at index number equals t i numbered = blocks.static_leads R has_blocks s at index number equals t i numbered
+  pub static_leads : (s : State) (index number : ℕ) (equals : Place) (t : Ty) (i : InitializerTree) → IsNumbered s index number → Leads R s (statics.static_initializer s index number equals t i)
+  static_leads s index number equals t i numbered = blocks.static_leads R has_blocks s index number equals t i numbered
 
   pub statement_comes : (p : Point) (t : syntax.StatementTree) → Comes R p.state (spec.statement locals.local_declaration p t)
   statement_comes p t = blocks.statement_comes R has_blocks p t

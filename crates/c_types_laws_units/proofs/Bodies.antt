@@ -237,7 +237,7 @@ expressions_same (ByLvalue l) s = (refl, refl)
 expressions_same (ByStores xs) s = list_same xs s
 
 initial_kept : (s u : State) (equals : Place) (index number : ℕ) (t made : Ty) (i : InitializerTree) (v : InitializedView) (stores : List StaticStoreView) → IsNumbered s index number → initializer_of s equals t i ≡ Ok ((v, made), u) → Keeps s u
-    → has_size u.known made ≡ true → constant_stores u.known equals v ≡ Ok stores → Keeps u (with_expressions u v) → Keeps s (with_stores number stores (with_static_type index number made (with_expressions u v)))
+    → has_size u.known made ≡ true → constant_stores u.known equals v ≡ Ok stores → Keeps u (with_expressions u v) → Keeps s (with_stores equals number stores (with_static_type index number made (with_expressions u v)))
 initial_kept s u equals index number t made i v stores numbered is g sized constant kept =
     let w : State = with_expressions u v in
     let same_u : Same s u = subst (λ r. Leads Same s r) is (initializer_leads Same same_steps s equals t i) in

@@ -114,9 +114,9 @@ declared_object_leads s base n layers initial =
     step s (declared_type s n.at base.declared layers) (external.object_in n base.storage initial) (declared_leads Keeps declarations_keep s n.at base.declared layers)
     (λ d t. cond_leads Keeps t (objects.may_be_object t.known d.ctype base.storage initial) (external.object_named n d t) _ (named_leads n d t) tt)
 
-initializer_keeps : (at equals : Place) (i : InitializerTree) (index : ℕ) (s : State) (o : Option ObjectView) → slice_get s.objects index ≡ o → Leads Keeps s (external.initializer_by at equals i index s (objects.object_of at o))
+initializer_keeps : (at equals : Place) (i : InitializerTree) (index : ℕ) (s : State) (o : Option ObjectView) → slice_get s.objects index ≡ o → Leads Keeps s (external.initializer_by equals i index s (objects.object_of at o))
 initializer_keeps at equals i index s None there = tt
-initializer_keeps at equals i index s (Some o) there = static_leads Keeps bodies_keep s at index (number_or o.number) equals o.declared.ctype i (o, there, refl)
+initializer_keeps at equals i index s (Some o) there = static_leads Keeps bodies_keep s index (number_or o.number) equals o.declared.ctype i (o, there, refl)
 
 object_initializer_leads : (at equals : Place) (i : InitializerTree) (index : ℕ) (s : State) → Leads Keeps s (external.object_initializer at equals i index s)
 object_initializer_leads at equals i index s =
@@ -379,7 +379,7 @@ begins : (m : Model) (es : List ExternalTree) → Keeps (first_state m) (begun m
 begins m es = keeps_twice (first_state m) (with_stream (first_state m)) (begun m es) (stream_keeps (first_state m)) (definitions_keep es (with_stream (first_state m)))
 
 parts_done : (m : Model) (es : List ExternalTree) (r : Ruled (List FunctionView × State)) → Leads Keeps (begun m es) r → IsDone m (after r checks.finished)
-parts_done m es (Ok p) g = of_bounds (ends.first_past (ends.object_sizes (ends.with_completed p.1)) (ends.with_bounded (ends.with_completed p.1)).statics)
+parts_done m es (Ok p) g = of_bounds (ends.first_past (ends.object_sizes (ends.with_completed p.1)) (ends.with_bounded (ends.with_completed p.1)).statics p.1.initializers)
   where
     of_bounds : (past : Option Place) → IsDone m (after (ends.judged_bounds past (ends.with_bounded (ends.with_completed p.1))) (checks.functions_kept p.0))
     of_bounds (Some at) = tt

@@ -88,7 +88,7 @@ module _ (d : DefinitionsView) (names : List (List ℕ)) (m : Model) (good : IsN
       )
 
   unit_ends : (r : Ruled (List FunctionView × State)) → Ends r → Ends (after r checks.finished)
-  unit_ends (Ok p) h = objects_end p.0 p.1 (ends.first_past (ends.object_sizes (ends.with_completed p.1)) (ends.with_bounded (ends.with_completed p.1)).statics) h
+  unit_ends (Ok p) h = objects_end p.0 p.1 (ends.first_past (ends.object_sizes (ends.with_completed p.1)) (ends.with_bounded (ends.with_completed p.1)).statics p.1.initializers) h
   unit_ends (Err f) h = tt
 
   there : (made : List FunctionView) (s : State) (entry : ℕ) → IsFile d names m made s → AllMade d made → (i : ℕ) (f : SignatureView) (n : ℕ) → slice_get s.functions i ≡ Some f → f.number ≡ Some n → IsThere (checks.unit_of m made s entry) f n

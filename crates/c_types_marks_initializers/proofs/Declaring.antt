@@ -173,27 +173,27 @@ module _ (laws : HasLaws) (m : Model) where
   abbrev Stores : State → Ruled (Unit {0} × State) → Type 0
   Stores s r = Goes m s going.nothing (λ u x. Unit {0}) r
 
-  stored_goes : (equals : Place) (index number : ℕ) (v : InitializedView) (t : Ty) (s : State) (r : Ruled (List StaticStoreView)) → IsReady m s → IsTypeOf m t → StoresIf r → Stores s (after (kept (with_expressions s v) r) (statics.with_initial index number t))
+  stored_goes : (equals : Place) (index number : ℕ) (v : InitializedView) (t : Ty) (s : State) (r : Ruled (List StaticStoreView)) → IsReady m s → IsTypeOf m t → StoresIf r → Stores s (after (kept (with_expressions s v) r) (statics.with_initial equals index number t))
   stored_goes equals index number v t s (Ok stores) h typed proper =
       let s1 : State = with_expressions s v in
       let h1 = expressions_ready s v h in
       let s2 : State = with_static_type index number t s1 in (
-        stores_ready m s2 (static_type_ready m s1 h1 index number t typed) number stores proper,
+        stores_ready m s2 (static_type_ready m s1 h1 index number t typed) equals number stores proper,
         tt,
-        λ u part. (expressions_pass s v u (static_type_passes s1 index number t u (stores_pass s2 number stores u part)), tt),
+        λ u part. (expressions_pass s v u (static_type_passes s1 index number t u (stores_pass s2 equals number stores u part)), tt),
       )
   stored_goes equals index number v t s (Err f) h typed proper = tt
 
-  pub static_goes : (s : State) (at : Place) (index number : ℕ) (equals : Place) (t : Ty) (i : InitializerTree) → IsReady m s → IsProperInitializer m i → IsTypeOf m t → Stores s (statics.static_initializer s at index number equals t i)
-  static_goes s at index number equals t i h proper typed = of_made (initializer_of s equals t i) refl (initializer_goes laws m s equals t i h proper typed)
+  pub static_goes : (s : State) (index number : ℕ) (equals : Place) (t : Ty) (i : InitializerTree) → IsReady m s → IsProperInitializer m i → IsTypeOf m t → Stores s (statics.static_initializer s index number equals t i)
+  static_goes s index number equals t i h proper typed = of_made (initializer_of s equals t i) refl (initializer_goes laws m s equals t i h proper typed)
     where
-      of_size : (v : InitializedView) (made : Ty) (later : State) → IsReady m later → IsTypeOf m made → StoresIf (constant_stores later.known equals v) → (b : Bool) → Stores later (cond b (statics.store_static equals index number v made later) (type_fault at))
+      of_size : (v : InitializedView) (made : Ty) (later : State) → IsReady m later → IsTypeOf m made → StoresIf (constant_stores later.known equals v) → (b : Bool) → Stores later (cond b (statics.store_static equals index number v made later) (type_fault equals))
       of_size v made later ready of proper true = stored_goes equals index number v made later (constant_stores later.known equals v) ready of proper
       of_size v made later ready of proper false = tt
 
-      of_made : (r : Ruled ((InitializedView × Ty) × State)) → initializer_of s equals t i ≡ r → Initializes laws m s r → Stores s (after r (statics.judged_static at index number equals))
+      of_made : (r : Ruled ((InitializedView × Ty) × State)) → initializer_of s equals t i ≡ r → Initializes laws m s r → Stores s (after r (statics.judged_static index number equals))
       of_made (Ok q) is g =
-          onward m s q.1 going.nothing (λ u x. Unit {0}) (statics.judged_static at index number equals q.0 q.1) (λ u part. (g.2 u part).0)
+          onward m s q.1 going.nothing (λ u x. Unit {0}) (statics.judged_static index number equals q.0 q.1) (λ u part. (g.2 u part).0)
           (of_size q.0.0 q.0.1 q.1 g.0 g.1 (static_stores_proper m q.1.known s q.1 equals equals t q.0.1 i q.0.0 g.0.types.proper proper is) (has_size q.1.known q.0.1))
       of_made (Err f) is g = tt
 
@@ -209,11 +209,11 @@ module _ (laws : HasLaws) (m : Model) where
     plain_adds n d p (Ok false) s h typed = (automatic_ready m s h n d typed, tt, λ u part. (automatic_passes s n d u part, λ all f is. marked_more u f p.statements (made.Forget n.at (length s.body.locals)) (all f is) refl))
     plain_adds n d p (Err f) s h typed = tt
 
-    started_adds : (n : NameView) (number : ℕ) (equals : Place) (t : Ty) (i : InitializerTree) (p : PartsView) (s : State) → IsReady m s → IsProperInitializer m i → IsTypeOf m t → Adds s p (after (initializer_of s equals t i) (locals.start_automatic n.at number (with_object p number)))
+    started_adds : (n : NameView) (number : ℕ) (equals : Place) (t : Ty) (i : InitializerTree) (p : PartsView) (s : State) → IsReady m s → IsProperInitializer m i → IsTypeOf m t → Adds s p (after (initializer_of s equals t i) (locals.start_automatic n.at equals number (with_object p number)))
     started_adds n number equals t i p s h proper typed = of_made (initializer_of s equals t i) refl (initializer_goes laws m s equals t i h proper typed)
       where
         of_size : (v : InitializedView) (made : Ty) (later : State) → IsReady m later → IsTypeOf m made → ((u : UnitView) → IsPartOf later u → IsPartOf s u × IsInitial u v) → initializer_of s equals t i ≡ Ok ((v, made), later) → (b : Bool) → has_size later.known made ≡ b
-            → Adds s p (cond b (Ok (locals.started n.at number v (with_object p number), with_local_type number made later)) (type_fault n.at))
+            → Adds s p (cond b (Ok (locals.started n.at number v (with_object p number), with_local_type number made later)) (type_fault equals))
         of_size v made later ready of ends is true sized = (
           local_type_ready m later ready number made of,
           tt,
@@ -226,7 +226,7 @@ module _ (laws : HasLaws) (m : Model) where
         )
         of_size v made later ready of ends is false sized = tt
 
-        of_made : (r : Ruled ((InitializedView × Ty) × State)) → initializer_of s equals t i ≡ r → Initializes laws m s r → Adds s p (after r (locals.start_automatic n.at number (with_object p number)))
+        of_made : (r : Ruled ((InitializedView × Ty) × State)) → initializer_of s equals t i ≡ r → Initializes laws m s r → Adds s p (after r (locals.start_automatic n.at equals number (with_object p number)))
         of_made (Ok q) is g = of_size q.0.0 q.0.1 q.1 g.0 g.1 g.2 is (has_size q.1.known q.0.1) refl
         of_made (Err f) is g = tt
 
@@ -237,7 +237,7 @@ module _ (laws : HasLaws) (m : Model) where
     initialized_adds : (n : NameView) (d : DeclaredView) (equals : Place) (i : InitializerTree) (p : PartsView) (b : Ruled Bool) (s : State) → IsReady m s → IsProperInitializer m i → IsTypeOf m d.ctype → Adds s p (locals.initialized_by n d equals i p b s)
     initialized_adds n d equals i p (Ok true) s h proper typed =
         let s1 : State = with_static_object n d s in
-        kept_adds s p (locals.initialized_static n d equals i s) (onward m s s1 going.nothing (λ u x. Unit {0}) (locals.initialized_static n d equals i s) (static_passes s n d) (static_goes s1 n.at (length s.objects) (length s.statics) equals d.ctype i (static_ready m s h n d typed) proper typed))
+        kept_adds s p (locals.initialized_static n d equals i s) (onward m s s1 going.nothing (λ u x. Unit {0}) (locals.initialized_static n d equals i s) (static_passes s n d) (static_goes s1 (length s.objects) (length s.statics) equals d.ctype i (static_ready m s h n d typed) proper typed))
     initialized_adds n d equals i p (Ok false) s h proper typed =
         let s1 : State = with_automatic n d s in
         onward m s s1 going.nothing (λ u q. AreMarkedParts returns u p → AreMarkedParts returns u q) (locals.initialized_automatic n d equals i p s) (automatic_passes s n d) (started_adds n (length s.body.locals) equals d.ctype i p s1 (automatic_ready m s h n d typed) proper typed)

@@ -3,6 +3,7 @@ use Rattle.std.proofs.Common.{◌≡◌, ◌<◌, ℕ, zero, suc, List, [], ◌�
 use Rattle.std.specs.Prelude.{◌⊎◌, slice_set}
 use Rattle.std.proofs.lemmas.Bool.{cases_eq}
 use Rattle.std.proofs.lemmas.Option.{slice_get_within}
+use Rattle.cc_base.specs.declared.diagnostics.Place.{Place}
 use Rattle.c_layout.specs.Types.{Ty}
 use Rattle.c_layout.specs.CheckedTrees.{TermTree}
 use Rattle.c_layout.specs.CheckedUnits.{LocalView, StaticView, StaticStoreView}
@@ -163,8 +164,8 @@ module _ (m : Model) (s : State) (h : IsReady m s) where
     layouts = record { proper = h.layouts.proper; settled = h.layouts.settled; bodies = h.layouts.bodies; laid = h.layouts.laid };
   }
 
-  pub stores_ready : (number : ℕ) (stores : List StaticStoreView) → AreProperStores stores → IsReady m (with_stores number stores s)
-  stores_ready number stores proper = record {
+  pub stores_ready : (equals : Place) (number : ℕ) (stores : List StaticStoreView) → AreProperStores stores → IsReady m (with_stores equals number stores s)
+  stores_ready equals number stores proper = record {
     numbers = h.numbers;
     evaluated = h.evaluated;
     types = record {
@@ -217,5 +218,5 @@ module _ (s : State) where
     functions = p.functions;
   }
 
-  pub stores_pass : (number : ℕ) (stores : List StaticStoreView) → IsPassed s (with_stores number stores s)
-  stores_pass number stores u p = record { model = p.model; objects = p.objects; literals = p.literals; functions = p.functions }
+  pub stores_pass : (equals : Place) (number : ℕ) (stores : List StaticStoreView) → IsPassed s (with_stores equals number stores s)
+  stores_pass equals number stores u p = record { model = p.model; objects = p.objects; literals = p.literals; functions = p.functions }

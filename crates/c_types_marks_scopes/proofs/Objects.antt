@@ -123,9 +123,9 @@ declared_object_leads s b n layers initial =
     step s (declared_type s n.at b.declared layers) (external.object_in n b.storage initial) (type_leads s n.at b.declared layers)
     (λ d t. cond_leads G t (objects.may_be_object t.known d.ctype b.storage initial) (external.object_named n d t) _ (named_leads n d t) tt)
 
-initializer_goes : (at equals : Place) (i : InitializerTree) (index : ℕ) (s : State) (o : Option ObjectView) → slice_get s.objects index ≡ o → Leads G s (external.initializer_by at equals i index s (objects.object_of at o))
+initializer_goes : (at equals : Place) (i : InitializerTree) (index : ℕ) (s : State) (o : Option ObjectView) → slice_get s.objects index ≡ o → Leads G s (external.initializer_by equals i index s (objects.object_of at o))
 initializer_goes at equals i index s None there = tt
-initializer_goes at equals i index s (Some o) there = static_leads G blocks_go s at index (number_or o.number) equals o.declared.ctype i (o, there, refl)
+initializer_goes at equals i index s (Some o) there = static_leads G blocks_go s index (number_or o.number) equals o.declared.ctype i (o, there, refl)
 
 object_initializer_leads : (at equals : Place) (i : InitializerTree) (index : ℕ) (s : State) → Leads G s (external.object_initializer at equals i index s)
 object_initializer_leads at equals i index s =

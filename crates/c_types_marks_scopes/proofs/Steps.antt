@@ -3,6 +3,7 @@ use Rattle.std.proofs.Common.{◌≡◌, ◌+◌, ℕ, Bool, true, false, List, 
 use Rattle.std.specs.Prelude.{cond}
 use Rattle.std.proofs.lemmas.List.{length-append}
 use Rattle.std.proofs.lemmas.Option.{same_Some, slice_get_within}
+use Rattle.cc_base.specs.declared.diagnostics.Place.{Place}
 use Rattle.c_layout.specs.Types.{Ty}
 use Rattle.c_layout.specs.CheckedUnits.{LocalView, StaticStoreView}
 use Rattle.c_layout.specs.DeclarationTrees.{NameView}
@@ -128,9 +129,9 @@ static_like n d s =
       like_passes.same s.body.locals,
     )
 
-initial_like : (u : State) (index number : ℕ) (made : Ty) (stores : List StaticStoreView) → Goes AreLike u (with_stores number stores (with_static_type index number made u))
-initial_like u index number made stores = (
-  grows_objects (scope u) (with_stores number stores (with_static_type index number made u)).objects (with_stores number stores (with_static_type index number made u)).statics (few_changed (typed_object made) index u.objects u.statics (with_stores number stores (with_static_type index number made u)).statics (λ o. refl) (changed_long (stored_static stores) number (changed (typed_static made) number u.statics) ∙ changed_long (typed_static made) number u.statics)),
+initial_like : (u : State) (equals : Place) (index number : ℕ) (made : Ty) (stores : List StaticStoreView) → Goes AreLike u (with_stores equals number stores (with_static_type index number made u))
+initial_like u equals index number made stores = (
+  grows_objects (scope u) (with_stores equals number stores (with_static_type index number made u)).objects (with_stores equals number stores (with_static_type index number made u)).statics (few_changed (typed_object made) index u.objects u.statics (with_stores equals number stores (with_static_type index number made u)).statics (λ o. refl) (changed_long (stored_static stores) number (changed (typed_static made) number u.statics) ∙ changed_long (typed_static made) number u.statics)),
   like_passes.same u.body.locals,
 )
 
@@ -143,6 +144,6 @@ blocks_go = record {
   static = static_like;
   initial = λ s u equals index number t made i v stores numbered is g sized constant kept.
       let w = with_expressions u v in
-      let x = with_stores number stores (with_static_type index number made w) in
-      goes_twice AreLike like_passes s u x g (goes_twice AreLike like_passes u w x kept (initial_like w index number made stores));
+      let x = with_stores equals number stores (with_static_type index number made w) in
+      goes_twice AreLike like_passes s u x g (goes_twice AreLike like_passes u w x kept (initial_like w equals index number made stores));
 }

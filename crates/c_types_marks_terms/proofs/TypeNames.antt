@@ -5,6 +5,8 @@ use Rattle.c_layout.specs.Types.{Ty}
 use Rattle.c_layout.specs.StructViews.{no_struct}
 use Rattle.c_layout.specs.SyntaxTrees.{LayerView, TypeNameView}
 use Rattle.c_layout.specs.declared.data_model.Model.{Model}
+use Rattle.c_layout.specs.declared.syntax_tree.declarations.Storage.{Storage}
+use Rattle.c_layout.specs.declared.syntax_tree.declarations.Storage.TheVariants as storage
 use Rattle.c_layout.specs.declared.syntax_tree.expressions.Name.{Name}
 use Rattle.c_layout.specs.declared.syntax_tree.expressions.TypeNameWord.{TypeNameWord}
 use Rattle.c_layout.specs.declared.syntax_tree.expressions.TypeNameWord.TheVariants as word
@@ -109,8 +111,15 @@ as_typedef_holds : (m : Model) (r : Ruled DeclaredView) → Holds (IsDeclaredOf 
 as_typedef_holds m (Ok d) h = h
 as_typedef_holds m (Err f) h = tt
 
+storage_on : (m : Model) (s : State) (at : Place) (class : Storage) → IsAt m s → LeadsOn s (IsSaid m) (names.storage_word s at class)
+storage_on m s at storage.Auto a = (keeps_same s a.types, tt)
+storage_on m s at storage.Register a = (keeps_same s a.types, tt)
+storage_on m s at storage.Typedef a = tt
+storage_on m s at storage.Extern a = tt
+storage_on m s at storage.Static a = tt
+
 word_on : (m : Model) (s : State) (at : Place) (w : TypeNameWord) → IsAt m s → LeadsOn s (IsSaid m) (names.word_type s at w)
-word_on m s at (word.Storage p) a = tt
+word_on m s at (word.Storage p class) a = storage_on m s at class a
 word_on m s at (word.Qualifier p) a = (keeps_same s a.types, tt)
 word_on m s at (word.Type p w) a = (keeps_same s a.types, tt)
 word_on m s at (word.Struct p n) a = as_struct_on m s (names.struct_tag s n) (struct_tag_on s n a.types)

@@ -54,7 +54,7 @@ module _ (m : Model) where
   -- ---- type names
 
   named_word : (known : List (List ℕ)) (w : TypeNameWord) (ts rest : List Terminal) → IsTypeNameWord known w ts rest → AreProperTerminals m ts → AreProperTerminals m rest
-  named_word known (word_of.Storage at) ts rest is h = front.word m is.1 ts rest is.3 h
+  named_word known (word_of.Storage at class) ts rest is h = front.word m is.1 ts rest is.3 h
   named_word known (word_of.Qualifier at) ts rest is h = front.word m is.1 ts rest is.3 h
   named_word known (word_of.Type at named) ts rest is h = front.word m is.1 ts rest is.3 h
   named_word known (word_of.Struct at tag) ts rest is h = front.name m known tag.place tag.text is.1 rest is.3 (front.word m k.Struct ts is.1 is.2 h)

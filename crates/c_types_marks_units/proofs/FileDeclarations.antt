@@ -154,9 +154,9 @@ module _ (laws : HasLaws) (m : Model) where
       steps s (λ (d : DeclaredView). IsTypeOf m d.ctype) (declared_type s n.at base.declared layers) (external.object_in n base.storage has) (declared_goes laws m s n.at base.declared layers ready typed proper)
       (λ d t there is. choose t (objects.may_be_object t.known d.ctype base.storage has) (external.object_named n d t) _ (named_runs n d t there is) tt)
 
-  initializer_runs : (at equals : Place) (i : InitializerTree) (index : ℕ) (s : State) (o : Option ObjectView) → slice_get s.objects index ≡ o → IsReady m s → IsProperInitializer m i → Runs s (external.initializer_by at equals i index s (objects.object_of at o))
+  initializer_runs : (at equals : Place) (i : InitializerTree) (index : ℕ) (s : State) (o : Option ObjectView) → slice_get s.objects index ≡ o → IsReady m s → IsProperInitializer m i → Runs s (external.initializer_by equals i index s (objects.object_of at o))
   initializer_runs at equals i index s None there ready proper = tt
-  initializer_runs at equals i index s (Some o) there ready proper = static_goes laws m s at index (number_or o.number) equals o.declared.ctype i ready proper (own s o.declared.ctype ready (ready.types.objects index o there))
+  initializer_runs at equals i index s (Some o) there ready proper = static_goes laws m s index (number_or o.number) equals o.declared.ctype i ready proper (own s o.declared.ctype ready (ready.types.objects index o there))
 
   pub object_initializer_runs : (at equals : Place) (i : InitializerTree) (index : ℕ) (s : State) → IsReady m s → IsProperInitializer m i → Runs s (external.object_initializer at equals i index s)
   object_initializer_runs at equals i index s ready proper =

@@ -141,7 +141,7 @@ module _ (laws : HasLaws) (heads_keep : HeadsKeep) where
       begun = with_externals es (with_stream (first_state m))
 
       of_parts : (r : Ruled (List FunctionView × State)) → Goes m begun (AreTypedFunctions m) (λ u fs. AreMarkedBodies u [] → AreMarkedBodies u fs) r → WhenMade m (after r checks.finished)
-      of_parts (Ok p) h = of_bounds (ends.first_past (ends.object_sizes (ends.with_completed p.1)) (ends.with_bounded (ends.with_completed p.1)).statics)
+      of_parts (Ok p) h = of_bounds (ends.first_past (ends.object_sizes (ends.with_completed p.1)) (ends.with_bounded (ends.with_completed p.1)).statics p.1.initializers)
         where
           of_bounds : (past : Option Place) → WhenMade m (after (ends.judged_bounds past (ends.with_bounded (ends.with_completed p.1))) (checks.functions_kept p.0))
           of_bounds (Some at) = tt

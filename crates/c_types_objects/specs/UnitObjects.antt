@@ -10,6 +10,7 @@ use Rattle.c_layout.specs.declared.checked_tree.checked_units.StaticBase.TheVari
 use Rattle.c_types_scopes.specs.Known.{Known, size_of}
 use Rattle.c_types_scopes.specs.Refusals.{Ruled, constant_needed}
 use Rattle.c_types_scopes.specs.States.{State}
+use Rattle.c_types_scopes.specs.declared.context.StaticInitializer.{StaticInitializer}
 
 -- ---- lengths that are not known
 
@@ -89,17 +90,21 @@ unfoldable pub stores_fit : List ℕ → List StaticStoreView → Bool
 stores_fit sizes [] = true
 stores_fit sizes (s ∷ ss) = cond (store_fits sizes s) (stores_fit sizes ss) false
 
--- the name of the first object whose initializer goes past an array of which the length became known behind it
-unfoldable pub first_past : List ℕ → List StaticView → Option Place
-first_past sizes [] = None
-first_past sizes (o ∷ os) = cond (stores_fit sizes o.stores) (first_past sizes os) (Some o.at)
+abbrev pub object_fits : List ℕ → Option StaticView → Bool
+object_fits sizes None = true
+object_fits sizes (Some o) = stores_fit sizes o.stores
+
+-- the `=` of the first initializer that goes past an array of which the length became known behind it
+unfoldable pub first_past : List ℕ → List StaticView → List StaticInitializer → Option Place
+first_past sizes os [] = None
+first_past sizes os (i ∷ is) = cond (object_fits sizes (slice_get os i.object)) (first_past sizes os is) (Some i.equals)
 
 abbrev pub judged_bounds : Option Place → State → Ruled (Unit {0} × State)
 judged_bounds None s = Ok (tt, s)
 judged_bounds (Some at) s = constant_needed at
 
 abbrev pub judged_objects : State → State → Ruled (Unit {0} × State)
-judged_objects before s = judged_bounds (first_past (object_sizes before) s.statics) s
+judged_objects before s = judged_bounds (first_past (object_sizes before) s.statics s.initializers) s
 
 -- the objects at the end of a unit
 abbrev pub finished_objects : State → Ruled (Unit {0} × State)

@@ -9,7 +9,7 @@ ghost use Rattle.c_types_objects.specs.Changes.{changed};
 ghost use Rattle.c_types_objects.specs.UnitObjects as spec;
 
 use c_layout::{CType, StaticBase, StaticObject, StaticStore, StaticValue};
-use c_types_scopes::{Context, constant_needed};
+use c_types_scopes::{Context, StaticInitializer, constant_needed};
 use cc_base::{Memory, Place, Stop};
 
 /// The length of an array that has so many elements, or none in the whole unit.
@@ -220,21 +220,28 @@ fn stores_fit(stores: &[StaticStore], sizes: &[u64]) -> bool
     true
 }
 
-/// Whether no address in an object's initializer goes past its object.
-fn object_fits(object: &StaticObject, sizes: &[u64]) -> bool
-    ensures { result ≡ spec.stores_fit sizes.now (static_view object.now).stores }
+/// Whether no address in the initializer of the object with a number goes past its object.
+fn object_fits(objects: &[StaticObject], number: u32, sizes: &[u64]) -> bool
+    ensures { result ≡ spec.object_fits sizes.now (slice_get (map static_view objects.now) number) }
 {
-    stores_fit(object.stores.as_slice(), sizes)
+    match objects.get(number as usize) {
+        Some(object) => stores_fit(object.stores.as_slice(), sizes),
+        None => true,
+    }
 }
 
-/// The name of the first object whose initializer goes past an object.
+/// The `=` of the first initializer that goes past an object.
 #[tactic(auto, unfolding(crate::specs::UnitObjects::first_past))]
-fn first_past(objects: &[StaticObject], sizes: &[u64]) -> Option<Place>
-    ensures { result ≡ spec.first_past sizes.now (map static_view objects.now) }
+fn first_past(
+    objects: &[StaticObject],
+    sizes: &[u64],
+    initializers: &[StaticInitializer],
+) -> Option<Place>
+    ensures { result ≡ spec.first_past sizes.now (map static_view objects.now) initializers.now }
 {
-    for at in 0..objects.len() {
-        if !object_fits(&objects[at], sizes) {
-            return Some(objects[at].place);
+    for at in 0..initializers.len() {
+        if !object_fits(objects, initializers[at].object, sizes) {
+            return Some(initializers[at].equals);
         }
     }
     None
@@ -244,15 +251,15 @@ fn first_past(objects: &[StaticObject], sizes: &[u64]) -> Option<Place>
 ///
 /// # Errors
 ///
-/// `ConstantNeeded` at the name of the first object whose initializer goes past an array of which
-/// the length became known behind it (6.6p9, 6.7.9p4); or want of memory.
+/// `ConstantNeeded` at the `=` of the first initializer that goes past an array of which the length
+/// became known behind it (6.6p9, 6.7.9p4); or want of memory.
 pub fn finish_objects(cx: &mut Context) -> Result<(), Stop>
     ensures { Leads (λ _. tt) (spec.finished_objects (state cx.old)) result (state cx.new) }
 {
     complete_objects(cx);
     let sizes = object_sizes(cx)?;
     bound_objects(cx, sizes.as_slice());
-    match first_past(cx.statics.as_slice(), sizes.as_slice()) {
+    match first_past(cx.statics.as_slice(), sizes.as_slice(), cx.initializers.as_slice()) {
         Some(place) => Err(constant_needed(place)),
         None => Ok(()),
     }

@@ -4,6 +4,8 @@ use Rattle.std.specs.Global.{Global}
 use Rattle.cc_base.specs.declared.diagnostics.Place.{Place}
 use Rattle.c_layout.specs.Types.{Ty, Int, Struct, Void}
 use Rattle.c_layout.specs.SyntaxTrees.{LayerView, TypeNameView}
+use Rattle.c_layout.specs.declared.syntax_tree.declarations.Storage.{Storage}
+use Rattle.c_layout.specs.declared.syntax_tree.declarations.Storage.TheVariants as storage
 use Rattle.c_layout.specs.declared.syntax_tree.expressions.Name.{Name}
 use Rattle.c_layout.specs.declared.syntax_tree.expressions.Brackets.{Brackets}
 use Rattle.c_layout.specs.declared.syntax_tree.expressions.TypeNameWord.{TypeNameWord}
@@ -127,9 +129,17 @@ enumeration_word s at n = as_enumeration (enumeration_tag s at n)
 abbrev pub typedef_word : State → Name → Ruled (Option DeclaredView)
 typedef_word s n = as_typedef (typedef_named s n)
 
--- what one word says; the refusal of a storage class is at the place of the `sizeof` or the cast
+-- `auto` and `register` say nothing; other storage classes are refused at the place of the `sizeof` or the cast
+abbrev pub storage_word : State → Place → Storage → Ruled (Option DeclaredView × State)
+storage_word s at storage.Auto = Ok (None, s)
+storage_word s at storage.Register = Ok (None, s)
+storage_word s at storage.Typedef = type_fault at
+storage_word s at storage.Extern = type_fault at
+storage_word s at storage.Static = type_fault at
+
+-- what one word says
 abbrev pub word_type : State → Place → TypeNameWord → Ruled (Option DeclaredView × State)
-word_type s at (word.Storage p) = type_fault at
+word_type s at (word.Storage p class) = storage_word s at class
 word_type s at (word.Qualifier p) = Ok (None, s)
 word_type s at (word.Type p w) = Ok (None, s)
 word_type s at (word.Struct p n) = struct_word s n

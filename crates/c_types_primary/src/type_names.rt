@@ -10,7 +10,7 @@ ghost use Rattle.c_types_primary.specs.TypeNames as spec;
 ghost use Rattle.c_types_primary.specs.TypeNames.{tagged_view, said_view, steps_view, numbers_view, same_number};
 
 use crate::primaries::meaning_of;
-use c_layout::{AbstractLayer, Brackets, CType, Name, TypeName, TypeNameWord};
+use c_layout::{AbstractLayer, Brackets, CType, Name, Storage, TypeName, TypeNameWord};
 use c_types_rules::{NamedKind, WordCounts, int_kind};
 use c_types_scopes::{
     Context, DeclaredType, Meaning, Tag, TypeStep, constant_needed, redeclared, stepped,
@@ -132,12 +132,23 @@ fn typedef_word(cx: &Context, name: &Name) -> Result<Tagged, Stop>
     Ok(Tagged::Type(typedef_named(cx, name)?))
 }
 
+/// What a storage class says: `auto` and `register` say nothing, and others are refused at the place
+/// of the `sizeof` or the cast (6.7.1, 6.7.7).
+fn storage_word(cx: &Context, place: Place, class: Storage) -> Result<Tagged, Stop>
+    ensures { Leads tagged_view (spec.storage_word (state cx.now) place class) result (state cx.now) }
+{
+    match class {
+        Storage::Auto | Storage::Register => Ok(Tagged::Nothing),
+        Storage::Typedef | Storage::Extern | Storage::Static => Err(type_fault(place)),
+    }
+}
+
 /// What one word of a type name says. `place` is that of the `sizeof` or the cast.
 fn word_type(cx: &mut Context, place: Place, word: &TypeNameWord) -> Result<Tagged, Stop>
     ensures { Leads tagged_view (spec.word_type (state cx.old) place word.now) result (state cx.new) }
 {
     match word {
-        TypeNameWord::Storage(_) => Err(type_fault(place)),
+        TypeNameWord::Storage(_, class) => storage_word(cx, place, *class),
         TypeNameWord::Qualifier(_) => Ok(Tagged::Nothing),
         TypeNameWord::Type(_, _) => Ok(Tagged::Nothing),
         TypeNameWord::Struct(_, tag) => struct_word(cx, tag),

@@ -117,11 +117,11 @@ expressions_stay s (ByTerm e) = stays_same s
 expressions_stay s (ByLvalue l) = stays_same s
 expressions_stay s (ByStores xs) = list_stays xs s
 
-pub static_leads : (s : State) (at : Place) (index number : ℕ) (equals : Place) (t : Ty) (i : InitializerTree) → Leads Stays s (statics.static_initializer s at index number equals t i)
-static_leads s at index number equals t i =
-    then Stays stays_twice s (initializer_of s equals t i) (statics.judged_static at index number equals) (initializer_leads Stays steps_stay s equals t i)
-    (λ m u. cond_leads Stays u (statics.has_size u.known m.1) (statics.store_static equals index number m.0 m.1 u) (type_fault at)
-    (then Stays stays_twice u (static_stores equals m.0 u) (statics.with_initial index number m.1) (kept_leads Stays u (with_expressions u m.0) (constant_stores u.known equals m.0) (expressions_stay u m.0)) (λ stores v. stays_same v)) tt)
+pub static_leads : (s : State) (index number : ℕ) (equals : Place) (t : Ty) (i : InitializerTree) → Leads Stays s (statics.static_initializer s index number equals t i)
+static_leads s index number equals t i =
+    then Stays stays_twice s (initializer_of s equals t i) (statics.judged_static index number equals) (initializer_leads Stays steps_stay s equals t i)
+    (λ m u. cond_leads Stays u (statics.has_size u.known m.1) (statics.store_static equals index number m.0 m.1 u) (type_fault equals)
+    (then Stays stays_twice u (static_stores equals m.0 u) (statics.with_initial equals index number m.1) (kept_leads Stays u (with_expressions u m.0) (constant_stores u.known equals m.0) (expressions_stay u m.0)) (λ stores v. stays_same v)) tt)
 
 static_more : (n : NameView) (d : DeclaredView) (s : State) → Stays s (with_static_object n d s)
 static_more n d s = declares s.scopes.ordinary s.scopes.meanings (count s) (count s) (number_in s.scopes.names n.text) (meaning.Static (length s.objects)) [] (omega arith) (none_new (count s) (count s)) (λ alive all. tt)
@@ -186,10 +186,10 @@ module _ (returned : Ty) where
 
   -- ---- objects with an initializer
 
-  started : (n : NameView) (d : DeclaredView) (parts : PartsView) (s t : State) (m : InitializedView × Ty) → Stays (with_automatic n d s) t → ((alive : List ℕ) → SeesAt alive (with_automatic n d s) → ScopedMade alive m) → (b : Bool)
-      → Declares s parts (cond b (Ok (locals.started n.at (count s) m.0 (with_object parts (count s)), with_local_type (count s) m.1 t)) (type_fault n.at))
-  started n d parts s t m g h false = tt
-  started n d parts s t m g h true = record {
+  started : (n : NameView) (d : DeclaredView) (equals : Place) (parts : PartsView) (s t : State) (m : InitializedView × Ty) → Stays (with_automatic n d s) t → ((alive : List ℕ) → SeesAt alive (with_automatic n d s) → ScopedMade alive m) → (b : Bool)
+      → Declares s parts (cond b (Ok (locals.started n.at (count s) m.0 (with_object parts (count s)), with_local_type (count s) m.1 t)) (type_fault equals))
+  started n d equals parts s t m g h false = tt
+  started n d equals parts s t m g h true = record {
     new = count s ∷ [];
     made = start n.at (count s) m.0 ∷ [];
     follows = follows_stays s (with_automatic n d s) (with_local_type (count s) m.1 t) (count s ∷ []) (automatic_more n d s) (stays_twice (with_automatic n d s) t (with_local_type (count s) m.1 t) g (retyped_stays (count s) m.1 t));
@@ -198,16 +198,16 @@ module _ (returned : Ty) where
     scoped = λ f same alive all sees apart. two (is_scoped_statement f alive (start n.at (count s) m.0)) true (start_scoped f alive n.at (count s) m.0 (all (count s) (in_itself (count s))) (h alive ((automatic_more n d s).sees alive all sees))) refl;
   }
 
-  automatic_by : (n : NameView) (d : DeclaredView) (parts : PartsView) (s : State) (r : Ruled ((InitializedView × Ty) × State)) → Yields (with_automatic n d s) ScopedMade r → Declares s parts (after r (locals.start_automatic n.at (count s) (with_object parts (count s))))
-  automatic_by n d parts s (Ok p) h = started n d parts s p.1 p.0 h.0 h.1 (statics.has_size p.1.known p.0.1)
-  automatic_by n d parts s (Err f) h = tt
+  automatic_by : (n : NameView) (d : DeclaredView) (equals : Place) (parts : PartsView) (s : State) (r : Ruled ((InitializedView × Ty) × State)) → Yields (with_automatic n d s) ScopedMade r → Declares s parts (after r (locals.start_automatic n.at equals (count s) (with_object parts (count s))))
+  automatic_by n d equals parts s (Ok p) h = started n d equals parts s p.1 p.0 h.0 h.1 (statics.has_size p.1.known p.0.1)
+  automatic_by n d equals parts s (Err f) h = tt
 
   initialized_by : (n : NameView) (d : DeclaredView) (equals : Place) (i : InitializerTree) (parts : PartsView) (b : Ruled Bool) (s : State) → Declares s parts (locals.initialized_by n d equals i parts b s)
   initialized_by n d equals i parts (Ok true) s =
       behind s parts (locals.initialized_static n d equals i s) (locals.parts_kept parts)
-      (onward Stays stays_twice s (with_static_object n d s) (locals.initialized_static n d equals i s) (static_more n d s) (static_leads (with_static_object n d s) n.at (length s.objects) (length s.statics) equals d.ctype i))
+      (onward Stays stays_twice s (with_static_object n d s) (locals.initialized_static n d equals i s) (static_more n d s) (static_leads (with_static_object n d s) (length s.objects) (length s.statics) equals d.ctype i))
       (λ u t. adds_nothing t t returned parts (stays_same t))
-  initialized_by n d equals i parts (Ok false) s = automatic_by n d parts s (initializer_of (with_automatic n d s) equals d.ctype i) (initializer_yields (with_automatic n d s) equals d.ctype i)
+  initialized_by n d equals i parts (Ok false) s = automatic_by n d equals parts s (initializer_of (with_automatic n d s) equals d.ctype i) (initializer_yields (with_automatic n d s) equals d.ctype i)
   initialized_by n d equals i parts (Err f) s = tt
 
   -- ---- declarators

@@ -101,15 +101,15 @@ object_in n stored has d s =
 declared_object : (s : State) (base : SpecifiedView) (n : NameView) (layers : List DeclaratorLayerView) (has : Bool) → Leads Stays s (external.declared_object s base n layers has)
 declared_object s base n layers has = step s (declared_type s n.at base.declared layers) (external.object_in n base.storage has) (declared_leads Stays specifiers_stay s n.at base.declared layers) (λ d t. object_in n base.storage has d t)
 
-initializer_by : (at equals : Place) (i : InitializerTree) (index : ℕ) (s : State) (r : Ruled (Ty × ℕ)) → Leads Stays s (external.initializer_by at equals i index s r)
-initializer_by at equals i index s (Ok o) = static_leads s at index o.1 equals o.0 i
-initializer_by at equals i index s (Err f) = tt
+initializer_by : (equals : Place) (i : InitializerTree) (index : ℕ) (s : State) (r : Ruled (Ty × ℕ)) → Leads Stays s (external.initializer_by equals i index s r)
+initializer_by equals i index s (Ok o) = static_leads s index o.1 equals o.0 i
+initializer_by equals i index s (Err f) = tt
 
 object_initializer : (at equals : Place) (i : InitializerTree) (index : ℕ) (s : State) → Leads Stays s (external.object_initializer at equals i index s)
 object_initializer at equals i index s =
     let begun : State = objects.with_initialized index s in
     cond_leads Stays s (objects.is_initialized s index) (redeclared at) (external.initializer_at at equals i index begun) tt
-    (onward Stays stays_twice s begun (external.initializer_at at equals i index begun) (stays_same s) (initializer_by at equals i index begun (objects.object_at begun at index)))
+    (onward Stays stays_twice s begun (external.initializer_at at equals i index begun) (stays_same s) (initializer_by equals i index begun (objects.object_at begun at index)))
 
 -- ---- prototypes
 

@@ -14,6 +14,7 @@ use Rattle.c_types_scopes.specs.Names.{ScopesView, scopes_view, no_scopes}
 use Rattle.c_types_scopes.specs.StructTables.{TypesView, types_view, no_types}
 use Rattle.c_types_scopes.specs.declared.context.Body.{Body}
 use Rattle.c_types_scopes.specs.declared.context.Context.{Context}
+use Rattle.c_types_scopes.specs.declared.context.StaticInitializer.{StaticInitializer}
 
 -- the function whose body is typed: its number, its objects, and the enumerated types that their declarations name
 pub record BodyView : Type 0 where
@@ -26,7 +27,7 @@ body_view b = record { number = b.number; locals = map local_view b.locals.items
 
 -- what typing knows: besides the data model and the structs, the names in scope, the members of structs, the values of
 -- the enumerators of each enumerated type, what the typedef names, objects and functions are, what the unit defines,
--- its static objects, literals and constants so far, its calls, how many operands of `sizeof` are open, the body at
+-- its static objects and their initializers, its literals and constants so far, its calls, how many operands of `sizeof` are open, the body at
 -- hand, and the struct that a stream points to
 pub record State : Type 0 where
   pub known : Known
@@ -38,6 +39,7 @@ pub record State : Type 0 where
   pub functions : List SignatureView
   pub definitions : DefinitionsView
   pub statics : List StaticView
+  pub initializers : List StaticInitializer
   pub literals : List LiteralView
   pub constants : List TermTree
   pub calls : List Call
@@ -56,6 +58,7 @@ state cx = record {
   functions = map signature_view cx.functions.items;
   definitions = definitions_view cx.definitions;
   statics = map static_view cx.statics.items;
+  initializers = cx.initializers.items;
   literals = map literal_view cx.literals.items;
   constants = map term_tree cx.constants.items;
   calls = cx.calls;
@@ -76,6 +79,7 @@ first_state m = record {
   functions = [];
   definitions = no_definitions;
   statics = [];
+  initializers = [];
   literals = [];
   constants = [];
   calls = [];
@@ -116,3 +120,7 @@ with_local s name at d = record s { body = record s.body { locals = s.body.local
 -- an object of static storage more, all zero so far
 abbrev pub with_static : State → List ℕ → Place → Ty → State
 with_static s name at t = record s { statics = s.statics ++ record { name = name; at = at; ctype = t; stores = [] } ∷ [] }
+
+-- an initializer of an object of static storage more
+abbrev pub with_initializer : State → ℕ → Place → State
+with_initializer s object equals = record s { initializers = s.initializers ++ record { object = object; equals = equals } ∷ [] }

@@ -159,6 +159,14 @@ pub struct Body {
     pub enumerations: Vec<Option<u32>>,
 }
 
+/// An initializer of an object of static storage: the object's number among those of the run, and the
+/// place of its `=` (6.7.9).
+#[derive(Clone, Copy)]
+pub struct StaticInitializer {
+    pub object: u32,
+    pub equals: Place,
+}
+
 /// What typing knows at a place of a unit.
 #[derive(Drop)]
 pub struct Context {
@@ -174,6 +182,8 @@ pub struct Context {
     pub definitions: Definitions,
     /// The objects of static storage of the run.
     pub statics: Vec<StaticObject>,
+    /// Their initializers, in reading order.
+    pub initializers: Vec<StaticInitializer>,
     /// The string literals of the run.
     pub literals: Vec<StringLiteral>,
     /// The expressions of which only the values are needed.
@@ -202,6 +212,7 @@ impl Context {
             functions: Vec::new(alloc),
             definitions: Definitions::new(alloc),
             statics: Vec::new(alloc),
+            initializers: Vec::new(alloc),
             literals: Vec::new(alloc),
             constants: Vec::new(alloc),
             calls: CallGraph::new(alloc),
@@ -305,5 +316,13 @@ impl Context {
             stores: Vec::new(self.alloc),
         })?;
         Ok(number)
+    }
+
+    /// Notes an initializer of an object of static storage.
+    pub fn note_initializer(&mut self, object: u32, equals: Place) -> Result<(), Memory>
+        ensures { IfOk result (λ _. state self.new ≡ spec.with_initializer (state self.old) object equals) }
+    {
+        self.initializers.push(StaticInitializer { object, equals })?;
+        Ok(())
     }
 }

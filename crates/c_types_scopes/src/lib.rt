@@ -14,7 +14,7 @@ mod scope_table;
 mod struct_types;
 mod type_steps;
 
-pub use context::{Body, Context, Scopes};
+pub use context::{Body, Context, Scopes, StaticInitializer};
 pub use data_models::DataModel;
 pub use declared_types::{DeclaredType, ObjectDeclaration, Signature, copied_types};
 pub use definitions::Definitions;

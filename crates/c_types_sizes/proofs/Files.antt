@@ -35,6 +35,7 @@ use Rattle.c_types_sizes.specs.FitTypes.{HasElements, IsFit}
 use Rattle.c_types_sizes.proofs.FitTypes.{elements_grown, object_fit, composite_fit}
 use Rattle.c_types_sizes.proofs.Keeping as keeping
 use Rattle.c_types_sizes.proofs.Keeping.{Sized, Keeps, keeps_same, To, any, here, onward, then, cond_to, led}
+use Rattle.c_types_sizes.proofs.Listed.{listed_more}
 use Rattle.c_types_sizes.proofs.Specifying.{HasParts, Parts, Said, specifiers_to, declared_to}
 use Rattle.c_types_sizes.proofs.Locals.{Fits, static_typed, static_to}
 use Rattle.c_types_sizes.proofs.Heads.{HasFit, head_to}
@@ -45,17 +46,17 @@ module _ (s : State) (h : Sized s) where
   run_more : (n : NameView) (t : Ty) → IsFit s.known t → Sized (with_static s n.text n.at t)
   run_more n t fit =
       let new : StaticView = record { name = n.text; at = n.at; ctype = t; stores = [] } in
-      keeping.with_static s.known s.types s.typedefs s.objects s.body.locals s.statics h (s.statics ++ new ∷ []) (each_more (λ (o : StaticView). IsFit s.known o.ctype) s.statics new h.static fit)
+      keeping.with_static s.known s.types s.typedefs s.objects s.body.locals s.statics s.initializers h (s.statics ++ new ∷ []) s.initializers (each_more (λ (o : StaticView). IsFit s.known o.ctype) s.statics new h.static fit) (listed_more s.initializers s.statics new refl h.listed)
 
   declared_more : (name : ℕ) (o : ObjectView) → IsFit s.known o.declared.ctype → Sized (objects.with_declaration name o s)
-  declared_more name o fit = keeping.with_declared s.known s.types s.typedefs s.objects s.body.locals s.statics h (s.objects ++ o ∷ []) (each_more (λ (x : ObjectView). IsFit s.known x.declared.ctype) s.objects o h.declared fit)
+  declared_more name o fit = keeping.with_declared s.known s.types s.typedefs s.objects s.body.locals s.statics s.initializers h (s.objects ++ o ∷ []) (each_more (λ (x : ObjectView). IsFit s.known x.declared.ctype) s.objects o h.declared fit)
 
   -- an object that is changed but for its type
   alike : (f : ObjectView → ObjectView) (index : ℕ) → ((o : ObjectView) → IsFit s.known o.declared.ctype → IsFit s.known (f o).declared.ctype) → Sized (record s { objects = changed f index s.objects })
-  alike f index same = keeping.with_declared s.known s.types s.typedefs s.objects s.body.locals s.statics h (changed f index s.objects) (each_changed (λ (x : ObjectView). IsFit s.known x.declared.ctype) f index s.objects same h.declared)
+  alike f index same = keeping.with_declared s.known s.types s.typedefs s.objects s.body.locals s.statics s.initializers h (changed f index s.objects) (each_changed (λ (x : ObjectView). IsFit s.known x.declared.ctype) f index s.objects same h.declared)
 
   typedef_more : (name : ℕ) (d : DeclaredView) → HasParts s.known d → Sized (external.with_typedef name d s)
-  typedef_more name d had = keeping.with_named s.known s.types s.typedefs s.objects s.body.locals s.statics h (s.typedefs ++ d ∷ []) (each_more (λ (x : DeclaredView). HasElements s.known x.ctype) s.typedefs d h.named had)
+  typedef_more name d had = keeping.with_named s.known s.types s.typedefs s.objects s.body.locals s.statics s.initializers h (s.typedefs ++ d ∷ []) (each_more (λ (x : DeclaredView). HasElements s.known x.ctype) s.typedefs d h.named had)
 
 first_to : (name : ℕ) (n : NameView) (d : DeclaredView) (s : State) (index : ℕ) (b : Bool) → Sized s → Fits d s
     → To s any (Ok (index, objects.with_declaration name (objects.first_object (cond b (Some (length s.statics)) None) d) (cond b (with_static s n.text n.at d.ctype) s)))
@@ -95,9 +96,9 @@ declared_object_to s base n layers has h had =
     then s Parts any (declared_type s n.at base.declared layers) (external.object_in n base.storage has) (declared_to s n.at base.declared layers h had)
     (λ d t g later parts. cond_to t any (objects.may_be_object t.known d.ctype base.storage has) (external.object_named n d t) (type_fault n.at) (λ may. named_to n d t g (object_fit t.known d.ctype base.storage has parts may)) tt)
 
-initializer_to : (at equals : Place) (i : InitializerTree) (index : ℕ) (s : State) (o : Option ObjectView) → Sized s → To s any (external.initializer_by at equals i index s (objects.object_of at o))
+initializer_to : (at equals : Place) (i : InitializerTree) (index : ℕ) (s : State) (o : Option ObjectView) → Sized s → To s any (external.initializer_by equals i index s (objects.object_of at o))
 initializer_to at equals i index s None h = tt
-initializer_to at equals i index s (Some o) h = static_to s at index (number_or o.number) equals o.declared.ctype i h
+initializer_to at equals i index s (Some o) h = static_to s index (number_or o.number) equals o.declared.ctype i h
 
 object_initializer_to : (at equals : Place) (i : InitializerTree) (index : ℕ) (s : State) → Sized s → To s any (external.object_initializer at equals i index s)
 object_initializer_to at equals i index s h =

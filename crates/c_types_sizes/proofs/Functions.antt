@@ -164,6 +164,7 @@ first_sized m = record {
   declared = λ i o at. none_is o at;
   local = λ i l at. none_is l at;
   static = λ i o at. none_is o at;
+  listed = λ i o at. none_is o at;
 }
 
 pub begun_sized : (m : Model) (es : List ExternalTree) → Sized (definitions.with_externals es (with_stream (first_state m))) × IsLater (first_state m) (definitions.with_externals es (with_stream (first_state m)))

@@ -34,7 +34,7 @@ use Rattle.c_types_sizes.proofs.Locals.{Fits}
 parameter_more : (s : State) (name : ℕ) (n : NameView) (d : DeclaredView) → Sized s → Fits d s → Sized (parameters.declared_local name n d s)
 parameter_more s name n d h fit =
     let new : LocalView = record { name = n.text; at = n.at; ctype = d.ctype } in
-    keeping.with_local s.known s.types s.typedefs s.objects s.body.locals s.statics h (s.body.locals ++ new ∷ []) (each_more (λ (l : LocalView). IsFit s.known l.ctype) s.body.locals new h.local fit)
+    keeping.with_local s.known s.types s.typedefs s.objects s.body.locals s.statics s.initializers h (s.body.locals ++ new ∷ []) (each_more (λ (l : LocalView). IsFit s.known l.ctype) s.body.locals new h.local fit)
 
 parameter_to : (name : ℕ) (n : NameView) (d : DeclaredView) (s : State) (m : Option Meaning) → Sized s → Fits d s → To s any (parameters.parameter_of name n d s m)
 parameter_to name n d s None h fit = ((parameter_more s name n d h fit, later_same s.known s.types), tt)
@@ -99,7 +99,7 @@ head_holds k ts named (Err f) h = tt
 
 -- a body without objects
 pub bare : (s : State) → Sized s → Sized (parameters.without_locals s)
-bare s h = keeping.with_local s.known s.types s.typedefs s.objects s.body.locals s.statics h [] (λ i l at. absurd (cc))
+bare s h = keeping.with_local s.known s.types s.typedefs s.objects s.body.locals s.statics s.initializers h [] (λ i l at. absurd (cc))
 
 pub head_to : (s : State) (b : DeclaredView) (f : FunctionDeclaratorView) → Sized s → To s HasFit (heads.function_head s b f)
 head_to s b f h =

@@ -14,6 +14,7 @@ use Rattle.c_types_scopes.specs.Refusals.{Ruled}
 use Rattle.c_types_scopes.specs.StructTables as types
 use Rattle.c_types_scopes.specs.StructTables.{TypesView}
 use Rattle.c_types_scopes.specs.States.{State, is_evaluated}
+use Rattle.c_types_scopes.specs.declared.context.StaticInitializer.{StaticInitializer}
 use Rattle.c_types_declarations.specs.ContextSteps.{with_types, with_struct, with_body, with_member, with_complete}
 use Rattle.c_types_laws.proofs.Leading.{Leads}
 use Rattle.c_types_laws.proofs.Expressing.{HasSteps}
@@ -23,11 +24,13 @@ use Rattle.c_types_marks_layouts.proofs.Kept.{appended_is, front_stays, set_othe
 use Rattle.c_types_marks.specs.ModelTypes.{Each}
 use Rattle.c_types_sizes.specs.FitTypes.{HasElements, IsFit}
 use Rattle.c_types_sizes.proofs.FitTypes.{elements_grown, fit_grown}
+use Rattle.c_types_sizes.proofs.Listed.{AreListed}
 
 -- ---- what is kept
 
--- the types of typedef names, of objects that were declared, of local objects and of those of the run, by structs of which none is large
-pub record IsSized (k : Known) (table : TypesView) (typedefs : List DeclaredView) (objects : List ObjectView) (locals : List LocalView) (statics : List StaticView) : Type 0 where
+-- the types of typedef names, of objects that were declared, of local objects and of those of the run, by structs of which none is large;
+-- and where the stores of the latter come from
+pub record IsSized (k : Known) (table : TypesView) (typedefs : List DeclaredView) (objects : List ObjectView) (locals : List LocalView) (statics : List StaticView) (initializers : List StaticInitializer) : Type 0 where
   pub settled : k.structs ≡ table.structs
   pub bodies : (n : ℕ) (v : StructView) → slice_get table.structs n ≡ Some v → (v ≡ no_struct) ⊎ (types.has_body table n ≡ true)
   pub small : (n : ℕ) (v : StructView) → slice_get table.structs n ≡ Some v → v.size ≤ 2 ^ 30
@@ -35,9 +38,10 @@ pub record IsSized (k : Known) (table : TypesView) (typedefs : List DeclaredView
   pub declared : Each (λ (o : ObjectView). IsFit k o.declared.ctype) objects
   pub local : Each (λ (l : LocalView). IsFit k l.ctype) locals
   pub static : Each (λ (o : StaticView). IsFit k o.ctype) statics
+  pub listed : AreListed initializers statics
 
 abbrev pub Sized : State → Type 0
-Sized s = IsSized s.known s.types s.typedefs s.objects s.body.locals s.statics
+Sized s = IsSized s.known s.types s.typedefs s.objects s.body.locals s.statics s.initializers
 
 abbrev pub IsLater : State → State → Type 0
 IsLater s t = IsLaterBy s.known s.types t.known t.types
@@ -53,18 +57,18 @@ keeps_twice s t u g h sized = (let a = g sized in let b = h a.0 in (b.0, later_t
 
 -- ---- other lists
 
-module _ (k : Known) (table : TypesView) (typedefs : List DeclaredView) (objects : List ObjectView) (locals : List LocalView) (statics : List StaticView) (h : IsSized k table typedefs objects locals statics) where
-  pub with_named : (xs : List DeclaredView) → Each (λ (d : DeclaredView). HasElements k d.ctype) xs → IsSized k table xs objects locals statics
-  with_named xs each = record { settled = h.settled; bodies = h.bodies; small = h.small; named = each; declared = h.declared; local = h.local; static = h.static }
+module _ (k : Known) (table : TypesView) (typedefs : List DeclaredView) (objects : List ObjectView) (locals : List LocalView) (statics : List StaticView) (initializers : List StaticInitializer) (h : IsSized k table typedefs objects locals statics initializers) where
+  pub with_named : (xs : List DeclaredView) → Each (λ (d : DeclaredView). HasElements k d.ctype) xs → IsSized k table xs objects locals statics initializers
+  with_named xs each = record { settled = h.settled; bodies = h.bodies; small = h.small; named = each; declared = h.declared; local = h.local; static = h.static; listed = h.listed }
 
-  pub with_declared : (xs : List ObjectView) → Each (λ (o : ObjectView). IsFit k o.declared.ctype) xs → IsSized k table typedefs xs locals statics
-  with_declared xs each = record { settled = h.settled; bodies = h.bodies; small = h.small; named = h.named; declared = each; local = h.local; static = h.static }
+  pub with_declared : (xs : List ObjectView) → Each (λ (o : ObjectView). IsFit k o.declared.ctype) xs → IsSized k table typedefs xs locals statics initializers
+  with_declared xs each = record { settled = h.settled; bodies = h.bodies; small = h.small; named = h.named; declared = each; local = h.local; static = h.static; listed = h.listed }
 
-  pub with_local : (xs : List LocalView) → Each (λ (l : LocalView). IsFit k l.ctype) xs → IsSized k table typedefs objects xs statics
-  with_local xs each = record { settled = h.settled; bodies = h.bodies; small = h.small; named = h.named; declared = h.declared; local = each; static = h.static }
+  pub with_local : (xs : List LocalView) → Each (λ (l : LocalView). IsFit k l.ctype) xs → IsSized k table typedefs objects xs statics initializers
+  with_local xs each = record { settled = h.settled; bodies = h.bodies; small = h.small; named = h.named; declared = h.declared; local = each; static = h.static; listed = h.listed }
 
-  pub with_static : (xs : List StaticView) → Each (λ (o : StaticView). IsFit k o.ctype) xs → IsSized k table typedefs objects locals xs
-  with_static xs each = record { settled = h.settled; bodies = h.bodies; small = h.small; named = h.named; declared = h.declared; local = h.local; static = each }
+  pub with_static : (xs : List StaticView) (ys : List StaticInitializer) → Each (λ (o : StaticView). IsFit k o.ctype) xs → AreListed ys xs → IsSized k table typedefs objects locals xs ys
+  with_static xs ys each listed = record { settled = h.settled; bodies = h.bodies; small = h.small; named = h.named; declared = h.declared; local = h.local; static = each; listed = listed }
 
 -- ---- other structs
 
@@ -74,8 +78,8 @@ AreMet table = (n : ℕ) (v : StructView) → slice_get table.structs n ≡ Some
 abbrev AreSmall : TypesView → Type 0
 AreSmall table = (n : ℕ) (v : StructView) → slice_get table.structs n ≡ Some v → v.size ≤ 2 ^ 30
 
-sized_with : (k later : Known) (table new : TypesView) (typedefs : List DeclaredView) (objects : List ObjectView) (locals : List LocalView) (statics : List StaticView) → Extends k later → later.structs ≡ new.structs → AreMet new → AreSmall new
-    → IsSized k table typedefs objects locals statics → IsSized later new typedefs objects locals statics
+sized_with : (k later : Known) (table new : TypesView) (typedefs : List DeclaredView) (objects : List ObjectView) (locals : List LocalView) (statics : List StaticView) (initializers : List StaticInitializer) → Extends k later → later.structs ≡ new.structs → AreMet new → AreSmall new
+    → IsSized k table typedefs objects locals statics initializers → IsSized later new typedefs objects locals statics initializers
 sized_with k later table new typedefs objects locals statics g settled met small h = record {
   settled = settled;
   bodies = met;
@@ -84,13 +88,14 @@ sized_with k later table new typedefs objects locals statics g settled met small
   declared = λ i o at. fit_grown k later o.declared.ctype g (h.declared i o at);
   local = λ i l at. fit_grown k later l.ctype g (h.local i l at);
   static = λ i o at. fit_grown k later o.ctype g (h.static i o at);
+  listed = h.listed;
 }
 
 keeps_structs : (s : State) (table : TypesView) → (Sized s → AreMet table × AreSmall table × IsLaterBy s.known s.types (record s.known { structs = table.structs }) table) → Keeps s (with_types s table)
 keeps_structs s table h sized =
     let g = h sized in
     let later : Known = record s.known { structs = table.structs } in
-    (sized_with s.known later s.types table s.typedefs s.objects s.body.locals s.statics g.2.extends refl g.0 g.1 sized, g.2)
+    (sized_with s.known later s.types table s.typedefs s.objects s.body.locals s.statics s.initializers g.2.extends refl g.0 g.1 sized, g.2)
 
 none_small : (v : StructView) → v ≡ no_struct → v.size ≤ 2 ^ 30
 none_small v is = let e : v.size ≡ 0 = ap (λ x. x.size) is in omega (arith, e)
@@ -152,7 +157,7 @@ struct_completed s t owner made first fits g h =
       | inr other ↦ inr (set_other t.types.structs owner n made other ∙ is)
     ] in
     let grown : Extends t.known u.known = record { numbers = refl; structs = λ i v is. there i v (ap (λ l. slice_get l i) (sym x.0.settled) ∙ is) } in (
-      sized_with t.known u.known t.types u.types t.typedefs t.objects t.body.locals t.statics grown refl
+      sized_with t.known u.known t.types u.types t.typedefs t.objects t.body.locals t.statics t.initializers grown refl
           (λ n v is. elim (cases_eq n owner) [
             | inl same ↦ inr (subst (λ m. types.has_body t.types m ≡ true) (sym same) (x.1.met owner (key_there owner s.types.bodies)))
             | inr other ↦ x.0.bodies n v (sym (set_other t.types.structs owner n made other) ∙ is)

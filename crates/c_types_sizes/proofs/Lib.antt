@@ -1,4 +1,5 @@
 pub mod FitTypes
+pub mod Listed
 pub mod Keeping
 pub mod Specifying
 pub mod Locals

@@ -1,5 +1,5 @@
 -- Declarations in blocks, and so bodies, keep the types of what is declared fit.
-use Rattle.std.proofs.Common.{ℕ, List, [], ◌∷◌, ◌++◌, Option, Some, None, Ok, Err, length}
+use Rattle.std.proofs.Common.{ℕ, List, [], ◌∷◌, ◌++◌, Option, Some, None, Ok, Err, length, refl}
 use Rattle.std.specs.Prelude.{Bool, true, false}
 use Rattle.cc_base.specs.declared.diagnostics.Place.{Place}
 use Rattle.c_layout.specs.Types.{Ty}
@@ -35,6 +35,7 @@ use Rattle.c_types_sizes.specs.FitTypes.{IsFit}
 use Rattle.c_types_sizes.proofs.FitTypes.{elements_grown, fit_grown, complete_fit, local_fit}
 use Rattle.c_types_sizes.proofs.Keeping as keeping
 use Rattle.c_types_sizes.proofs.Keeping.{Sized, Keeps, keeps_same, keeps_twice, steps_keep, To, any, Holds, here, onward, then, cond_to, stays, led, leads_of}
+use Rattle.c_types_sizes.proofs.Listed.{listed_more, listed_typed, listed_stored}
 use Rattle.c_types_sizes.proofs.Specifying.{HasParts, Parts, Said, specifiers_to, declared_to}
 use Rattle.c_types_marks_layouts.proofs.Kept.{later_same}
 
@@ -44,29 +45,30 @@ module _ (s : State) (h : Sized s) where
   pub automatic_more : (n : NameView) (d : DeclaredView) → IsFit s.known d.ctype → Sized (with_automatic n d s)
   automatic_more n d fit =
       let new : LocalView = record { name = n.text; at = n.at; ctype = d.ctype } in
-      keeping.with_local s.known s.types s.typedefs s.objects s.body.locals s.statics h (s.body.locals ++ new ∷ []) (each_more (λ (l : LocalView). IsFit s.known l.ctype) s.body.locals new h.local fit)
+      keeping.with_local s.known s.types s.typedefs s.objects s.body.locals s.statics s.initializers h (s.body.locals ++ new ∷ []) (each_more (λ (l : LocalView). IsFit s.known l.ctype) s.body.locals new h.local fit)
 
   pub static_more : (n : NameView) (d : DeclaredView) → IsFit s.known d.ctype → Sized (with_static_object n d s)
   static_more n d fit =
       let new : StaticView = record { name = n.text; at = n.at; ctype = d.ctype; stores = [] } in
       let object : ObjectView = static_declaration (with_name s n.text) d in
-      keeping.with_static s.known s.types s.typedefs (s.objects ++ object ∷ []) s.body.locals s.statics
-      (keeping.with_declared s.known s.types s.typedefs s.objects s.body.locals s.statics h (s.objects ++ object ∷ []) (each_more (λ (o : ObjectView). IsFit s.known o.declared.ctype) s.objects object h.declared fit))
-      (s.statics ++ new ∷ []) (each_more (λ (o : StaticView). IsFit s.known o.ctype) s.statics new h.static fit)
+      keeping.with_static s.known s.types s.typedefs (s.objects ++ object ∷ []) s.body.locals s.statics s.initializers
+      (keeping.with_declared s.known s.types s.typedefs s.objects s.body.locals s.statics s.initializers h (s.objects ++ object ∷ []) (each_more (λ (o : ObjectView). IsFit s.known o.declared.ctype) s.objects object h.declared fit))
+      (s.statics ++ new ∷ []) s.initializers (each_more (λ (o : StaticView). IsFit s.known o.ctype) s.statics new h.static fit) (listed_more s.initializers s.statics new refl h.listed)
 
   local_typed : (number : ℕ) (t : Ty) → IsFit s.known t → Sized (with_local_type number t s)
   local_typed number t fit =
-      keeping.with_local s.known s.types s.typedefs s.objects s.body.locals s.statics h (changed (typed_local t) number s.body.locals) (each_changed (λ (l : LocalView). IsFit s.known l.ctype) (typed_local t) number s.body.locals (λ l old. fit) h.local)
+      keeping.with_local s.known s.types s.typedefs s.objects s.body.locals s.statics s.initializers h (changed (typed_local t) number s.body.locals) (each_changed (λ (l : LocalView). IsFit s.known l.ctype) (typed_local t) number s.body.locals (λ l old. fit) h.local)
 
   pub static_typed : (index number : ℕ) (t : Ty) → IsFit s.known t → Sized (with_static_type index number t s)
   static_typed index number t fit =
-      keeping.with_static s.known s.types s.typedefs (changed (typed_object t) index s.objects) s.body.locals s.statics
-      (keeping.with_declared s.known s.types s.typedefs s.objects s.body.locals s.statics h (changed (typed_object t) index s.objects) (each_changed (λ (o : ObjectView). IsFit s.known o.declared.ctype) (typed_object t) index s.objects (λ o old. fit) h.declared))
-      (changed (typed_static t) number s.statics) (each_changed (λ (o : StaticView). IsFit s.known o.ctype) (typed_static t) number s.statics (λ o old. fit) h.static)
+      keeping.with_static s.known s.types s.typedefs (changed (typed_object t) index s.objects) s.body.locals s.statics s.initializers
+      (keeping.with_declared s.known s.types s.typedefs s.objects s.body.locals s.statics s.initializers h (changed (typed_object t) index s.objects) (each_changed (λ (o : ObjectView). IsFit s.known o.declared.ctype) (typed_object t) index s.objects (λ o old. fit) h.declared))
+      (changed (typed_static t) number s.statics) s.initializers (each_changed (λ (o : StaticView). IsFit s.known o.ctype) (typed_static t) number s.statics (λ o old. fit) h.static) (listed_typed s.initializers s.statics t number h.listed)
 
-  stored : (number : ℕ) (stores : List StaticStoreView) → Sized (with_stores number stores s)
-  stored number stores =
-      keeping.with_static s.known s.types s.typedefs s.objects s.body.locals s.statics h (changed (stored_static stores) number s.statics) (each_changed (λ (o : StaticView). IsFit s.known o.ctype) (stored_static stores) number s.statics (λ o old. old) h.static)
+  stored : (equals : Place) (number : ℕ) (stores : List StaticStoreView) → Sized (with_stores equals number stores s)
+  stored equals number stores =
+      keeping.with_static s.known s.types s.typedefs s.objects s.body.locals s.statics s.initializers h (changed (stored_static stores) number s.statics) (s.initializers ++ record { object = number; equals = equals } ∷ [])
+      (each_changed (λ (o : StaticView). IsFit s.known o.ctype) (stored_static stores) number s.statics (λ o old. old) h.static) (listed_stored s.initializers s.statics equals number stores h.listed)
 
 -- ---- initializers of objects of static storage
 
@@ -82,18 +84,18 @@ expressions_keep s (ByTerm e) = keeps_same s
 expressions_keep s (ByLvalue l) = keeps_same s
 expressions_keep s (ByStores stores) = list_keeps stores s
 
-stored_to : (equals : Place) (index number : ℕ) (v : InitializedView) (t : Ty) (s : State) (r : Ruled (List StaticStoreView)) → Sized s → IsFit s.known t → To s any (after (kept (with_expressions s v) r) (statics.with_initial index number t))
+stored_to : (equals : Place) (index number : ℕ) (v : InitializedView) (t : Ty) (s : State) (r : Ruled (List StaticStoreView)) → Sized s → IsFit s.known t → To s any (after (kept (with_expressions s v) r) (statics.with_initial equals index number t))
 stored_to equals index number v t s (Ok stores) h fit =
     let w : State = with_expressions s v in
     let e = expressions_keep s v h in
     let typed : State = with_static_type index number t w in
-    ((stored typed (static_typed w e.0 index number t (fit_grown s.known w.known t e.1.extends fit)) number stores, e.1), tt)
+    ((stored typed (static_typed w e.0 index number t (fit_grown s.known w.known t e.1.extends fit)) equals number stores, e.1), tt)
 stored_to equals index number v t s (Err f) h fit = tt
 
-pub static_to : (s : State) (at : Place) (index number : ℕ) (equals : Place) (t : Ty) (i : InitializerTree) → Sized s → To s any (statics.static_initializer s at index number equals t i)
-static_to s at index number equals t i h =
-    then s any any (initializer_of s equals t i) (statics.judged_static at index number equals) (led s (initializer_of s equals t i) h (initializer_leads Keeps steps_keep s equals t i))
-    (λ m u g later x. cond_to u any (statics.has_size u.known m.1) (statics.store_static equals index number m.0 m.1 u) (type_fault at)
+pub static_to : (s : State) (index number : ℕ) (equals : Place) (t : Ty) (i : InitializerTree) → Sized s → To s any (statics.static_initializer s index number equals t i)
+static_to s index number equals t i h =
+    then s any any (initializer_of s equals t i) (statics.judged_static index number equals) (led s (initializer_of s equals t i) h (initializer_leads Keeps steps_keep s equals t i))
+    (λ m u g later x. cond_to u any (statics.has_size u.known m.1) (statics.store_static equals index number m.0 m.1 u) (type_fault equals)
     (λ sized. stored_to equals index number m.0 m.1 u (constant_stores u.known equals m.0) g (complete_fit u.known m.1 sized)) tt)
 
 -- ---- objects of blocks
@@ -124,15 +126,15 @@ initialized_to n d equals i p (Ok true) s h fit =
     let t : State = with_static_object n d s in
     let g = static_more s h n d fit in
     then s any any (locals.initialized_static n d equals i s) (locals.parts_kept p)
-    (onward s t any (locals.initialized_static n d equals i s) (g, later_same s.known s.types) (static_to t n.at (length s.objects) (length s.statics) equals d.ctype i g))
+    (onward s t any (locals.initialized_static n d equals i s) (g, later_same s.known s.types) (static_to t (length s.objects) (length s.statics) equals d.ctype i g))
     (λ u v k later x. here v any p k tt)
 initialized_to n d equals i p (Ok false) s h fit =
     let t : State = with_automatic n d s in
     let g = automatic_more s h n d fit in
     let number : ℕ = length s.body.locals in
     onward s t any (locals.initialized_automatic n d equals i p s) (g, later_same s.known s.types)
-    (then t any any (initializer_of t equals d.ctype i) (locals.start_automatic n.at number (with_object p number)) (led t (initializer_of t equals d.ctype i) g (initializer_leads Keeps steps_keep t equals d.ctype i))
-    (λ m u k later x. cond_to u any (statics.has_size u.known m.1) (Ok (locals.started n.at number m.0 (with_object p number), with_local_type number m.1 u)) (type_fault n.at)
+    (then t any any (initializer_of t equals d.ctype i) (locals.start_automatic n.at equals number (with_object p number)) (led t (initializer_of t equals d.ctype i) g (initializer_leads Keeps steps_keep t equals d.ctype i))
+    (λ m u k later x. cond_to u any (statics.has_size u.known m.1) (Ok (locals.started n.at number m.0 (with_object p number), with_local_type number m.1 u)) (type_fault equals)
     (λ sized. ((local_typed u k number m.1 (complete_fit u.known m.1 sized), later_same u.known u.types), tt)) tt))
 initialized_to n d equals i p (Err f) s h fit = tt
 

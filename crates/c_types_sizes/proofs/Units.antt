@@ -1,5 +1,5 @@
 -- Memory has room for the objects of each checked unit.
-use Rattle.std.proofs.Common.{◌≡◌, ◌≤◌, ◌+◌, ◌^◌, ℕ, zero, suc, Bool, true, false, List, [], ◌∷◌, map, Option, Some, None, Ok, Err, length, slice_get, arith, refl, ap, subst, sym, ◌∙◌}
+use Rattle.std.proofs.Common.{◌≡◌, ◌≤◌, ◌+◌, ◌^◌, ℕ, zero, suc, Bool, true, false, List, [], ◌∷◌, map, Option, Some, None, Ok, Err, length, slice_get, arith, refl, ap, subst, sym, ◌∙◌, inl, inr}
 use Rattle.std.specs.Prelude.{◌&&◌, cond, nat_le}
 use Rattle.std.specs.List.{list_all}
 use Rattle.std.proofs.lemmas.Bool.{and_parts, leb-true}
@@ -18,6 +18,7 @@ use Rattle.c_types_scopes.specs.Answers.{after}
 use Rattle.c_types_scopes.specs.Known.{Known, size_of}
 use Rattle.c_types_scopes.specs.Refusals.{Ruled}
 use Rattle.c_types_scopes.specs.States.{State, first_state}
+use Rattle.c_types_scopes.specs.declared.context.StaticInitializer.{StaticInitializer}
 use Rattle.c_types_objects.specs.UnitObjects as ends
 use Rattle.c_types.specs.Streams.{with_stream}
 use Rattle.c_types.specs.UnitChecks as checks
@@ -42,6 +43,7 @@ use Rattle.c_types_sizes.specs.FitTypes.{IsFit}
 use Rattle.c_types_sizes.specs.SmallChecks.{ChecksAreSmall}
 use Rattle.c_types_sizes.proofs.FitTypes.{fit_small, completed_small, room_fits}
 use Rattle.c_types_sizes.proofs.Keeping.{Sized, To}
+use Rattle.c_types_sizes.proofs.Listed.{AreListed}
 use Rattle.c_types_sizes.proofs.Functions.{IsFitFunction, AreFit, MakesAll, parts_to, begun_sized}
 
 both : (a b : Bool) → a ≡ true → b ≡ true → (a && b) ≡ true
@@ -61,15 +63,24 @@ mapped_is f (v ∷ vs) (suc n) x is = mapped_is f vs n x is
 
 -- ---- addresses within their objects
 
-none_past : (sizes : List ℕ) (os : List StaticView) → ends.first_past sizes os ≡ None → (i : ℕ) (o : StaticView) → slice_get os i ≡ Some o → ends.stores_fit sizes o.stores ≡ true
+none_past : (sizes : List ℕ) (os : List StaticView) (xs : List StaticInitializer) → ends.first_past sizes os xs ≡ None → (j : ℕ) (x : StaticInitializer) → slice_get xs j ≡ Some x → ends.object_fits sizes (slice_get os x.object) ≡ true
 unfolding ends.first_past
-none_past sizes [] none i o at = none_is o at
-none_past sizes (x ∷ os) none i o at = by (ends.stores_fit sizes x.stores) refl none i at (none_past sizes os)
+none_past sizes os [] none j x at = none_is x at
+none_past sizes os (y ∷ xs) none j x at = by (ends.object_fits sizes (slice_get os y.object)) refl none j at (none_past sizes os xs)
   where
-    by : (b : Bool) → ends.stores_fit sizes x.stores ≡ b → cond b (ends.first_past sizes os) (Some x.at) ≡ None → (i : ℕ) → slice_get (x ∷ os) i ≡ Some o → (ends.first_past sizes os ≡ None → (j : ℕ) (v : StaticView) → slice_get os j ≡ Some v → ends.stores_fit sizes v.stores ≡ true) → ends.stores_fit sizes o.stores ≡ true
-    by true fits e zero at rest = subst (λ v. ends.stores_fit sizes v.stores ≡ true) (same_Some x o at) fits
-    by true fits e (suc j) at rest = rest e j o at
-    by false fits e i at rest = absurd (cc)
+    by : (b : Bool) → ends.object_fits sizes (slice_get os y.object) ≡ b → cond b (ends.first_past sizes os xs) (Some y.equals) ≡ None → (j : ℕ) → slice_get (y ∷ xs) j ≡ Some x
+        → (ends.first_past sizes os xs ≡ None → (k : ℕ) (v : StaticInitializer) → slice_get xs k ≡ Some v → ends.object_fits sizes (slice_get os v.object) ≡ true) → ends.object_fits sizes (slice_get os x.object) ≡ true
+    by true fits e zero at rest = subst (λ v. ends.object_fits sizes (slice_get os v.object) ≡ true) (same_Some y x at) fits
+    by true fits e (suc k) at rest = rest e k x at
+    by false fits e k at rest = absurd (cc)
+
+-- an object without stores, or one whose initializer goes past no object
+listed_fits : (sizes : List ℕ) (os : List StaticView) (xs : List StaticInitializer) → ends.first_past sizes os xs ≡ None → AreListed xs os → (i : ℕ) (o : StaticView) → slice_get os i ≡ Some o → ends.stores_fit sizes o.stores ≡ true
+unfolding ends.stores_fit
+listed_fits sizes os xs none listed i o at = elim (listed i o at) [
+  | inl bare ↦ subst (λ stores. ends.stores_fit sizes stores ≡ true) (sym bare) refl
+  | inr there ↦ subst (λ v. ends.object_fits sizes v ≡ true) (ap (slice_get os) there.2.1 ∙ at) (none_past sizes os xs none there.0 there.1 there.2.0)
+]
 
 fits_both : (a b : Bool) → cond a b false ≡ true → (a ≡ true) × (b ≡ true)
 fits_both true b h = (refl, h)
@@ -117,7 +128,7 @@ module _ (u : UnitView) (model : is_model u.model ≡ true) (sizes : List ℕ) (
 -- ---- the end of a unit
 
 module _ (m : Model) (model : is_model m ≡ true) (fs : List FunctionView) (s : State) (entry : ℕ) (ready : IsReady m s) (typed : AreTypedFunctions m fs) (sized : Sized s) (fit : AreFit s.known fs)
-    (inside : ends.first_past (ends.object_sizes (ends.with_completed s)) (ends.with_bounded (ends.with_completed s)).statics ≡ None) where
+    (inside : ends.first_past (ends.object_sizes (ends.with_completed s)) (ends.with_bounded (ends.with_completed s)).statics s.initializers ≡ None) where
   abbrev sizes : List ℕ
   sizes = ends.object_sizes (ends.with_completed s)
 
@@ -155,12 +166,23 @@ module _ (m : Model) (model : is_model m ≡ true) (fs : List FunctionView) (s :
       (room_fits m _ model (completed_small m s.types.structs model sized.small o.ctype (own_type o.ctype (ready.types.statics i o at)) (subst (λ k. IsFit k o.ctype) own (sized.static i o at))))
       (stores_proper unit model sizes (λ n. size_small s.known (ends.with_completed s).statics n ready.types.proper) o.stores (ready.types.stores i o at) fits)
 
+  -- lengths and bounds leave the stores where they are
+  bounded_listed : AreListed s.initializers (ends.with_bounded (ends.with_completed s)).statics
+  bounded_listed i x at =
+      let b = mapped_is (ends.bounded_object sizes) (ends.with_completed s).statics i x at in
+      let c = mapped_is ends.completed_object s.statics i b.0 b.1 in
+      let same : ends.bounded_object sizes (ends.completed_object c.0) ≡ x = ap (ends.bounded_object sizes) c.2 ∙ b.2 in
+      elim (sized.listed i c.0 c.1) [
+        | inl bare ↦ inl (ap (λ (v : StaticView). v.stores) (sym same) ∙ ap (map (ends.bounded_store sizes)) bare)
+        | inr listed ↦ inr listed
+      ]
+
   statics_small : (i : ℕ) (x : StaticView) → slice_get (ends.with_bounded (ends.with_completed s)).statics i ≡ Some x → is_marked_static unit x ≡ true
   statics_small i x at =
       let b = mapped_is (ends.bounded_object sizes) (ends.with_completed s).statics i x at in
       let c = mapped_is ends.completed_object s.statics i b.0 b.1 in
       let same : ends.bounded_object sizes (ends.completed_object c.0) ≡ x = ap (ends.bounded_object sizes) c.2 ∙ b.2 in
-      let fits : ends.stores_fit sizes x.stores ≡ true = none_past sizes (ends.with_bounded (ends.with_completed s)).statics inside i x at in
+      let fits : ends.stores_fit sizes x.stores ≡ true = listed_fits sizes (ends.with_bounded (ends.with_completed s)).statics s.initializers inside bounded_listed i x at in
       subst (λ v. is_marked_static unit v ≡ true) same (object_small i c.0 c.1 (subst (λ v. ends.stores_fit sizes v.stores ≡ true) (sym same) fits))
 
   unit_small : is_small_unit unit ≡ true
@@ -183,9 +205,9 @@ module _ (laws : HasLaws) (heads_keep : HeadsKeep) where
       begun = with_externals es (with_stream (first_state m))
 
       of_parts : (r : Ruled (List FunctionView × State)) → Goes m begun (AreTypedFunctions m) (λ u fs. AreMarkedBodies u [] → AreMarkedBodies u fs) r → To begun MakesAll r → WhenSmall m (after r checks.finished)
-      of_parts (Ok p) h g = of_bounds (ends.first_past (ends.object_sizes (ends.with_completed p.1)) (ends.with_bounded (ends.with_completed p.1)).statics) refl
+      of_parts (Ok p) h g = of_bounds (ends.first_past (ends.object_sizes (ends.with_completed p.1)) (ends.with_bounded (ends.with_completed p.1)).statics p.1.initializers) refl
         where
-          of_bounds : (past : Option Place) → ends.first_past (ends.object_sizes (ends.with_completed p.1)) (ends.with_bounded (ends.with_completed p.1)).statics ≡ past → WhenSmall m (after (ends.judged_bounds past (ends.with_bounded (ends.with_completed p.1))) (checks.functions_kept p.0))
+          of_bounds : (past : Option Place) → ends.first_past (ends.object_sizes (ends.with_completed p.1)) (ends.with_bounded (ends.with_completed p.1)).statics p.1.initializers ≡ past → WhenSmall m (after (ends.judged_bounds past (ends.with_bounded (ends.with_completed p.1))) (checks.functions_kept p.0))
           of_bounds (Some at) is = tt
           of_bounds None is = λ entry. unit_small m model p.0 p.1 entry h.0 h.1 g.0.0 g.1 is
       of_parts (Err f) h g = tt

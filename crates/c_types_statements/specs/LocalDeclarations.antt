@@ -65,18 +65,18 @@ plain_object s base n layers p = after (object_type s base n layers false) (plai
 abbrev pub started : Place → ℕ → InitializedView → PartsView → PartsView
 started at number made p = record p { statements = p.statements ++ start at number made ∷ [] }
 
-abbrev pub start_automatic : Place → ℕ → PartsView → InitializedView × Ty → State → Ruled (PartsView × State)
-start_automatic at number p m s = cond (has_size s.known m.1) (Ok (started at number m.0 p, with_local_type number m.1 s)) (type_fault at)
+abbrev pub start_automatic : Place → Place → ℕ → PartsView → InitializedView × Ty → State → Ruled (PartsView × State)
+start_automatic at equals number p m s = cond (has_size s.known m.1) (Ok (started at number m.0 p, with_local_type number m.1 s)) (type_fault equals)
 
 -- an object of automatic storage is declared before its initializer is typed
 abbrev pub initialized_automatic : NameView → DeclaredView → Place → InitializerTree → PartsView → State → Ruled (PartsView × State)
-initialized_automatic n d equals i p s = after (initializer_of (with_automatic n d s) equals d.ctype i) (start_automatic n.at (length s.body.locals) (with_object p (length s.body.locals)))
+initialized_automatic n d equals i p s = after (initializer_of (with_automatic n d s) equals d.ctype i) (start_automatic n.at equals (length s.body.locals) (with_object p (length s.body.locals)))
 
 abbrev pub parts_kept : PartsView → Unit {0} → State → Ruled (PartsView × State)
 parts_kept p u s = Ok (p, s)
 
 abbrev pub initialized_static : NameView → DeclaredView → Place → InitializerTree → State → Ruled (Unit {0} × State)
-initialized_static n d equals i s = static_initializer (with_static_object n d s) n.at (length s.objects) (length s.statics) equals d.ctype i
+initialized_static n d equals i s = static_initializer (with_static_object n d s) (length s.objects) (length s.statics) equals d.ctype i
 
 abbrev pub initialized_stored : NameView → DeclaredView → Place → InitializerTree → PartsView → Bool → State → Ruled (PartsView × State)
 initialized_stored n d equals i p true s = after (initialized_static n d equals i s) (parts_kept p)

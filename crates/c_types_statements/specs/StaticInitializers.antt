@@ -7,7 +7,7 @@ use Rattle.c_layout.specs.CheckedUnits.{StaticView, StaticStoreView}
 use Rattle.c_types_scopes.specs.Known.{Known, size_of}
 use Rattle.c_types_scopes.specs.Refusals.{Ruled, type_fault}
 use Rattle.c_types_scopes.specs.Answers.{after}
-use Rattle.c_types_scopes.specs.States.{State}
+use Rattle.c_types_scopes.specs.States.{State, with_initializer}
 use Rattle.c_types_initializers.specs.Initialized.{InitializedView}
 use Rattle.c_types_initializers.specs.StaticStores.{static_stores}
 use Rattle.c_types_declarations.specs.Initializers.{initializer_of}
@@ -21,19 +21,22 @@ has_size k t = is_some (size_of k t)
 abbrev pub stored_static : List StaticStoreView → StaticView → StaticView
 stored_static stores o = record o { stores = stores }
 
-abbrev pub with_stores : ℕ → List StaticStoreView → State → State
-with_stores number stores s = record s { statics = changed (stored_static stores) number s.statics }
+abbrev pub with_object_stores : ℕ → List StaticStoreView → State → State
+with_object_stores number stores s = record s { statics = changed (stored_static stores) number s.statics }
 
-abbrev pub with_initial : ℕ → ℕ → Ty → List StaticStoreView → State → Ruled (Unit {0} × State)
-with_initial index number t stores s = Ok (tt, with_stores number stores (with_static_type index number t s))
+abbrev pub with_stores : Place → ℕ → List StaticStoreView → State → State
+with_stores equals number stores s = with_initializer (with_object_stores number stores s) number equals
+
+abbrev pub with_initial : Place → ℕ → ℕ → Ty → List StaticStoreView → State → Ruled (Unit {0} × State)
+with_initial equals index number t stores s = Ok (tt, with_stores equals number stores (with_static_type index number t s))
 
 -- an object with the type and the stores that its initializer gives, which are constant
 abbrev pub store_static : Place → ℕ → ℕ → InitializedView → Ty → State → Ruled (Unit {0} × State)
-store_static equals index number made t s = after (static_stores equals made s) (with_initial index number t)
+store_static equals index number made t s = after (static_stores equals made s) (with_initial equals index number t)
 
-abbrev pub judged_static : Place → ℕ → ℕ → Place → InitializedView × Ty → State → Ruled (Unit {0} × State)
-judged_static at index number equals m s = cond (has_size s.known m.1) (store_static equals index number m.0 m.1 s) (type_fault at)
+abbrev pub judged_static : ℕ → ℕ → Place → InitializedView × Ty → State → Ruled (Unit {0} × State)
+judged_static index number equals m s = cond (has_size s.known m.1) (store_static equals index number m.0 m.1 s) (type_fault equals)
 
--- the initializer of an object, at whose name it is refused where its type is not complete then
-abbrev pub static_initializer : State → Place → ℕ → ℕ → Place → Ty → InitializerTree → Ruled (Unit {0} × State)
-static_initializer s at index number equals t i = after (initializer_of s equals t i) (judged_static at index number equals)
+-- the initializer of an object; an array whose length it gives is refused where it is too large
+abbrev pub static_initializer : State → ℕ → ℕ → Place → Ty → InitializerTree → Ruled (Unit {0} × State)
+static_initializer s index number equals t i = after (initializer_of s equals t i) (judged_static index number equals)

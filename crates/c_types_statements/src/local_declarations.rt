@@ -123,11 +123,12 @@ fn plain_object(
 fn start_automatic(
     cx: &mut Context,
     place: Place,
+    equals: Place,
     number: u32,
     parts: &mut BlockParts,
     initialized: (Initialized, CType),
 ) -> Result<(), Stop>
-    ensures { Leads (λ _. parts_view parts.new) (spec.start_automatic place number (parts_view parts.old) (initialized_view initialized.0, view initialized.1) (state cx.old)) result (state cx.new) }
+    ensures { Leads (λ _. parts_view parts.new) (spec.start_automatic place equals number (parts_view parts.old) (initialized_view initialized.0, view initialized.1) (state cx.old)) result (state cx.new) }
 {
     let (made, ctype) = initialized;
     if has_size(cx, &ctype) {
@@ -136,7 +137,7 @@ fn start_automatic(
         parts.statements.push(started)?;
         Ok(())
     } else {
-        Err(type_fault(place))
+        Err(type_fault(equals))
     }
 }
 
@@ -154,7 +155,7 @@ fn initialized_automatic(
     let ctype = declared.ctype.copy(cx.alloc)?;
     let number = declare_automatic(cx, name, declared, parts)?;
     let made = initializer_of(cx, equals, ctype, initializer)?;
-    start_automatic(cx, name.place, number, parts, made)
+    start_automatic(cx, name.place, equals, number, parts, made)
 }
 
 /// An object of static storage with an initializer.
@@ -169,7 +170,7 @@ fn initialized_static(
 {
     let ctype = declared.ctype.copy(cx.alloc)?;
     let (index, number) = declare_static(cx, name, declared)?;
-    static_initializer(cx, name.place, index, number, equals, ctype, initializer)
+    static_initializer(cx, index, number, equals, ctype, initializer)
 }
 
 /// An object with an initializer.

@@ -24,7 +24,7 @@ pub fn has_size(cx: &Context, t: &CType) -> bool
 
 /// Gives an object of the run its stores.
 fn set_stores(cx: &mut Context, number: u32, stores: Vec<StaticStore>)
-    ensures { state cx.new ≡ spec.with_stores number (stores_view stores) (state cx.old) }
+    ensures { state cx.new ≡ spec.with_object_stores number (stores_view stores) (state cx.old) }
 {
     if let Some(object) = cx.statics.get_mut(number as usize) {
         object.stores = stores;
@@ -45,41 +45,45 @@ fn store_static(
     let stores = static_stores(cx, equals, made)?;
     set_static(cx, index, number, ctype)?;
     set_stores(cx, number, stores);
+    cx.note_initializer(number, equals)?;
     Ok(())
 }
 
-/// An initializer that has types. Where the type is not complete then, its object is refused.
+/// An initializer that has types. Where its object's type is not complete then, it is refused.
 fn judged_static(
     cx: &mut Context,
-    place: Place,
     index: u32,
     number: u32,
     equals: Place,
     initialized: (Initialized, CType),
 ) -> Result<(), Stop>
-    ensures { Leads (λ _. tt) (spec.judged_static place index number equals (initialized_view initialized.0, view initialized.1) (state cx.old)) result (state cx.new) }
+    ensures { Leads (λ _. tt) (spec.judged_static index number equals (initialized_view initialized.0, view initialized.1) (state cx.old)) result (state cx.new) }
 {
     let (made, ctype) = initialized;
     if has_size(cx, &ctype) {
         store_static(cx, equals, index, number, made, ctype)
     } else {
-        Err(type_fault(place))
+        Err(type_fault(equals))
     }
 }
 
-/// The initializer of an object by its numbers among those declared and those of the run; `place` is
-/// that of its name.
+/// The initializer of an object by its numbers among those declared and those of the run.
+///
+/// # Errors
+///
+/// A refusal of an expression; or, at the `=`, that of a type which does not go with the object's, of
+/// an array whose length the initializer gives and which is larger than any type (`TypeFault`), or of
+/// what is no constant (6.7.9p4); or want of memory.
 pub fn static_initializer(
     cx: &mut Context,
-    place: Place,
     index: u32,
     number: u32,
     equals: Place,
     ctype: CType,
     initializer: &Initializer,
 ) -> Result<(), Stop>
-    ensures { Leads (λ _. tt) (spec.static_initializer (state cx.old) place index number equals (view ctype) (initializer_tree initializer.now)) result (state cx.new) }
+    ensures { Leads (λ _. tt) (spec.static_initializer (state cx.old) index number equals (view ctype) (initializer_tree initializer.now)) result (state cx.new) }
 {
     let made = initializer_of(cx, equals, ctype, initializer)?;
-    judged_static(cx, place, index, number, equals, made)
+    judged_static(cx, index, number, equals, made)
 }

@@ -8,6 +8,8 @@ mod array_rows;
 #[cfg(test)]
 mod call;
 #[cfg(test)]
+mod plain_rows;
+#[cfg(test)]
 mod replay_call;
 #[cfg(test)]
 mod replay_rows;

@@ -140,7 +140,7 @@ const RUNS: [Run<'static>; 17] = [
 ];
 
 /// Fails unless the run of the unit over the draws is answered so.
-fn run(rt: &impl Abort, alloc: Global, run: &Run) -> Result<(), Fail> {
+fn run_answers(rt: &impl Abort, alloc: Global, run: &Run) -> Result<(), Fail> {
     let (source, draws, words, status, text) = *run;
     let tree = with_files(alloc, Vec::new(alloc), &[("a.c", source), ("d", draws)])?;
     let line = format!(in alloc; "replay a.c --draws d{words}")?;
@@ -150,7 +150,7 @@ fn run(rt: &impl Abort, alloc: Global, run: &Run) -> Result<(), Fail> {
 #[test]
 fn runs(rt: HostRuntime) -> Result<(), Fail> {
     for row in &RUNS {
-        run(&rt, rt.alloc(), row)?;
+        run_answers(&rt, rt.alloc(), row)?;
     }
     Ok(())
 }
@@ -171,7 +171,7 @@ const SHAPES: [&str; 9] = [
 #[test]
 fn shapes(rt: HostRuntime) -> Result<(), Fail> {
     for shape in &SHAPES {
-        run(
+        run_answers(
             &rt,
             rt.alloc(),
             &(DIVISION, shape, "", 3, "ccheck: d: DrawsShape\n"),
@@ -258,9 +258,9 @@ fn draws_may_be_too_many(rt: HostRuntime) -> Result<(), Fail> {
     for _more in 0..65_535 {
         draws.push_str(" 0")?;
     }
-    run(&rt, alloc, &(DIVISION, draws.as_str(), "", 1, FOUND))?;
+    run_answers(&rt, alloc, &(DIVISION, draws.as_str(), "", 1, FOUND))?;
     draws.push_str(" 0")?;
-    run(
+    run_answers(
         &rt,
         alloc,
         &(DIVISION, draws.as_str(), "", 3, "ccheck: d: DrawsShape\n"),

@@ -100,7 +100,7 @@ const LEAVING: [&str; 6] = [
 ];
 
 /// Fails unless the run of the unit over the draws is told so.
-fn run(
+pub(crate) fn run_tells(
     rt: &impl Abort,
     alloc: Global,
     source: &str,
@@ -115,7 +115,7 @@ fn run(
 #[test]
 fn violations_are_told(rt: HostRuntime) -> Result<(), Fail> {
     for (source, draws, text) in &VIOLATING {
-        run(&rt, rt.alloc(), source, draws, 1, text)?;
+        run_tells(&rt, rt.alloc(), source, draws, 1, text)?;
     }
     Ok(())
 }
@@ -123,7 +123,7 @@ fn violations_are_told(rt: HostRuntime) -> Result<(), Fail> {
 #[test]
 fn runs_that_leave_end_without_a_line(rt: HostRuntime) -> Result<(), Fail> {
     for source in &LEAVING {
-        run(
+        run_tells(
             &rt,
             rt.alloc(),
             source,

@@ -90,7 +90,19 @@ const REDECLARED: [(&str, &str); 8] = [
     ),
 ];
 
-const TYPE_FAULTS: [(&str, &str); 12] = [
+const TYPE_FAULTS: [(&str, &str); 16] = [
+    (
+        "struct b{char x[1073741824];};static struct b a[]={{{1}},{{2}}};int main(void){return 0;}",
+        "a.c:1:50: refused: TypeFault\n",
+    ),
+    (
+        "struct b{char x[1073741824];};int main(void){static struct b a[]={{{1}},{{2}}};return 0;}",
+        "a.c:1:65: refused: TypeFault\n",
+    ),
+    (
+        "struct b{char x[1073741824];};int main(void){struct b a[]={{{1}},{{2}}};return 0;}",
+        "a.c:1:58: refused: TypeFault\n",
+    ),
     (
         "int main(void){int free=1;free(0);return 0;}",
         "a.c:1:27: refused: TypeFault\n",
@@ -101,6 +113,10 @@ const TYPE_FAULTS: [(&str, &str); 12] = [
     ),
     (
         "int main(void){return sizeof(int[1073741824]);}",
+        "a.c:1:23: refused: TypeFault\n",
+    ),
+    (
+        "int main(void){return (static int)1;}",
         "a.c:1:23: refused: TypeFault\n",
     ),
     (
@@ -176,7 +192,7 @@ const POINTERS_AND_INTEGERS: [(&str, &str); 8] = [
     ),
 ];
 
-const CONSTANTS_NEEDED: [(&str, &str); 11] = [
+const CONSTANTS_NEEDED: [(&str, &str); 12] = [
     (
         "int a[0];int main(void){return 0;}",
         "a.c:1:5: refused: ConstantNeeded\n",
@@ -211,15 +227,19 @@ const CONSTANTS_NEEDED: [(&str, &str); 11] = [
     ),
     (
         "extern int a[];int *p=&a[5];int a[2];int main(void){return 0;}",
-        "a.c:1:21: refused: ConstantNeeded\n",
+        "a.c:1:22: refused: ConstantNeeded\n",
     ),
     (
         "int a[];int *p=a;int *q=a+2;int main(void){return 0;}",
-        "a.c:1:23: refused: ConstantNeeded\n",
+        "a.c:1:24: refused: ConstantNeeded\n",
     ),
     (
         "extern int a[];int f(void){static int *p[2]={0,&a[3]};return 0;}int a[2];",
-        "a.c:1:40: refused: ConstantNeeded\n",
+        "a.c:1:44: refused: ConstantNeeded\n",
+    ),
+    (
+        "extern int a[];int *q;int *p=&a[5];int *q=&a[6];int a[2];int main(void){return 0;}",
+        "a.c:1:29: refused: ConstantNeeded\n",
     ),
 ];
 
@@ -280,7 +300,7 @@ const RECURSION: [(&str, &str); 4] = [
     ),
 ];
 
-const ACCEPTED: [&str; 51] = [
+const ACCEPTED: [&str; 53] = [
     "int main(void){int a=1,b=2;return a+++b;}",
     "int x='\\377';int main(void){return 0;}",
     "int x='\\x0000041';int main(void){return 0;}",
@@ -299,6 +319,8 @@ const ACCEPTED: [&str; 51] = [
     "enum e{A,B,};int a[2]={1,2,};int main(void){return 0;}",
     "int main(void){int x[3];return sizeof x[0]+sizeof(x)+sizeof(int)+sizeof(int[3])+sizeof(int*)+sizeof(int(*)[3])-1;}",
     "int main(void){return sizeof (int)-1;}",
+    "int main(void){return (int)sizeof(register int)-4;}",
+    "int main(void){return (auto int)1;}",
     "int main(void){int a=1;if(a)if(a)return 1;else return 2;return 0;}",
     "int main(void){int a=1;do a--;while(a);return 0;}",
     "unsigned x;signed y;long z;int main(void){return 0;}",

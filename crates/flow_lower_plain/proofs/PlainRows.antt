@@ -8,7 +8,7 @@ use Rattle.c_layout.specs.Types.{Ty, Array, Struct, Void}
 use Rattle.c_layout.specs.declared.checked_tree.checked_statements.CaseLabel.{CaseLabel}
 use Rattle.c_layout.specs.declared.data_model.Model.{Model}
 use Rattle.c_layout.specs.declared.library_functions.LibFn.TheVariants.{Putchar, Malloc}
-use Rattle.flow_lower_plain.specs.SmallObjects.{is_small}
+use Rattle.flow_lower_plain.specs.ShortArrays.{has_short_arrays}
 use Rattle.flow_lower_plain.specs.PlainTerms.{is_plain_term}
 use Rattle.flow_lower_plain.specs.PlainStatements.{is_plain_statement}
 use Rattle.flow_lower_plain.specs.PlainUnits.{no_label, is_plain_unit}
@@ -41,14 +41,14 @@ module _ (at : Place) (t : Ty) (x : CaseLabel) where
   called = refl
 
 -- arrays of 64 elements and of 65
-short : is_small [] (Array Void 64) ≡ true
+short : has_short_arrays [] (Array Void 64) ≡ true
 short = refl
 
-long : is_small [] (Array (Array Void 65) 2) ≡ false
+long : has_short_arrays [] (Array (Array Void 65) 2) ≡ false
 long = refl
 
 -- `struct { .. [65]; }`
-holds_long : is_small (record { fields = record { name = []; ctype = Array Void 65; offset = 0 } ∷ []; complete = true; size = 65; align = 1; leaves = 1; plain_leaves = 65 } ∷ []) (Struct 0) ≡ false
+holds_long : has_short_arrays (record { fields = record { name = []; ctype = Array Void 65; offset = 0 } ∷ []; complete = true; size = 65; align = 1; leaves = 1; plain_leaves = 65 } ∷ []) (Struct 0) ≡ false
 holds_long = refl
 
 -- an entry that calls a function, which calls none, and one that has a loop and is not called

@@ -1,4 +1,4 @@
-pub mod SmallObjects
+pub mod ShortArrays
 pub mod PlainTerms
 pub mod PlainStatements
 pub mod PlainUnits

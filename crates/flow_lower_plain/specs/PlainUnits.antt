@@ -4,7 +4,7 @@ use Rattle.std.specs.Prelude.{ℕ, zero, suc, ◌==◌, Bool, false, ◌&&◌, l
 use Rattle.std.specs.List.{list_all}
 use Rattle.c_layout.specs.CheckedTrees.{statement_trees}
 use Rattle.c_layout.specs.CheckedUnits.{FunctionView, UnitView}
-use Rattle.flow_lower_plain.specs.SmallObjects.{is_small, is_small_local, has_small_objects}
+use Rattle.flow_lower_plain.specs.ShortArrays.{has_short_arrays, is_short_local, has_short_objects}
 use Rattle.flow_lower_plain.specs.PlainStatements.{are_plain_statements}
 
 abbrev pub no_label : ℕ → Bool
@@ -12,7 +12,7 @@ no_label l = false
 
 -- a function whose calls are of functions that pass a test; its result is an object too
 abbrev pub is_plain_function : UnitView → (ℕ → Bool) → FunctionView → Bool
-is_plain_function u calls f = (list_all (is_small_local u.structs) f.locals && is_small u.structs f.returns) && are_plain_statements calls no_label false (statement_trees f.body)
+is_plain_function u calls f = (list_all (is_short_local u.structs) f.locals && has_short_arrays u.structs f.returns) && are_plain_statements calls no_label false (statement_trees f.body)
 
 abbrev pub is_plain_if_there : UnitView → (ℕ → Bool) → Option FunctionView → Bool
 is_plain_if_there u calls None = false
@@ -29,4 +29,4 @@ takes_nothing (Some f) = f.parameters == 0
 
 -- no function calls itself, so calls nest at most as deep as there are functions
 abbrev pub is_plain_unit : UnitView → Bool
-is_plain_unit u = takes_nothing (slice_get u.functions u.entry) && (has_small_objects u && is_plain_from u (length u.functions) u.entry)
+is_plain_unit u = takes_nothing (slice_get u.functions u.entry) && (has_short_objects u && is_plain_from u (length u.functions) u.entry)

@@ -18,7 +18,7 @@ use Rattle.flow_lower.specs.BaseTables.{base}
 use Rattle.flow_lower.specs.MovedActs.{own_base, moved}
 use Rattle.flow_lower.specs.Openings as o
 use Rattle.flow_lower.specs.Openings.{Made, CopyView, Placed, Opened, placed, is_none}
-use Rattle.flow_lower_plain.specs.SmallObjects.{has_small_objects}
+use Rattle.flow_lower_plain.specs.ShortArrays.{has_short_objects}
 use Rattle.flow_lower_plain.specs.PlainUnits.{is_plain_function, is_plain_if_there, is_plain_from}
 use Rattle.flow_lower_plain_works.specs.LeadingPieces.{is_plain_act, AreOfObjects, AllTo, Marks, Marked, LeadOn, NoLabel, LeadsOn}
 use Rattle.flow_lower_plain_works.proofs.LeadingWorks.{both}
@@ -147,7 +147,7 @@ module _ (u : UnitView) where
   twice : (p q r : Placed) → Same p q → Same q r → Same p r
   twice p q r a b = record { blocks = b.blocks ∙ a.blocks; edges = b.edges ∙ a.edges; labels = b.labels ∙ a.labels; ready = b.ready ∙ a.ready; rest = b.rest ∙ a.rest; first = b.first ∙ a.first; names = b.names ∙ a.names; function = b.function ∙ a.function; bases = b.bases }
 
-  module _ (small : has_small_objects u ≡ true) where
+  module _ (small : has_short_objects u ≡ true) where
     same_base : (n : ℕ) (p : Placed) → Fit p → Same p (o.with_base u n p)
     same_base n p f = record { blocks = refl; edges = refl; labels = refl; ready = refl; rest = refl; first = refl; names = refl; function = refl; bases = plain_named u small p.within.function f.small (o.name_at p.within.names n) (name_at_object p.within.names n f.names) p.within.locals p.program.bases f.bases }
 
@@ -423,7 +423,7 @@ module _ (u : UnitView) where
 
     -- ---- turns
 
-    module _ (small : has_small_objects u ≡ true) where
+    module _ (small : has_short_objects u ≡ true) where
       lead_act : (stack : List CopyView) (at : Place) (a : Act) (p : Placed) → is_plain_act a ≡ true → Leads (o.back_in stack p) → Leads (o.back_in stack (o.with_act u at a p))
       lead_act stack at a p plain k =
           let q = o.with_own u (own_base a) p in

@@ -11,7 +11,7 @@ use Rattle.flow_lower_counts.specs.SharedObjects.{literal_type}
 use Rattle.flow_lower_functions.specs.Functions.{type_or, local_type}
 use Rattle.flow_lower_tasks.specs.Pieces.{NameView, Local, Outcome, Static, Literal, Allocation}
 use Rattle.flow_lower.specs.BaseTables.{TableView, known, object_added, local_or, local, literal_made, literal_or, object_made, object_or, with_shared, brought, with_all, with_pointed, base}
-use Rattle.flow_lower_plain.specs.SmallObjects.{is_small_within, is_small, is_small_local, is_small_object, is_small_literal, has_small_objects}
+use Rattle.flow_lower_plain.specs.ShortArrays.{has_short_arrays_within, has_short_arrays, is_short_local, is_short_object, is_short_literal, has_short_objects}
 use Rattle.flow_lower_plain_works.specs.LeadingPieces.{is_of_object, AreOfObjects}
 use Rattle.flow_lower_plain_works.proofs.LeadingWorks.{both}
 use Rattle.flow_lower_plain_programs.specs.PlainBases.{IsPlainBase, ArePlainBases}
@@ -34,28 +34,28 @@ one_more n = omega arith
 
 -- the objects of a function and its result are small
 pub record HasSmall (u : UnitView) (f : FunctionView) : Type 0 where
-  pub locals : list_all (is_small_local u.structs) f.locals ≡ true
-  pub result : is_small u.structs f.returns ≡ true
+  pub locals : list_all (is_short_local u.structs) f.locals ≡ true
+  pub result : has_short_arrays u.structs f.returns ≡ true
 
-module _ (u : UnitView) (small : has_small_objects u ≡ true) where
+module _ (u : UnitView) (small : has_short_objects u ≡ true) where
   abbrev Plain : TableView → Type 0
   Plain b = ArePlainBases b.bases
 
-  plain_object : (what : BaseKind) (t : Ty) (b : TableView) → is_small u.structs t ≡ true → Plain b → Plain (object_added u what t b)
+  plain_object : (what : BaseKind) (t : Ty) (b : TableView) → has_short_arrays u.structs t ≡ true → Plain b → Plain (object_added u what t b)
   plain_object what t b is plain = plain_append b.bases _ plain (record { cells = alone_leaves u.structs u.model.pointer t is; no_heap = refl })
 
   -- ---- objects of static storage and literals
 
   plain_object_made : (n : ℕ) (b : TableView) (o : Option StaticView) → slice_get u.objects n ≡ o → Plain b → Plain (object_made u n b o)
   plain_object_made n b None is plain = plain
-  plain_object_made n b (Some o) is plain = plain_object _ o.ctype b (of_all (is_small_object u.structs) u.objects n o (both _ _ small).0 is) plain
+  plain_object_made n b (Some o) is plain = plain_object _ o.ctype b (of_all (is_short_object u.structs) u.objects n o (both _ _ small).0 is) plain
 
   plain_literal_made : (n : ℕ) (b : TableView) (o : Option LiteralView) → slice_get u.literals n ≡ o → Plain b → Plain (literal_made u n b o)
   plain_literal_made n b None is plain = plain
-  plain_literal_made n b (Some l) is plain = plain_object _ (literal_type u.model.char_signed (length l.bytes)) b (short (of_all is_small_literal u.literals n l (both _ _ small).1 is)) plain
+  plain_literal_made n b (Some l) is plain = plain_object _ (literal_type u.model.char_signed (length l.bytes)) b (short (of_all is_short_literal u.literals n l (both _ _ small).1 is)) plain
     where
-      short : is_small_literal l ≡ true → is_small u.structs (literal_type u.model.char_signed (length l.bytes)) ≡ true
-      short e = ap (λ depth. is_small_within depth u.structs (literal_type u.model.char_signed (length l.bytes))) (one_more (length u.structs)) ∙ ap (λ b. (b && true) && true) e
+      short : is_short_literal l ≡ true → has_short_arrays u.structs (literal_type u.model.char_signed (length l.bytes)) ≡ true
+      short e = ap (λ depth. has_short_arrays_within depth u.structs (literal_type u.model.char_signed (length l.bytes))) (one_more (length u.structs)) ∙ ap (λ b. (b && true) && true) e
 
   plain_object_or : (n : ℕ) (b : TableView) (o : Option ℕ) → Plain b → Plain (object_or u n b o)
   plain_object_or n b (Some base) plain = plain
@@ -79,9 +79,9 @@ module _ (u : UnitView) (small : has_small_objects u ≡ true) where
 
   -- ---- objects of a function
 
-  small_local : (f : FunctionView) → HasSmall u f → (n : ℕ) (o : Option LocalView) → slice_get f.locals n ≡ o → is_small u.structs (type_or o f.returns) ≡ true
+  small_local : (f : FunctionView) → HasSmall u f → (n : ℕ) (o : Option LocalView) → slice_get f.locals n ≡ o → has_short_arrays u.structs (type_or o f.returns) ≡ true
   small_local f has n None is = has.result
-  small_local f has n (Some l) is = of_all (is_small_local u.structs) f.locals n l has.locals is
+  small_local f has n (Some l) is = of_all (is_short_local u.structs) f.locals n l has.locals is
 
   plain_local_or : (f : FunctionView) → HasSmall u f → (slot : ℕ) (locals : List (Option ℕ)) (b : TableView) (o : Option (Option ℕ)) → Plain b → Plain (local_or u f slot locals b o).after
   plain_local_or f has slot locals b None plain = plain

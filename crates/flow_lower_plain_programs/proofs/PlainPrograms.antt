@@ -30,7 +30,7 @@ use Rattle.flow_lower_units_laws.specs.UnitParts.{FunctionsAreRegular}
 use Rattle.flow_lower.specs.Lowerings.{inputs}
 use Rattle.flow_lower.specs.Openings.{joined, whole, program}
 use Rattle.flow_lower_plain.specs.PlainTerms.{is_plain_library}
-use Rattle.flow_lower_plain.specs.SmallObjects.{is_small, is_small_local, has_small_objects}
+use Rattle.flow_lower_plain.specs.ShortArrays.{has_short_arrays, is_short_local, has_short_objects}
 use Rattle.flow_lower_plain.specs.PlainStatements.{are_plain_statements}
 use Rattle.flow_lower_plain.specs.PlainUnits.{no_label, is_plain_function, is_plain_from, takes_nothing, is_plain_unit}
 use Rattle.flow_lower_plain_works.specs.LeadingPieces.{is_plain_act}
@@ -152,7 +152,7 @@ are_templates laws u limits flow o ts table prepared g depth f t is_f is_t plain
     subst (IsPlainTemplate u depth) (sym k.settles) (record { leads = settled_leads k.table k.template once (is_plain_from u depth) leads; room = settled_below k.table k.template once })
   where
     statements : (f : FunctionView) → is_plain_function u (is_plain_from u depth) f ≡ true → are_plain_statements (is_plain_from u depth) no_label false (statement_trees f.body) ≡ true
-    statements f e = (and_parts (list_all (is_small_local u.structs) f.locals && is_small u.structs f.returns) (are_plain_statements (is_plain_from u depth) no_label false (statement_trees f.body)) e).1
+    statements f e = (and_parts (list_all (is_short_local u.structs) f.locals && has_short_arrays u.structs f.returns) (are_plain_statements (is_plain_from u depth) no_label false (statement_trees f.body)) e).1
 
 -- ---- programs
 
@@ -166,8 +166,8 @@ takes_none (Some g) f is e = ap (λ (h : FunctionView). h.parameters) (sym (same
 pub plain_flow : Laws → (u : UnitView) (limits : Limits) (flow : Flow) → IsProgramOf u limits flow → is_plain_unit u ≡ true → IsPlainFlow flow
 plain_flow laws u limits flow o plain =
     let is = o.is in
-    let first = and_parts (takes_nothing (slice_get u.functions u.entry)) (has_small_objects u && is_plain_from u (length u.functions) u.entry) plain in
-    let rest = and_parts (has_small_objects u) (is_plain_from u (length u.functions) u.entry) first.1 in
+    let first = and_parts (takes_nothing (slice_get u.functions u.entry)) (has_short_objects u && is_plain_from u (length u.functions) u.entry) plain in
+    let rest = and_parts (has_short_objects u) (is_plain_from u (length u.functions) u.entry) first.1 in
     let templates = are_templates laws u limits flow o is.templates is.is_counted.table is.is_counted.is_prepared in
     let p = program u is.templates is.entry.at in
     let leads : LeadsAhead p = leads_ahead u (whole u is.templates is.entry.at) (lead_whole u is.templates templates rest.0 (length u.functions) is.entry.at rest.1) is.ends in

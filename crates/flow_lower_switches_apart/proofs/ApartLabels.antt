@@ -13,7 +13,7 @@ use Rattle.flow_lower_tasks.specs.Pieces.{Other}
 use Rattle.flow_lower_tasks.specs.Plans.{Plan}
 use Rattle.flow_lower_tasks.specs.Settings.{SettingView}
 use Rattle.flow_lower_tasks.specs.Works.{behind}
-use Rattle.flow_lower_switches_apart.specs.ApartSwitches.{Label, NoLabel, CaseOf, AllBut, is_beside, are_apart, exit_labels}
+use Rattle.flow_lower_switches_apart.specs.ApartSwitches.{Label, Unlabelled, CaseOf, AllBut, is_beside, are_apart, exit_labels}
 
 abbrev pub arm_value : CaseArm → ℤ
 arm_value a = a.value
@@ -66,12 +66,12 @@ dispatch_apart arms cases object other same apart =
 -- ---- which of two labels is first does not matter
 
 pub beside_back : (x y : Label) → is_beside x y ≡ true → is_beside y x ≡ true
-beside_back NoLabel NoLabel h = refl
-beside_back NoLabel (CaseOf m) h = refl
-beside_back NoLabel (AllBut ms) h = refl
-beside_back (CaseOf n) NoLabel h = refl
+beside_back Unlabelled Unlabelled h = refl
+beside_back Unlabelled (CaseOf m) h = refl
+beside_back Unlabelled (AllBut ms) h = refl
+beside_back (CaseOf n) Unlabelled h = refl
 beside_back (CaseOf n) (CaseOf m) h = ap not (same_back m n) ∙ h
 beside_back (CaseOf n) (AllBut ms) h = h
-beside_back (AllBut ns) NoLabel h = refl
+beside_back (AllBut ns) Unlabelled h = refl
 beside_back (AllBut ns) (CaseOf m) h = h
 beside_back (AllBut ns) (AllBut ms) h = refl

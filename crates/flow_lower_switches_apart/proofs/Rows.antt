@@ -1,6 +1,6 @@
 -- Worked rows: labels of one switch.
 use Rattle.std.specs.Prelude.{◌≡◌, refl, pos, negsuc, true, false, [], ◌∷◌}
-use Rattle.flow_lower_switches_apart.specs.ApartSwitches.{NoLabel, CaseOf, AllBut, are_apart}
+use Rattle.flow_lower_switches_apart.specs.ApartSwitches.{Unlabelled, CaseOf, AllBut, are_apart}
 
 -- case 1, case -1, and the others
 both_listed : are_apart (CaseOf (pos 1) ∷ CaseOf (negsuc 0) ∷ AllBut (pos 1 ∷ negsuc 0 ∷ []) ∷ []) ≡ true
@@ -15,5 +15,5 @@ not_listed : are_apart (CaseOf (pos 1) ∷ CaseOf (pos 2) ∷ AllBut (pos 2 ∷ 
 not_listed = refl
 
 -- the two ways on of a branch
-branch : are_apart (NoLabel ∷ NoLabel ∷ []) ≡ true
+branch : are_apart (Unlabelled ∷ Unlabelled ∷ []) ≡ true
 branch = refl

@@ -10,17 +10,17 @@ use Rattle.flow_lower_functions.specs.Functions.{IsTemplate}
 
 -- the label of a switch that a way is: none, a case of a value, or the one for all values but some
 pub data Label : Type 0 where
-  NoLabel : Label
+  Unlabelled : Label
   CaseOf : (value : ℤ) → Label
   AllBut : (values : List ℤ) → Label
 
 abbrev pub label : Way → Label
-label Always = NoLabel
-label (When truth test puts) = NoLabel
+label Always = Unlabelled
+label (When truth test puts) = Unlabelled
 label (Case test) = CaseOf test.value
 label (Other values) = AllBut values
-label NoLine = NoLabel
-label Line = NoLabel
+label NoLine = Unlabelled
+label Line = Unlabelled
 
 -- two labels of one switch
 abbrev pub is_beside : Label → Label → Bool

@@ -1,5 +1,5 @@
 -- Where `gate` answers 0 or 1, it has told what is fresh of a report, and reports hold what runs violate.
-use Rattle.std.proofs.Common.{◌≡◌, ◌∙◌, inl, inr, ℕ, List, Option, ap, arith, refl, subst}
+use Rattle.std.proofs.Common.{◌≡◌, ◌∙◌, inl, inr, ℕ, List, Option, ap, arith, subst}
 use Rattle.cc_base.specs.Outside.{Files}
 use Rattle.cc_base.specs.declared.diagnostics.Diag.{Diag}
 use Rattle.c_layout.specs.declared.data_model.Model.{Model}
@@ -87,7 +87,7 @@ tells defined holds just seen c base sink status text v m has by_status by_text 
   by_status = by_status ∙ ap (λ (w : Verdict). status_of w) r.is;
   put = subst (λ (x : Bytes). PutOnce sink x) (by_text ∙ ap (λ (w : Verdict). text_of w) r.is) put;
   defined = defined.judged r.report.report.expanded (gate_setting c m) r.report.report.found r.report.report.judged;
-  plain = just seen.files c.dirs m c.unit (gate_setting c m) r.names r.report.all r.report.report refl;
+  plain = just seen.files c.dirs m c.unit (gate_setting c m) r.names r.report.all r.report.report;
 }
 
 by_verdict : RunsAreDefined → ReportsHoldRuns → ReportsHoldJustRuns → (seen : Seen) (c : CommandView) (base : Bytes) (sink : Took) (status : ℕ) (text : Bytes) (v : Verdict) → IsVerdict seen (asked.Gate c base) v → status ≡ status_of v → text ≡ text_of v → PutOnce sink text → IsAccepting status → TellsFreshRuns seen c base sink status

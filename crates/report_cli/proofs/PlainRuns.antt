@@ -1,5 +1,5 @@
 -- Of a plain unit each pair is that of a syntactic rule, or is violated by the unit's own run.
-use Rattle.std.proofs.Common.{◌≡◌, inl, inr, ℕ, ℤ, List, Option, Some, None, subst}
+use Rattle.std.proofs.Common.{inl, inr, ℕ, ℤ, List, Option, Some, None, subst}
 use Rattle.std.specs.List.{Contains}
 use Rattle.std.proofs.lemmas.List.Elements.{Contains-append_cases}
 use Rattle.cc_base.specs.Standard.{standard_limits}
@@ -13,6 +13,7 @@ use Rattle.abstract_steps_single_units.specs.CheckedStarts.{IsUnitOf}
 use Rattle.flow_lower_plain_programs.specs.SingleRuns.{HasTypedAccesses, IsSingleProgram}
 use Rattle.abstract_steps_single_units.specs.SingleUnits.{FindsJustUnitRuns}
 use Rattle.flow_lower_plain_programs.specs.PlainPrograms.{IsPlainFlow, PlainUnitsHavePlainPrograms}
+use Rattle.turn_split_single.specs.TurnedUnits.{TurnedUnitsAreToldExactly}
 use Rattle.report_cli_units.specs.Judging.{IsTurned}
 use Rattle.report_cli.specs.DefinedRuns.{TypedUnitsPassLooks}
 use Rattle.report_cli.specs.PlainRuns.{JudgedPairsAreViolated, ReportsHoldJustRuns}
@@ -22,28 +23,28 @@ use Rattle.report_cli.proofs.FoundRuns.{program_of}
 abbrev PlainUnitsAreTold : Type 0
 PlainUnitsAreTold = (flow : Flow) (list : List ℤ) (found : List Diag) → IsAnalysis flow list found → FindsJustUnitRuns flow found
 
--- with no turns unrolled, the analysis is of the unit's own program
-analysed_itself : (turns : Option ℕ) (flow analysed : Flow) → turns ≡ None → IsTurned turns flow analysed → analysed ≡ flow
-analysed_itself None flow analysed none is = is
-analysed_itself (Some turns) flow analysed none is = cc
+-- the analysis is of the unit's own program, or of that with turns unrolled
+finds_run : PlainUnitsAreTold → TurnedUnitsAreToldExactly → (turns : Option ℕ) (flow analysed : Flow) (list : List ℤ) (found : List Diag) → IsTurned turns flow analysed → IsAnalysis analysed list found → FindsJustUnitRuns flow found
+finds_run told turned None flow analysed list found is own = told flow list found (subst (λ (p : Flow). IsAnalysis p list found) is own)
+finds_run told turned (Some turns) flow analysed list found is own = turned turns flow analysed list found is own
 
 -- what a plain unit is lowered to, with its accesses
 single_program : (program : Flow) (u : UnitView) → IsPlainFlow program → HasTypedAccesses program u → IsSingleProgram program u
 single_program program u flow accesses = record { plain = flow.plain; parameters = flow.parameters; calls = flow.calls; headless = flow.headless; steps = accesses }
 
-pub judged_pairs : TypedUnitsPassLooks → PlainUnitsAreTold → PlainUnitsHavePlainPrograms → JudgedPairsAreViolated
-judged_pairs pass told lowered unit s j judged none plain d there =
+pub judged_pairs : TypedUnitsPassLooks → PlainUnitsAreTold → TurnedUnitsAreToldExactly → PlainUnitsHavePlainPrograms → JudgedPairsAreViolated
+judged_pairs pass told turned lowered unit s j judged plain d there =
     let f = judged.found in
     let u = unit_view judged.checked in
-    let own = subst (λ (p : Flow). IsAnalysis p f.list f.runs) (analysed_itself s.turns judged.flow judged.analysed none judged.turned) f.by_runs in
+    let finds = finds_run told turned s.turns judged.flow judged.analysed f.list f.runs judged.turned f.by_runs in
     let is_unit : IsUnitOf u judged.flow = record { model = s.model; name = s.entry; tree = unit_tree judged.tree; limits = standard_limits; checked = judged.typed.checks; lowered = judged.lowered.lowers; plain = judged.plain } in
     let is_program = program_of s judged.tree judged.checked judged.flow judged.typed judged.regular judged.lowered judged.made in
     let single = single_program judged.flow u (lowered u standard_limits judged.flow is_program plain.look) plain.accesses in
     let looks = pass unit s judged.tree judged.checked judged.parsed judged.typed judged.looked judged.regular in
     elim (Contains-append_cases f.texts f.runs d (subst (λ ds. Contains ds d) f.both there)) [
       | inl text ↦ inl (f.by_texts.made d text)
-      | inr run ↦ inr ((told judged.flow f.list f.runs own u standard_limits is_unit is_program looks single d).0 run)
+      | inr run ↦ inr ((finds u standard_limits is_unit is_program looks single d).0 run)
     ]
 
 pub reports_hold_just : JudgedPairsAreViolated → ReportsHoldJustRuns
-reports_hold_just judged files dirs model main s names diags report none plain d there = judged report.expanded s report.found report.judged none plain d (report.listed.made d there)
+reports_hold_just judged files dirs model main s names diags report plain d there = judged report.expanded s report.found report.judged plain d (report.listed.made d there)

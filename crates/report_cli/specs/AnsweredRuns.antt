@@ -1,6 +1,6 @@
 -- The sentence: where `check` answers 0 or 1, what it has put holds each rule that a run of the unit violates; of a plain unit
 -- nothing more.
-use Rattle.std.specs.Prelude.{◌≡◌, ◌⊎◌, ℕ, List, None}
+use Rattle.std.specs.Prelude.{◌≡◌, ◌⊎◌, ℕ, List}
 use Rattle.cc_base.specs.declared.diagnostics.Diag.{Diag}
 use Rattle.c_layout.specs.CheckedUnits.{unit_view}
 use Rattle.c_layout.specs.declared.data_model.Model.{Model}
@@ -15,8 +15,8 @@ use Rattle.report_cli.specs.FoundRuns.{HoldsRunsOf}
 use Rattle.report_cli.specs.PlainRuns.{HoldsJustRun}
 
 -- the report of the unit, put whole and in one call, and that its diagnostics hold each rule that a run of the checked
--- unit violates, at its place; none of its runs is stuck; and where it is plain, and no turns are unrolled, each is that of a
--- syntactic rule or one that its run violates
+-- unit violates, at its place; none of its runs is stuck; and where it is plain, each is that of a syntactic rule or one that its
+-- run violates
 pub record TellsRuns (seen : Seen) (c : CommandView) (sink : Took) (status : ℕ) : Type 0 where
   pub model : Model
   pub has_model : HasModel seen.files c.model model
@@ -27,7 +27,7 @@ pub record TellsRuns (seen : Seen) (c : CommandView) (sink : Took) (status : ℕ
   pub put : PutOnce sink (report_in c.format names c.unit diags)
   pub holds : HoldsRunsOf (unit_view report.judged.checked) diags
   pub defined : IsNeverStuck (unit_view report.judged.checked)
-  pub plain : c.turns ≡ None → HoldsJustRun report.judged.checked report.judged.flow diags
+  pub plain : HoldsJustRun report.judged.checked report.judged.flow diags
 
 -- 0 or 1: of `check`, that the unit was accepted
 abbrev pub IsAccepting : ℕ → Type 0

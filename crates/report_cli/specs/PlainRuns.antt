@@ -1,5 +1,5 @@
 -- Of a plain unit no line is false: each is that of a syntactic rule, or the unit's run violates it.
-use Rattle.std.specs.Prelude.{◌≡◌, ◌⊎◌, List, Option, None}
+use Rattle.std.specs.Prelude.{◌⊎◌, List, Option}
 use Rattle.std.specs.List.{Contains}
 use Rattle.cc_base.specs.Outside.{Files}
 use Rattle.cc_base.specs.declared.diagnostics.Diag.{Diag}
@@ -21,12 +21,12 @@ abbrev pub HoldsJustRun : Checked → Flow → List Diag → Type 0
 HoldsJustRun checked program pairs =
     IsPlainUnit (unit_view checked) program → (d : Diag) → Contains pairs d → Contains (unit_places checked) d ⊎ RunViolates (unit_view checked) (record { at = d.place; rule = d.rule })
 
--- so are the pairs of a unit that is judged with no turns unrolled
+-- so are the pairs of a unit that is judged, with turns unrolled or without
 abbrev pub JudgedPairsAreViolated : Type 0
-JudgedPairsAreViolated = (unit : Unit7) (s : SettingView) (j : Judgement) (judged : IsJudged unit s j) → s.turns ≡ None → HoldsJustRun judged.checked judged.flow j.pairs
+JudgedPairsAreViolated = (unit : Unit7) (s : SettingView) (j : Judgement) (judged : IsJudged unit s j) → HoldsJustRun judged.checked judged.flow j.pairs
 
 -- and the diagnostics of a report of a unit that is read from files
 abbrev pub ReportsHoldJustRuns : Type 0
 ReportsHoldJustRuns =
-    (files : Option Files) (dirs : List Bytes) (model : Model) (main : Bytes) (s : SettingView) (names : List Bytes) (diags : List Diag) (report : IsReport (FromFiles files dirs model main) s names diags) → s.turns ≡ None
+    (files : Option Files) (dirs : List Bytes) (model : Model) (main : Bytes) (s : SettingView) (names : List Bytes) (diags : List Diag) (report : IsReport (FromFiles files dirs model main) s names diags)
     → HoldsJustRun report.judged.checked report.judged.flow diags

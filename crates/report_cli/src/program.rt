@@ -34,7 +34,7 @@ use std::alloc::Global;
 ///
 /// - `answer`: text and status are those that the definitions call for.
 /// - `runs` is the sentence: where `check` answers 0 or 1, what it has put holds each rule that a run of the unit
-///   violates; and of a plain unit, with no turns unrolled, only what its run violates and syntactic rules find.
+///   violates; and of a plain unit only what its run violates and syntactic rules find.
 /// - `gates`: so does what `gate` has put, together with what its baseline holds.
 /// - `verifies`: so does what `verify` has put of a certificate that is accepted.
 /// - `replays`: where `replay` answers 0 or 1, it has put the pairs of one run, and they stand in the unit's reports.

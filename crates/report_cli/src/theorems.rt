@@ -19,6 +19,7 @@ use cert_check_sound::accepted_certificates_hold_units;
 use flow_lower_plain_programs::plain_units_have_plain_programs;
 use report_cli_laws::one_parse;
 use template_runs_looked::{looked_runs_are_program_runs, looked_units_are_never_stuck};
+use turn_split_single::turned_units_are_told_exactly;
 
 /// A unit that is typed from its tokens passes the looks at its terms and scopes, where tokens are of bytes and functions
 /// are regular.
@@ -57,13 +58,14 @@ pub fn reports_hold_runs()
     judged_runs_are_found();
 }
 
-/// Where the unit is plain and no turns are unrolled, each pair that is told of it is that of a syntactic rule, or is violated
-/// by the unit's run under no numbers of the outside.
+/// Where the unit is plain, each pair that is told of it is that of a syntactic rule, or is violated by the unit's run under no
+/// numbers of the outside, also where turns are unrolled.
 pub fn judged_pairs_are_violated()
     ensures { JudgedPairsAreViolated }
 {
     typed_units_pass_looks();
     plain_units_are_told_exactly();
+    turned_units_are_told_exactly();
     plain_units_have_plain_programs();
 }
 
@@ -93,8 +95,8 @@ pub fn certificates_hold_runs()
 
 /// The sentence: where `check` answers 0 or 1, it has put the report of the unit whole and in one call, and its diagnostics
 /// hold each rule that a run of the checked unit violates, at its place: whatever comes from the outside, and after any
-/// number of turns. None of its runs is ever stuck. Where the unit is plain and no turns are unrolled, each diagnostic is that of a
-/// syntactic rule, or is violated by its run.
+/// number of turns. None of its runs is ever stuck. Where the unit is plain, each diagnostic is that of a syntactic rule, or is
+/// violated by its run.
 pub fn answers_hold_runs()
     ensures { AnswersHoldRuns }
 {

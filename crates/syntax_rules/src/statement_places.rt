@@ -105,11 +105,7 @@ fn add_statement(found: &mut Vec<Diag>, s: &CheckedStatement) -> Result<(), Allo
         CheckedStatement::StartList(_, _, stores) => add_stores(found, stores.as_slice()),
         CheckedStatement::Return(_, term) => add_optional(found, term),
         CheckedStatement::Block(_, items) => add_statements(found, items.as_slice()),
-        CheckedStatement::If(test, body) => {
-            add_condition(found, test)?;
-            add_statement(found, body)
-        }
-        CheckedStatement::While(test, body) => {
+        CheckedStatement::If(test, body) | CheckedStatement::While(test, body) => {
             add_condition(found, test)?;
             add_statement(found, body)
         }

@@ -128,19 +128,10 @@ pub fn add_term(found: &mut Vec<Diag>, term: &CheckedTerm, slot: Slot) -> Result
         | TermForm::Minus(operand)
         | TermForm::Complement(operand)
         | TermForm::Not(operand) => add_term(found, operand, Slot::Outside),
-        TermForm::Integer(_, left, right) => {
-            add_term(found, left, Slot::Outside)?;
-            add_term(found, right, Slot::Outside)
-        }
-        TermForm::Shift(_, _, left, right) => {
-            add_term(found, left, Slot::Outside)?;
-            add_term(found, right, Slot::Outside)
-        }
-        TermForm::Difference(_, left, right) => {
-            add_term(found, left, Slot::Outside)?;
-            add_term(found, right, Slot::Outside)
-        }
-        TermForm::Compare(_, left, right) => {
+        TermForm::Integer(_, left, right)
+        | TermForm::Shift(_, _, left, right)
+        | TermForm::Difference(_, left, right)
+        | TermForm::Compare(_, left, right) => {
             add_term(found, left, Slot::Outside)?;
             add_term(found, right, Slot::Outside)
         }
@@ -162,15 +153,12 @@ pub fn add_term(found: &mut Vec<Diag>, term: &CheckedTerm, slot: Slot) -> Result
             add_lvalue(found, target)?;
             add_term(found, value, Slot::Outside)
         }
-        TermForm::Compound(_, _, target, value) => {
+        TermForm::Compound(_, _, target, value) | TermForm::CompoundShift(_, _, target, value) => {
             add_lvalue(found, target)?;
             add_term(found, value, Slot::Outside)
         }
-        TermForm::CompoundShift(_, _, target, value) => {
-            add_lvalue(found, target)?;
-            add_term(found, value, Slot::Outside)
+        TermForm::Call(_, arguments, _) | TermForm::Library(_, arguments, _) => {
+            add_terms(found, arguments.as_slice())
         }
-        TermForm::Call(_, arguments, _) => add_terms(found, arguments.as_slice()),
-        TermForm::Library(_, arguments, _) => add_terms(found, arguments.as_slice()),
     }
 }

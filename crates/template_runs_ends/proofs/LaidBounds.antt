@@ -7,7 +7,7 @@ use Rattle.template_runs.specs.TemplateExits.{behind_mark}
 use Rattle.template_runs_laid.specs.Copies.{Opened, Copy}
 use Rattle.template_runs_laid.specs.Layouts as laid
 use Rattle.template_runs_laid.specs.Layouts.{AreLed, edges_at, Laid}
-use Rattle.template_runs_ends.specs.BoundedTemplates.{LeadOn, GoOn, HasBound, EnterLater, EdgesGoOn}
+use Rattle.template_runs_ends.specs.BoundedTemplates.{ExitsGoOn, GoOn, HasBound, EnterLater, EdgesGoOn}
 use Rattle.template_runs_ends.proofs.Lists.{last_behind, has_bound}
 
 module _ (o : Opened) where
@@ -37,7 +37,7 @@ module _ (o : Opened) where
     abbrev StandBehind : Copy → ℕ → List PieceView → Type 0
     StandBehind c block ps = (l : ℕ) → block < c.labels l → behind_mark l (o.of c.function).pieces ≡ behind_mark l ps
 
-    lead_on : (c : Copy) (block : ℕ) (ps : List PieceView) → StandBehind c block ps → (exits : List ExitView) (edges : List EdgeView) → AreLed o c exits edges → EnterLater block edges → LeadOn (o.of c.function).pieces ps exits
+    lead_on : (c : Copy) (block : ℕ) (ps : List PieceView) → StandBehind c block ps → (exits : List ExitView) (edges : List EdgeView) → AreLed o c exits edges → EnterLater block edges → ExitsGoOn (o.of c.function).pieces ps exits
     lead_on c block ps stand _ _ laid.none later = tt
     lead_on c block ps stand _ _ (laid.one e begun taken es edges is led) later = ((λ rest found. last_behind e.to ps rest (sym (stand e.to later.0) ∙ found)), lead_on c block ps stand es edges led later.1)
 

@@ -10,7 +10,7 @@ use Rattle.template_runs.specs.TemplateExits.{behind_mark}
 use Rattle.template_runs_settled.specs.SettledRuns.{Settles}
 use Rattle.template_runs_settled.proofs.SettledPieces.{from, own, settled_from, led}
 use Rattle.template_runs_settled.proofs.QuietFunctions.{Quiet, AreIdle, idle_template, silent_is_quiet}
-use Rattle.template_runs_ends.specs.BoundedTemplates.{AreLast, LeadOn, GoOn, IsBounded, HasBound}
+use Rattle.template_runs_ends.specs.BoundedTemplates.{AreLast, ExitsGoOn, GoOn, IsBounded, HasBound}
 use Rattle.template_runs_ends.proofs.Lists.{itself, last_behind, last_next, compared, has_bound}
 
 -- ---- what is left of pieces
@@ -142,7 +142,7 @@ module _ (u : UnitView) (made settles : ℕ → TemplateView) (known : (n : ℕ)
     no_more : (a b c : ℕ) → a ≤ b → b < c → a ≡ c → ⊥
     no_more a b c le less e = omega (arith, le, less, e)
 
-    lead_on : (s : Step) (exits : List ExitView) (ps : List PieceView) (j : ℕ) → AreLast (End s exits ∷ ps) (made n).pieces → (es : List ExitView) → LeadOn (settles n).pieces (remains j false ps) (renamed_exits names es) → LeadOn (made n).pieces ps es
+    lead_on : (s : Step) (exits : List ExitView) (ps : List PieceView) (j : ℕ) → AreLast (End s exits ∷ ps) (made n).pieces → (es : List ExitView) → ExitsGoOn (settles n).pieces (remains j false ps) (renamed_exits names es) → ExitsGoOn (made n).pieces ps es
     lead_on s exits ps j last [] lead = tt
     lead_on s exits ps j last (e ∷ es) (one, lead) = ((λ rest found. by rest found (compared (End s exits) ps rest (made n).pieces last (last_behind e.to (made n).pieces rest found))), lead_on s exits ps j last es lead)
       where

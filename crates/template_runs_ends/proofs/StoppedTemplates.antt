@@ -22,7 +22,7 @@ use Rattle.template_runs.specs.TemplateSteps as runs
 use Rattle.template_runs.specs.TemplateSteps.{from_temp, up_to, run_by, next, steps_from, template_begin}
 use Rattle.template_runs_settled.specs.SettledRuns.{templates}
 use Rattle.template_runs_settled.proofs.SameActs.{changed_in, over, same_act, same_way}
-use Rattle.template_runs_ends.specs.BoundedTemplates.{AreLast, LeadOn, GoOn, IsBounded}
+use Rattle.template_runs_ends.specs.BoundedTemplates.{AreLast, ExitsGoOn, GoOn, IsBounded}
 use Rattle.template_runs_ends.proofs.Lists.{itself}
 
 module _ (u : UnitView) (of : ℕ → TemplateView) where
@@ -68,7 +68,7 @@ module _ (u : UnitView) (of : ℕ → TemplateView) where
     LeadsOn None = Unit {0}
     LeadsOn (Some e) = (rest : List PieceView) → behind_mark e.to (of g).pieces ≡ Some rest → AreLast rest ps
 
-    taken : (v : Scalar) (es : List ExitView) → LeadOn (of g).pieces ps es → LeadsOn (exit_taken v es)
+    taken : (v : Scalar) (es : List ExitView) → ExitsGoOn (of g).pieces ps es → LeadsOn (exit_taken v es)
     taken v [] lead = tt
     taken v (e ∷ es) lead = by (is_taken v e.taken) (taken v es lead.1)
       where
@@ -93,19 +93,19 @@ module _ (u : UnitView) (of : ℕ → TemplateView) where
         by (goes r v) = labelled e.to lead r.temps r.names r.world
         by (stops why v) = (0, tt)
 
-    left_by : (es : List ExitView) → LeadOn (of g).pieces ps es → (v : Scalar) (temps : ℕ → Option Scalar) (names : ℕ → Option ℕ) (w : World) → Ran (on_exit t (here temps names w) es v)
+    left_by : (es : List ExitView) → ExitsGoOn (of g).pieces ps es → (v : Scalar) (temps : ℕ → Option Scalar) (names : ℕ → Option ℕ) (w : World) → Ran (on_exit t (here temps names w) es v)
     left_by es lead v temps names w = chosen (exit_taken v es) (taken v es lead) temps names w
 
-    switched : (es : List ExitView) → LeadOn (of g).pieces ps es → (v : Scalar) (temps : ℕ → Option Scalar) (names : ℕ → Option ℕ) (w : World) → Ran (with_number v w (λ k labels v_w. on_exit t (here temps names w) es v))
+    switched : (es : List ExitView) → ExitsGoOn (of g).pieces ps es → (v : Scalar) (temps : ℕ → Option Scalar) (names : ℕ → Option ℕ) (w : World) → Ran (with_number v w (λ k labels v_w. on_exit t (here temps names w) es v))
     switched es lead (integer k labels) temps names w = left_by es lead (integer k labels) temps names w
     switched es lead (pointer p) temps names w = (0, tt)
 
-    read : (es : List ExitView) → LeadOn (of g).pieces ps es → (to : Option ℕ) (temps : ℕ → Option Scalar) (names : ℕ → Option ℕ) (w : World) (x : Reply Scalar) → Ran (behind x (λ v v_w. on_exit t (put_if to v (with_world (here temps names w) v_w)) es v))
+    read : (es : List ExitView) → ExitsGoOn (of g).pieces ps es → (to : Option ℕ) (temps : ℕ → Option Scalar) (names : ℕ → Option ℕ) (w : World) (x : Reply Scalar) → Ran (behind x (λ v v_w. on_exit t (put_if to v (with_world (here temps names w) v_w)) es v))
     read es lead None temps names w (goes v v_w) = left_by es lead v temps names v_w
     read es lead (Some k) temps names w (goes v v_w) = left_by es lead v (put_at temps k v) names v_w
     read es lead to temps names w (stops why v_w) = (0, tt)
 
-    ended : (a : Act) (es : List ExitView) → LeadOn (of g).pieces ps es → (temps : ℕ → Option Scalar) (names : ℕ → Option ℕ) (w : World) → Ran (end_block t a es (here temps names w))
+    ended : (a : Act) (es : List ExitView) → ExitsGoOn (of g).pieces ps es → (temps : ℕ → Option Scalar) (names : ℕ → Option ℕ) (w : World) → Ran (end_block t a es (here temps names w))
     ended act.Jump es lead temps names w = left_by es lead (integer (pos 0) no_labels) temps names w
     ended (act.Branch at_temp kind) es lead temps names w = by (temps at_temp)
       where

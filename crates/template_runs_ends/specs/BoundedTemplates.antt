@@ -12,16 +12,16 @@ AreLast rest [] = rest ≡ []
 AreLast rest (p ∷ ps) = (rest ≡ p ∷ ps) ⊎ AreLast rest ps
 
 -- edges lead to labels behind them
-abbrev pub LeadOn : List PieceView → List PieceView → List ExitView → Type 0
-LeadOn whole ps [] = Unit {0}
-LeadOn whole ps (e ∷ es) = ((rest : List PieceView) → behind_mark e.to whole ≡ Some rest → AreLast rest ps) × LeadOn whole ps es
+abbrev pub ExitsGoOn : List PieceView → List PieceView → List ExitView → Type 0
+ExitsGoOn whole ps [] = Unit {0}
+ExitsGoOn whole ps (e ∷ es) = ((rest : List PieceView) → behind_mark e.to whole ≡ Some rest → AreLast rest ps) × ExitsGoOn whole ps es
 
 -- so do all edges of pieces, and something holds of the functions that they call
 abbrev pub GoOn : (ℕ → Type 0) → List PieceView → List PieceView → Type 0
 GoOn Q whole [] = Unit {0}
 GoOn Q whole (Do s ∷ ps) = GoOn Q whole ps
 GoOn Q whole (DoIfUsed s ∷ ps) = GoOn Q whole ps
-GoOn Q whole (End s exits ∷ ps) = LeadOn whole ps exits × GoOn Q whole ps
+GoOn Q whole (End s exits ∷ ps) = ExitsGoOn whole ps exits × GoOn Q whole ps
 GoOn Q whole (Mark l ∷ ps) = GoOn Q whole ps
 GoOn Q whole (Call c ∷ ps) = Q c.function × GoOn Q whole ps
 

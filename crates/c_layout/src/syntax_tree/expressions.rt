@@ -1,5 +1,5 @@
 //! Expressions (6.5 of ISO/IEC 9899:2011).
-use crate::syntax_tree::declarations::TypeWord;
+use crate::syntax_tree::declarations::{Storage, TypeWord};
 use cc_base::{IntType, Place, Text};
 
 /// An identifier and its place.
@@ -80,8 +80,7 @@ pub enum AssignOp {
 /// A word of a type name, in which no struct and no enumeration has a body.
 #[derive(Drop)]
 pub enum TypeNameWord {
-    /// A storage class: a type name has none, which typing refuses.
-    Storage(Place),
+    Storage(Place, Storage),
     /// `const`, `restrict` or `inline`.
     Qualifier(Place),
     Type(Place, TypeWord),

@@ -4,4 +4,4 @@ use Rattle.c_types_objects.specs.UnitObjects.{first_past}
 use Rattle.c_types_objects.proofs.unit_objects.first_past.Given as goal
 
 abbrev pub invariant-loop-at : goal.invariant-loop-at
-invariant-loop-at l = first_past l.sizes (map static_view (drop l.at l.objects)) ≡ first_past l.sizes (map static_view l.objects)
+invariant-loop-at l = first_past l.sizes (map static_view l.objects) (drop l.at l.initializers) ≡ first_past l.sizes (map static_view l.objects) l.initializers

@@ -1,0 +1,65 @@
+//! What the analysis and the run tell of plain units, which take nothing from outside.
+use crate::call::check;
+use crate::run_rows::run_tells;
+use std::test::Fail;
+
+/// A unit, and the texts of its analysis and of its run.
+type Plain<'a> = (&'a str, &'a str, &'a str);
+
+/// Structs that are copied by an assignment and by an initializer; each access is of what lies there, and both tell the
+/// same.
+const COPYING: [Plain<'static>; 3] = [
+    (
+        "struct s{int a;int b;};int main(void){struct s x={3,0};struct s y;y=x;return x.a/y.b;}",
+        "a.c:1:81: diverr: division is undefined\n1 diagnostics in a.c\n",
+        "a.c:1:81: diverr: division is undefined\nend: violation, 0 draws used\n1 diagnostics in a.c\n",
+    ),
+    (
+        "struct s{int a;int b;};int main(void){struct s x={3,0};struct s y=x;return 1/y.b;}",
+        "a.c:1:77: diverr: division is undefined\n1 diagnostics in a.c\n",
+        "a.c:1:77: diverr: division is undefined\nend: violation, 0 draws used\n1 diagnostics in a.c\n",
+    ),
+    (
+        "struct s{int a;int b;};int main(void){struct s x={3,0};struct s*p=&x;struct s y;y=*p;y.a=y.a-3;return 1/y.a+1/x.a;}",
+        "a.c:1:104: diverr: division is undefined\n1 diagnostics in a.c\n",
+        "a.c:1:104: diverr: division is undefined\nend: violation, 0 draws used\n1 diagnostics in a.c\n",
+    ),
+];
+
+/// An access that is of another type than what lies there, or a copy between places that overlap in part (6.5.16.1 of
+/// ISO/IEC 9899:2011): the analysis tells lines that the run does not violate.
+const UNTYPED: [Plain<'static>; 3] = [
+    (
+        "int main(void){int x=1;unsigned char*p=(unsigned char*)&x;return 1/p[0];}",
+        "a.c:1:67: diverr: division is undefined\n1 diagnostics in a.c\n",
+        "end: ended, 0 draws used\n0 diagnostics in a.c\n",
+    ),
+    (
+        "int main(void){int x=1;char*p=(char*)&x;p[0]=2;return 1/(x-1);}",
+        "a.c:1:56: diverr: division is undefined\na.c:1:59: intoflow: signed result is out of range\n2 diagnostics in a.c\n",
+        "end: ended, 0 draws used\n0 diagnostics in a.c\n",
+    ),
+    (
+        "struct s{int x;int y;};int main(void){int v[3]={1,2,0};*(struct s*)(v+1)=*(struct s*)v;return 1/(v[0]-1);}",
+        "a.c:1:96: diverr: division is undefined\n1 diagnostics in a.c\n",
+        "end: left, 0 draws used\n0 diagnostics in a.c\n",
+    ),
+];
+
+#[test]
+fn copies_of_structs_are_told_as_they_run(rt: HostRuntime) -> Result<(), Fail> {
+    for (source, analysed, run) in &COPYING {
+        check(&rt, rt.alloc(), source, 1, analysed)?;
+        run_tells(&rt, rt.alloc(), source, "", 1, run)?;
+    }
+    Ok(())
+}
+
+#[test]
+fn accesses_of_another_type_have_lines_that_no_run_has(rt: HostRuntime) -> Result<(), Fail> {
+    for (source, analysed, run) in &UNTYPED {
+        check(&rt, rt.alloc(), source, 1, analysed)?;
+        run_tells(&rt, rt.alloc(), source, "", 0, run)?;
+    }
+    Ok(())
+}

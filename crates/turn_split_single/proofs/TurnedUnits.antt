@@ -1,0 +1,43 @@
+-- An analysis of a plain unit's program with turns unrolled finds just what the run of the unit violates.
+use Rattle.std.proofs.Common.{◌≡◌, sym, subst}
+use Rattle.std.specs.Prelude.{◌↔◌, ℕ, ℤ, true, List}
+use Rattle.std.specs.List.{Contains}
+use Rattle.cc_base.specs.declared.diagnostics.Diag.{Diag}
+use Rattle.cc_base.specs.declared.limit_table.Limits.{Limits}
+use Rattle.c_layout.specs.CheckedUnits.{UnitView}
+use Rattle.flow_program.specs.WellFormed.{is_well_formed}
+use Rattle.flow_program.specs.declared.programs.Flow.{Flow}
+use Rattle.flow_program_views.specs.ProgramViews.{flow_view}
+use Rattle.lib_models_effects.specs.Worlds.{Violation}
+use Rattle.turn_split.specs.Turns.{split}
+use Rattle.template_runs_ends.specs.EndedRuns.{UnitsWithoutLoopsEnd}
+use Rattle.template_runs_looked.specs.LookedRuns.{LookedUnitsAreNeverStuck, LookedRunsAreProgramRuns}
+use Rattle.abstract_steps_sound_checked_starts.proofs.CheckedStarts.{unit_starts}
+use Rattle.abstract_steps_sound_units.proofs.CheckedUnits.{analysed_structs, same_structs}
+use Rattle.abstract_steps_sound_units.proofs.TurnedSound.{starts_same}
+use Rattle.abstract_steps_single_switches.specs.UnitSwitches.{UnitSwitchesAreApart}
+use Rattle.abstract_steps_single_analyses.proofs.SingleAnalyses.{finds_run}
+use Rattle.abstract_steps_single_analyses.specs.Analyses.{IsAnalysis}
+use Rattle.abstract_steps_single_units.specs.CheckedStarts.{IsUnitOf}
+use Rattle.abstract_steps_single_units.specs.SingleRuns.{SwitchesAreApart, IsNeverStuckAlone, IsSingleProgram, IsViolatedAlone}
+use Rattle.abstract_steps_single_units.proofs.SingleUnits.{by_unit_run}
+use Rattle.turn_split_single.specs.TurnedUnits.{TurnedUnitsAreToldExactly}
+use Rattle.turn_split_single.proofs.SingleCopies.{apart_too, same_found, never_stuck_too, single_too}
+
+module _ (turns : ℕ) (limits : Limits) (flow turned : Flow) (good : is_well_formed limits flow ≡ true) (h : flow_view turned ≡ split turns (flow_view flow)) (list : List ℤ) (found : List Diag) (a : IsAnalysis turned list found) (u : UnitView) (is : IsUnitOf u flow) where
+  -- the run of the program violates what that of the unrolled one does
+  alone : (d : Diag) → Contains found d ↔ IsViolatedAlone turned u d.place d.rule → Contains found d ↔ IsViolatedAlone flow u d.place d.rule
+  alone d told =
+      let v : Violation = record { at = d.place; rule = d.rule } in (
+        λ there. let x = told.0 there in record { count = x.count; there = subst (λ vs. Contains vs v) (sym (same_found turns limits flow turned good h u x.count)) x.there },
+        λ x. told.1 (record { count = x.count; there = subst (λ vs. Contains vs v) (same_found turns limits flow turned good h u x.count) x.there }),
+      )
+
+  pub turned_run : SwitchesAreApart flow → IsNeverStuckAlone flow u → IsSingleProgram flow u → (d : Diag) → Contains found d ↔ IsViolatedAlone flow u d.place d.rule
+  turned_run apart unstuck single d =
+      let starts = starts_same turns limits flow turned good h u (unit_starts u flow (same_structs turns flow turned h (analysed_structs turned list found a)) is) in
+      alone d (finds_run turned list found a u starts (apart_too turns limits flow turned good h apart) (never_stuck_too turns limits flow turned good h u unstuck) (single_too turns limits flow turned good h u single) d)
+
+pub turned_units_told : LookedRunsAreProgramRuns → LookedUnitsAreNeverStuck → UnitSwitchesAreApart → UnitsWithoutLoopsEnd → TurnedUnitsAreToldExactly
+turned_units_told laws never apart ends turns flow turned list found h a u limits is o looks single d =
+    by_unit_run laws never ends u limits flow o looks single found d (λ unstuck. turned_run turns limits flow turned o.good h list found a u is (apart u limits flow o) unstuck single d)

@@ -1,0 +1,22 @@
+//! Of a plain unit an analysis of the program with turns unrolled finds just what the unit's run violates, as one of the
+//! program itself does. What is supposed of the unit's program is named in the specification.
+ghost use Rattle.turn_split_single.specs.TurnedUnits.{TurnedProgramsAreSingle, TurnedUnitsAreToldExactly};
+
+use abstract_steps_single_switches::unit_switches_are_apart;
+use template_runs_ends::units_without_loops_end;
+use template_runs_looked::{looked_runs_are_program_runs, looked_units_are_never_stuck};
+
+/// Unrolling keeps what the laws on plain units suppose of a program and of its run.
+pub fn turned_programs_are_single()
+    ensures { TurnedProgramsAreSingle }
+{}
+
+/// Each pair that is found is violated by the unit's run under no numbers of the outside, and each that it violates is found.
+pub fn turned_units_are_told_exactly()
+    ensures { TurnedUnitsAreToldExactly }
+{
+    looked_runs_are_program_runs();
+    looked_units_are_never_stuck();
+    unit_switches_are_apart();
+    units_without_loops_end();
+}
