@@ -20,9 +20,10 @@ abbrev pub target_type : Target → Ty
 target_type (Element t) = t
 target_type (Place t) = t
 
--- what is known of the value of a temporary: that it is zero, or a pointer to a type
+-- what is known of the value of a temporary: that it is zero, a null pointer, or a pointer to a type
 pub data Known : Type 0 where
   Zero : Known
+  Null : Known
   Pointing : (target : Target) → Known
 
 module _ (structs : List StructView) (pointer_size : ℕ) where
@@ -47,6 +48,8 @@ module _ (structs : List StructView) (pointer_size : ℕ) where
   abbrev pub Has : (ℕ → Option Ty) → Known → Scalar → Type 0
   Has types Zero (integer n labels) = n ≡ pos 0
   Has types Zero (pointer p) = ⊥
+  Has types Null (integer n labels) = ⊥
+  Has types Null (pointer p) = p ≡ null
   Has types (Pointing target) (integer n labels) = ⊥
   Has types (Pointing target) (pointer p) = Points types target p
 
@@ -61,6 +64,8 @@ pub data IsUnder : Target → Target → Type 0 where
 
 abbrev pub IsLess : Known → Known → Type 0
 IsLess Zero Zero = Unit {0}
+IsLess Null Null = Unit {0}
+IsLess Null (Pointing target) = Unit {0}
 IsLess (Pointing a) (Pointing b) = IsUnder a b
 IsLess k m = ⊥
 
@@ -74,4 +79,4 @@ pub data IsOfKind : Ty → declared.Scalar → Option Known → Type 0 where
 -- a value may be stored where a scalar stands: each number where a number does
 abbrev pub IsStorable : Option Known → Option Known → Type 0
 IsStorable None value = Unit {0}
-IsStorable (Some k) value = value ≡ Some k
+IsStorable (Some k) value = (v : Known) × (value ≡ Some v) × IsLess v k

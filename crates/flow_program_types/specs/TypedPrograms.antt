@@ -31,7 +31,7 @@ use Rattle.store_domain_laws_layouts.specs.LaidApart.{has_class_bytes}
 use Rattle.abstract_steps_single_runs.specs.SingleRuns.{IsPlainOperation, HasTypedAccesses}
 use Rattle.flow_program_types.specs.TypeBytes.{scalar_byte}
 use Rattle.flow_program_types.specs.StandingTypes.{AreLaidOut, Stands}
-use Rattle.flow_program_types.specs.PointedTypes.{Target, Element, Place, target_type, Known, Zero, Pointing, IsLess, Points, IsOfKind, IsStorable}
+use Rattle.flow_program_types.specs.PointedTypes.{Target, Element, Place, target_type, Known, Zero, Null, Pointing, IsLess, Points, IsOfKind, IsStorable}
 use Rattle.flow_program_types.specs.TypedStates.{Temporaries}
 
 abbrev pub structs_of : Flow → List StructView
@@ -64,8 +64,10 @@ Keeps (Some kept) before after = Gives kept.0 (before kept.1) before after
 module _ (flow : Flow) (objects : ℕ → Ty) (before after : Temporaries) where
   -- a temporary points to a type
   pub record PointsTo (temp : ℕ) (t : Ty) : Type 0 where
+    pub known : Known
     pub target : Target
-    pub known : before temp ≡ Some (Pointing target)
+    pub has : before temp ≡ Some known
+    pub less : IsLess known (Pointing target)
     pub is : target_type target ≡ t
 
   pub data IsTypedOperation : Operation → Type 0 where
@@ -79,7 +81,7 @@ module _ (flow : Flow) (objects : ℕ → Ty) (before after : Temporaries) where
     copies : (to from index : ℕ) → PointsTo to (Struct index) → PointsTo from (Struct index) → IsKept before after → IsTypedOperation (op.Copy to from index)
     -- a member, or an array as its first element
     narrows : (to from offset size : ℕ) (t inner : Ty) → PointsTo from t → Stands (structs_of flow) flow.model.pointer t inner offset → size ≡ size_in flow inner → 0 < size → Gives to (Some (Pointing (Element inner))) before after → IsTypedOperation (op.Narrow to from offset size)
-    shifts : (to from : ℕ) (by : Amount) (size : ℕ) (back : _) (t : Ty) → before from ≡ Some (Pointing (Element t)) → size ≡ size_in flow t → 0 < size → Gives to (Some (Pointing (Element t))) before after → IsTypedOperation (op.Shift to from by size back)
+    shifts : (to from : ℕ) (by : Amount) (size : ℕ) (back : _) (t : Ty) → (known : Known) → before from ≡ Some known → IsLess known (Pointing (Element t)) → size ≡ size_in flow t → 0 < size → Gives to (Some (Pointing (Element t))) before after → IsTypedOperation (op.Shift to from by size back)
     computes : (to : ℕ) (sign : _) (left : ℕ) (right : Amount) (kind : IntType) → Gives to None before after → IsTypedOperation (op.Binary to sign left right kind)
     computes_one : (to : ℕ) (sign : _) (from : ℕ) (kind : IntType) → Gives to None before after → IsTypedOperation (op.Unary to sign from kind)
     compares : (to : ℕ) (sign : _) (left right : ℕ) → Gives to None before after → IsTypedOperation (op.Compare to sign left right)
@@ -88,7 +90,7 @@ module _ (flow : Flow) (objects : ℕ → Ty) (before after : Temporaries) where
     compares_pointers : (to : ℕ) (sign : _) (left right : ℕ) → Gives to None before after → IsTypedOperation (op.ComparePointers to sign left right)
     to_number : (to from : ℕ) (old : Scalar) (kind : IntType) → Gives to None before after → IsTypedOperation (op.Convert to from old (of.Int kind))
     -- 0 is null, a pointer to each type; a pointer stays as it is
-    to_null : (to from : ℕ) (kind : IntType) (target : Target) → before from ≡ Some Zero → Gives to (Some (Pointing target)) before after → IsTypedOperation (op.Convert to from (of.Int kind) of.Pointer)
+    to_null : (to from : ℕ) (kind : IntType) → before from ≡ Some Zero → Gives to (Some Null) before after → IsTypedOperation (op.Convert to from (of.Int kind) of.Pointer)
     to_pointer : (to from : ℕ) → Gives to (before from) before after → IsTypedOperation (op.Convert to from of.Pointer of.Pointer)
     calls : (to : Option ℕ) (name : _) (arguments : _) (newest : _) (size : _) → IsPlainOperation (op.Library to name arguments newest size) → GivesIf to None before after → IsTypedOperation (op.Library to name arguments newest size)
     enters : (base : ℕ) → IsKept before after → IsTypedOperation (op.Enter base)
