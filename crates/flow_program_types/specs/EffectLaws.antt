@@ -20,6 +20,7 @@ use Rattle.lib_models_effects.specs.NumberedTables.{put_at}
 use Rattle.lib_models_effects.specs.ObjectEffects.{next_instance, entered, left, forgotten, cleared, spelled}
 use Rattle.lib_models_effects.specs.PointerEffects.{narrow, shift}
 use Rattle.lib_models_effects.specs.StructCopies.{copy_struct}
+use Rattle.lib_models_effects.specs.Tests.{SideTest, pass_test, pass_case}
 use Rattle.lib_models_effects.specs.Touches.{storage_at}
 use Rattle.lib_models_effects.specs.UnitStarts.{start_world}
 use Rattle.flow_program_types.specs.StandingTypes.{AreLaidOut, Stands}
@@ -92,6 +93,15 @@ ClearsKeepTypes = (structs : List StructView) (pointer_size : ℕ) (types : ℕ 
 
 abbrev pub SpellsKeepTypes : Type 0
 SpellsKeepTypes = (structs : List StructView) (pointer_size : ℕ) (types : ℕ → Option Ty) (i offset room : ℕ) (text : List ℕ) (w : World) → IsTypedMemory structs pointer_size types w.memory → KeepsTypes structs pointer_size types w (spelled i offset room text w)
+
+-- ---- tests
+
+-- a test on an edge drops labels alone
+abbrev pub TestsKeepTypes : Type 0
+TestsKeepTypes = (m : Model) (structs : List StructView) (pointer_size : ℕ) (types : ℕ → Option Ty) (t : SideTest) (w after : World) (done : _) → IsTypedMemory structs pointer_size types w.memory → pass_test m t w ≡ goes done after → KeepsTypes structs pointer_size types w after
+
+abbrev pub CasesKeepTypes : Type 0
+CasesKeepTypes = (m : Model) (structs : List StructView) (pointer_size : ℕ) (types : ℕ → Option Ty) (i : ℕ) (kind : IntType) (value : ℤ) (w after : World) (done : _) → IsTypedMemory structs pointer_size types w.memory → pass_case m i kind value w ≡ goes done after → KeepsTypes structs pointer_size types w after
 
 -- ---- the start
 

@@ -1,0 +1,5 @@
+pub mod TypedBytes
+pub mod PointedPlaces
+pub mod Stores
+pub mod Loads
+pub mod Copies
