@@ -82,7 +82,7 @@ module _ (m : Model) (structs : List StructView) (types : ℕ → Option Ty) (p 
       ])
 
   by_kind : (target : Target) (t : Ty) (kind : declared.Scalar) (known : Option Known) → 0 < m.pointer → target_type target ≡ t → IsOfKind t kind known → IsTypedMemory structs m.pointer types w.memory → Points structs m.pointer types target p → load m kind (pointer p) w ≡ goes v after → HasIf structs m.pointer types known v
-  by_kind target _ _ _ wide is (number_kind k) typed points goes_on = tt
+  by_kind target _ _ _ wide is (number_kind k some) typed points goes_on = tt
   by_kind target _ _ _ wide is (pointer_kind t) typed points goes_on = loaded_pointer target t wide is typed points goes_on
 
 pub loads : LoadsAreTyped

@@ -107,8 +107,8 @@ module _ (m : Model) (structs : List StructView) (types : ℕ → Option Ty) (p 
       pointers_typed outer t s.spot.offset (class_bytes m class.Pointer) q wide stands has)
 
   by_kind : (target : Target) (t : Ty) (kind : declared.Scalar) (known : Option Known) (v kept : Scalar) → 0 < m.pointer → target_type target ≡ t → IsOfKind t kind known → Points structs m.pointer types target p → HasIf structs m.pointer types known v → store m kind (pointer p) v w ≡ goes kept after → KeepsTypes structs m.pointer types w after
-  by_kind target _ _ _ (integer n labels) kept wide is (number_kind k) points has goes_on = stored_number k n labels kept goes_on
-  by_kind target _ _ _ (pointer q) kept wide is (number_kind k) points has goes_on = absurd (cc)
+  by_kind target _ _ _ (integer n labels) kept wide is (number_kind k some) points has goes_on = stored_number k n labels kept goes_on
+  by_kind target _ _ _ (pointer q) kept wide is (number_kind k some) points has goes_on = absurd (cc)
   by_kind target _ _ _ (integer n labels) kept wide is (pointer_kind t) points has goes_on = absurd has
   by_kind target _ _ _ (pointer q) kept wide is (pointer_kind t) points has goes_on = stored_pointer target t q kept wide is points has goes_on
 
