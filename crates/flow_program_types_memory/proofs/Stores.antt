@@ -33,15 +33,7 @@ use Rattle.flow_program_types.specs.StandingTypes.{Stands}
 use Rattle.flow_program_types.specs.TypedStates.{AreDeclared, IsTypedMemory}
 use Rattle.flow_program_types.specs.EffectLaws.{HasIf, KeepsTypes, StoresKeepTypes}
 use Rattle.flow_program_types_memory.proofs.PointedPlaces.{IsAt, points_at, pointer_there, same_pointed, pointer_wide}
-use Rattle.flow_program_types_memory.proofs.TypedBytes.{IsNoPart, no_part, AreTypedBytes, AreTypedContents, typed_at, typed_refilled, set_keeps}
-
-abbrev part_of : Content → MachinePointer
-part_of (part p k) = p
-part_of other = null
-
-abbrev number_of_part : Content → ℕ
-number_of_part (part p k) = k
-number_of_part other = 0
+use Rattle.flow_program_types_memory.proofs.TypedBytes.{AreTypedBytes, AreTypedContents, typed_at, typed_refilled, numbers_typed, pointer_typed, set_keeps}
 
 -- a store that goes on has written the bytes of the value
 record IsStored (m : Model) (class : Class) (v : Scalar) (p : MachinePointer) (w after : World) : Type 0 where
@@ -78,24 +70,10 @@ module _ (m : Model) (structs : List StructView) (types : ℕ → Option Ty) (p 
       subst (λ b. AreTypedBytes structs m.pointer types outer (stored_bytes b (class_in kind) (bytes_at w.memory i) s.spot.offset cs)) (sym (are i outer is))
       (typed_refilled structs m.pointer types outer (bytes_at w.memory i) s.spot.offset cs (typed_at structs m.pointer types w.memory typed i outer is) (new outer is))))
 
-  numbers_typed : (outer : Ty) (offset size n : ℕ) (labels : Labels) → AreTypedContents structs m.pointer types outer offset (number_bytes size n labels)
-  numbers_typed outer offset size n labels k t q there byte = let r = numbers_at size n labels k (part q 0) there in cc
-
-  -- a pointer alone has a first part, at the place of the store
-  pointers_typed : (outer t : Ty) (offset size : ℕ) (q : MachinePointer) → 0 < m.pointer → Stands structs m.pointer outer (Pointer t) offset → Points structs m.pointer types (Element t) q → AreTypedContents structs m.pointer types outer offset (pointer_bytes size q)
-  pointers_typed outer t offset size null wide stands points k u q there byte = numbers_typed outer offset size 0 no_labels k u q there byte
-  pointers_typed outer t offset size (into i o lo hi) wide stands points k u q there byte =
-      let r = parts_at (into i o lo hi) 0 size k (part q 0) there in
-      let same : q ≡ into i o lo hi = ap (part_of) r.0 in
-      let number : 0 ≡ 0 + k = ap (number_of_part) r.0 in
-      let first : offset + k ≡ offset = omega (arith, number) in
-      let inner : t ≡ u = same_pointed structs m.pointer types outer t u offset (pointer_there structs m.pointer types outer t offset wide stands) (ap (scalar_byte structs m.pointer outer) (sym first) ∙ byte) in
-      subst (λ z. Points structs m.pointer types (Element z) q) inner (subst (Points structs m.pointer types (Element t)) (sym same) points)
-
   stored_number : (k : IntType) (n : ℤ) (labels : Labels) (kept : Scalar) → store_through m (of.Int k) (integer n labels) p w ≡ goes kept after → KeepsTypes structs m.pointer types w after
   stored_number k n labels kept goes_on =
       let s = through m (of.Int k) (integer n labels) kept p w after goes_on in
-      written (of.Int k) (integer n labels) s (λ outer is. numbers_typed outer s.spot.offset (class_bytes m (class_of k)) (bits_in (class_bytes m (class_of k)) n) labels)
+      written (of.Int k) (integer n labels) s (λ outer is. numbers_typed structs m.pointer types outer s.spot.offset (class_bytes m (class_of k)) (bits_in (class_bytes m (class_of k)) n) labels)
 
   stored_pointer : (target : Target) (t : Ty) (q : MachinePointer) (kept : Scalar) → 0 < m.pointer → target_type target ≡ Pointer t → Points structs m.pointer types target p → Points structs m.pointer types (Element t) q → store_through m of.Pointer (pointer q) p w ≡ goes kept after → KeepsTypes structs m.pointer types w after
   stored_pointer target t q kept wide is points has goes_on =
@@ -104,7 +82,8 @@ module _ (m : Model) (structs : List StructView) (types : ℕ → Option Ty) (p 
       written of.Pointer (pointer q) s (λ outer named.
       let same : at.outer ≡ outer = same_Some at.outer outer (sym at.is ∙ named) in
       let stands : Stands structs m.pointer outer (Pointer t) s.spot.offset = subst (λ z. Stands structs m.pointer z (Pointer t) s.spot.offset) same (subst (λ z. Stands structs m.pointer at.outer z s.spot.offset) is at.stands) in
-      pointers_typed outer t s.spot.offset (class_bytes m class.Pointer) q wide stands has)
+      let there = pointer_there structs m.pointer types outer t s.spot.offset wide stands in
+      pointer_typed structs m.pointer types outer s.spot.offset (class_bytes m class.Pointer) q (λ u byte. subst (λ z. Points structs m.pointer types (Element z) q) (same_pointed structs m.pointer types outer t u s.spot.offset there byte) has))
 
   by_kind : (target : Target) (t : Ty) (kind : declared.Scalar) (known : Option Known) (v kept : Scalar) → 0 < m.pointer → target_type target ≡ t → IsOfKind t kind known → Points structs m.pointer types target p → HasIf structs m.pointer types known v → store m kind (pointer p) v w ≡ goes kept after → KeepsTypes structs m.pointer types w after
   by_kind target _ _ _ (integer n labels) kept wide is (number_kind k some) points has goes_on = stored_number k n labels kept goes_on
