@@ -1,26 +1,25 @@
 -- Where an object's lifetime begins or ends, or its bytes are set, memory stays typed.
-use Rattle.std.proofs.Common.{◌≡◌, ◌⊎◌, inl, inr, ℕ, zero, suc, ◌+◌, ◌<◌, Bool, true, false, Option, Some, None, List, [], ◌∷◌, ◌++◌, length, take, refl, sym, ap, ◌∙◌, subst, arith, length-append}
-use Rattle.std.specs.Prelude.{slice_get, set, ◌==◌}
+use Rattle.std.proofs.Common.{◌≡◌, inl, inr, ℕ, zero, suc, ◌+◌, ◌<◌, Bool, true, false, Option, Some, None, List, [], ◌∷◌, ◌++◌, length, take, refl, sym, ap, ◌∙◌, subst, arith, length-append}
+use Rattle.std.specs.Prelude.{slice_get, set}
 use Rattle.std.proofs.lemmas.Bool.{cases_eq, ne_eqb}
 use Rattle.std.proofs.lemmas.List.{length-set}
 use Rattle.std.proofs.lemmas.Option.{same_Some, slice_get_within}
 use Rattle.c_layout.specs.StructViews.{StructView}
-use Rattle.c_layout.specs.Types.{Ty, Pointer}
+use Rattle.c_layout.specs.Types.{Ty}
 use Rattle.c_layout.specs.declared.data_model.Model.{Model}
 use Rattle.c_layout.specs.declared.leaf_lists.Leaf.{Leaf}
 use Rattle.lib_models_memory.specs.Labels.{no_labels}
-use Rattle.lib_models_memory.specs.Bytes.{MachinePointer, null, into, Content, indeterminate, number, part, Byte}
+use Rattle.lib_models_memory.specs.Bytes.{MachinePointer, null, into, Content, indeterminate, number, Byte}
 use Rattle.lib_models_memory.specs.Instances.{automatic, Life, ended, Instance, Memory, bytes_of, bytes_at}
 use Rattle.lib_models_effects.specs.NumberedTables.{put_at}
 use Rattle.lib_models_effects.specs.Worlds.{World}
-use Rattle.lib_models_effects.specs.ObjectEffects.{blank_bytes, fresh, next_instance, entered, with_life, left, holding, all_of, forgotten, cleared, characters, spelled}
+use Rattle.lib_models_effects.specs.ObjectEffects.{blank_bytes, fresh, next_instance, with_life, holding, all_of, characters}
 use Rattle.lib_models_effects.specs.ScalarBytes.{refilled}
 use Rattle.lib_models_effects.specs.Touches.{storage_of, is_allocated, storage_at}
 use Rattle.store_domain_sound.proofs.Slices.{get_left, get_right, get_set_same, get_set_other, get_map}
-use Rattle.flow_program_types.specs.TypeBytes.{scalar_byte}
 use Rattle.flow_program_types.specs.PointedTypes.{Element, Points}
 use Rattle.flow_program_types.specs.TypedStates.{AreDeclared, IsTypedMemory}
-use Rattle.flow_program_types.specs.EffectLaws.{KeepsTypes, EntersKeepTypes, LeavesKeepTypes, ForgetsKeepTypes, ClearsKeepTypes, SpellsKeepTypes}
+use Rattle.flow_program_types.specs.EffectLaws.{EntersKeepTypes, LeavesKeepTypes, ForgetsKeepTypes, ClearsKeepTypes, SpellsKeepTypes}
 use Rattle.flow_program_types_memory.proofs.TypedBytes.{IsNoPart, no_part, AreTypedBytes, typed_at, typed_refilled, text_typed, set_keeps}
 
 -- ---- an object more

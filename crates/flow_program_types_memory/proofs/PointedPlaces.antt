@@ -1,16 +1,16 @@
 -- Where a pointer to a type points, so many bytes of the type stand there, where the machine may touch them.
-use Rattle.std.proofs.Common.{◌≡◌, ◌⊎◌, inl, inr, ℕ, zero, suc, ◌+◌, ◌*◌, ◌<◌, ◌≤◌, Bool, true, false, cond, Option, Some, None, List, refl, sym, ap, ◌∙◌, subst, arith}
-use Rattle.std.specs.Prelude.{◌==◌, ◌&&◌, ◌||◌, nat_lt}
-use Rattle.std.proofs.lemmas.Bool.{cases_Bool, cases_lt, and_parts, or_cases, eqb-true, lt-ltb}
+use Rattle.std.proofs.Common.{◌≡◌, inl, inr, ℕ, ◌+◌, ◌*◌, ◌<◌, ◌≤◌, true, cond, Option, Some, None, List, sym, ap, ◌∙◌, subst, arith}
+use Rattle.std.specs.Prelude.{◌==◌, ◌&&◌, ◌||◌}
+use Rattle.std.proofs.lemmas.Bool.{cases_lt, and_parts, or_cases, eqb-true, lt-ltb}
 use Rattle.c_layout.specs.Layout.{size_of_type}
 use Rattle.c_layout.specs.Models.{is_model, short_fits, int_fits, long_fits, long_long_fits, pointer_fits}
 use Rattle.c_layout.specs.StructViews.{StructView}
-use Rattle.c_layout.specs.Types.{Ty, Int, Pointer, Array, Struct, Void}
+use Rattle.c_layout.specs.Types.{Ty, Pointer, Void}
 use Rattle.c_layout.specs.declared.data_model.Model.{Model}
 use Rattle.lib_models_memory.specs.Bytes.{into}
 use Rattle.flow_program_types.specs.TypeBytes.{ScalarByte, scalar_byte, struct_byte}
 use Rattle.flow_program_types.specs.StandingTypes.{Stands}
-use Rattle.flow_program_types.specs.PointedTypes.{Target, Element, Place, target_type, IsElement, IsIn, Points}
+use Rattle.flow_program_types.specs.PointedTypes.{Target, Element, Place, target_type, IsElement, Points}
 
 -- what a pointer points to whose byte it is
 abbrev pointed : Ty → Ty

@@ -1,5 +1,5 @@
 -- A pointer that is narrowed to a part, or moved among elements, points to the type that it is to.
-use Rattle.std.proofs.Common.{◌≡◌, ◌⊎◌, inl, inr, ℕ, zero, suc, ◌+◌, ◌-◌, ◌*◌, ◌<◌, ◌≤◌, ℤ, pos, negsuc, neg_ℤ, ◌+ℤ◌, ◌*ℤ◌, ◌≤ℤ◌, Bool, true, false, List, Option, Some, refl, sym, ap, ◌∙◌, subst, arith}
+use Rattle.std.proofs.Common.{◌≡◌, ◌⊎◌, inl, inr, ℕ, suc, ◌+◌, ◌-◌, ◌*◌, ◌<◌, ◌≤◌, ℤ, pos, negsuc, neg_ℤ, ◌+ℤ◌, ◌≤ℤ◌, Bool, true, false, List, Option, Some, refl, sym, ap, ◌∙◌, subst, arith}
 use Rattle.std.specs.Prelude.{int_le, unsigned_abs, ◌&&◌, not}
 use Rattle.std.proofs.lemmas.Bool.{cases_Bool, cases_lt, and_parts}
 use Rattle.std.proofs.lemmas.Int.{ints}
@@ -8,17 +8,16 @@ use Rattle.c_layout.specs.Layout.{size_of_type}
 use Rattle.c_layout.specs.StructViews.{StructView}
 use Rattle.c_layout.specs.Types.{Ty}
 use Rattle.lib_models_memory.specs.Bytes.{MachinePointer, null, into}
-use Rattle.lib_models_memory.specs.Labels.{Labels, is_unlabelled}
+use Rattle.lib_models_memory.specs.Labels.{is_unlabelled}
 use Rattle.lib_models_memory.specs.Scalars.{Scalar, integer, pointer}
-use Rattle.lib_models_effects.specs.Worlds.{World, Reply, goes, stops, behind, world_of, noted, unless, stopped_by}
-use Rattle.lib_models_effects.specs.Operands.{as_pointer}
-use Rattle.lib_models_effects.specs.PointerEffects.{is_ended, narrowed_by, at_part, narrow_pointer, narrow, distance_of, moved_into, moved, shift_pointer, shift}
+use Rattle.lib_models_effects.specs.Worlds.{World, Reply, goes, stops, world_of, noted, stopped_by}
+use Rattle.lib_models_effects.specs.PointerEffects.{is_ended, narrowed_by, narrow_pointer, narrow, distance_of, moved_into, moved, shift}
 use Rattle.lib_models_effects.specs.Touches.{touched}
 use Rattle.store_domain_sound.proofs.Reading.{behind_goes, touched_goes}
 use Rattle.flow_program_types.specs.StandingTypes.{Stands}
-use Rattle.flow_program_types.specs.PointedTypes.{Target, Element, target_type, Known, Pointing, IsElement, Points, Has}
+use Rattle.flow_program_types.specs.PointedTypes.{Target, Element, target_type, Pointing, IsElement, Points, Has}
 use Rattle.flow_program_types.specs.EffectLaws.{GivesKnown, NarrowsAreTyped, ShiftsAreTyped}
-use Rattle.flow_program_types_memory.proofs.PointedPlaces.{IsAt, points_at, stands_further}
+use Rattle.flow_program_types_memory.proofs.PointedPlaces.{points_at, stands_further}
 
 abbrev given_of : Reply Scalar → Scalar
 given_of (goes v w) = v

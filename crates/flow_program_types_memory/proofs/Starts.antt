@@ -1,29 +1,27 @@
 -- The first memory of a unit whose initializers are typed is typed.
-use Rattle.std.proofs.Common.{◌≡◌, ◌⊎◌, inl, inr, ℕ, zero, suc, ◌+◌, ◌-◌, ◌<◌, ◌≤◌, ℤ, Bool, true, false, Option, Some, None, List, [], ◌∷◌, ◌++◌, length, take, refl, sym, ap, ◌∙◌, subst, arith, length-append}
+use Rattle.std.proofs.Common.{◌≡◌, inl, inr, ℕ, ◌+◌, ◌-◌, ◌<◌, ◌≤◌, ℤ, Bool, true, false, Option, Some, List, [], ◌∷◌, ◌++◌, length, take, refl, sym, ap, ◌∙◌, subst, arith, length-append}
 use Rattle.std.specs.Prelude.{slice_get, map, ◌&&◌, int_le}
 use Rattle.std.specs.List.{Contains}
 use Rattle.std.proofs.lemmas.Bool.{cases_lt}
 use Rattle.std.proofs.lemmas.List.{length-map, append_assoc, append-nil}
 use Rattle.std.proofs.lemmas.List.Elements.{Contains-append_right}
-use Rattle.std.proofs.lemmas.Option.{same_Some, slice_get_within}
+use Rattle.std.proofs.lemmas.Option.{slice_get_within}
 use Rattle.cc_base.specs.IntegerTypes.{least_of, greatest_of}
 use Rattle.c_layout.specs.Types.{Ty, Int, Pointer, Array, Struct, Void}
 use Rattle.c_layout.specs.CheckedUnits.{LocalView, StaticStoreView, SetValue, SetText, StaticView, LiteralView, UnitView}
 use Rattle.c_layout.specs.declared.checked_tree.checked_units.StaticValue.TheVariants as static_value
 use Rattle.lib_models_memory.specs.Labels.{no_labels}
-use Rattle.lib_models_memory.specs.Bytes.{MachinePointer, null, into, Content, number, part, Byte}
-use Rattle.lib_models_memory.specs.Instances.{automatic, Instance, Memory, bytes_of, bytes_at}
-use Rattle.lib_models_effects.specs.Worlds.{World, Reply, goes, stops, world_of, behind, done, drawn_in, drawn_from, drawn}
+use Rattle.lib_models_memory.specs.Bytes.{into, Content, number, Byte}
+use Rattle.lib_models_memory.specs.Instances.{automatic, Instance, Memory, bytes_of}
+use Rattle.lib_models_effects.specs.Worlds.{World, goes, world_of, behind, done, drawn_in, drawn_from, drawn}
 use Rattle.lib_models_effects.specs.ObjectEffects.{fresh, all_of, characters}
 use Rattle.lib_models_effects.specs.ScalarBytes.{bits_in, refilled}
 use Rattle.lib_models_effects.specs.Touches.{storage_of, is_allocated}
-use Rattle.lib_models_effects.specs.UnitStarts.{base_instance, value_bytes, all_stored, typed_bytes, static_instance, character_byte, literal_made, start_memory, input, with_parameter, with_parameters, entry_parameters, world_before, start_world}
+use Rattle.lib_models_effects.specs.UnitStarts.{base_instance, value_bytes, all_stored, typed_bytes, static_instance, character_byte, literal_made, start_memory, input, with_parameter, with_parameters, entry_parameters, world_before}
 use Rattle.store_domain_sound.proofs.Reading.{behind_goes}
 use Rattle.store_domain_sound.proofs.Slices.{get_left, get_right, get_map}
 use Rattle.abstract_steps_sound_first_memory.specs.FirstStates.{input_bytes}
 use Rattle.abstract_steps_sound_first_memory.proofs.FirstMemory.{get_mapped}
-use Rattle.flow_program_types.specs.TypeBytes.{scalar_byte}
-use Rattle.flow_program_types.specs.PointedTypes.{Element, Points}
 use Rattle.flow_program_types.specs.TypedStates.{AreDeclared, IsTypedMemory}
 use Rattle.flow_program_types.specs.TypedPrograms.{object_type, text_type, first_types, IsTypedStore, HasTypedObjects}
 use Rattle.flow_program_types.specs.EffectLaws.{StartsAreTyped}

@@ -1,12 +1,9 @@
 -- A value that is stored where a pointer to its type points leaves memory typed.
-use Rattle.std.proofs.Common.{◌≡◌, ◌⊎◌, inl, inr, ℕ, zero, suc, ◌+◌, ◌*◌, ◌<◌, ◌≤◌, ℤ, Bool, true, false, cond, Option, Some, None, List, [], ◌∷◌, length, refl, sym, ap, ◌∙◌, subst, arith}
-use Rattle.std.specs.Prelude.{slice_get}
+use Rattle.std.proofs.Common.{◌≡◌, inl, inr, ℕ, ◌<◌, ℤ, true, Option, Some, List, refl, sym, ◌∙◌, subst}
 use Rattle.std.proofs.lemmas.Bool.{cases_Bool}
 use Rattle.std.proofs.lemmas.Option.{same_Some}
-use Rattle.c_layout.specs.Layout.{size_of_type}
-use Rattle.c_layout.specs.Models.{is_model}
 use Rattle.c_layout.specs.StructViews.{StructView}
-use Rattle.c_layout.specs.Types.{Ty, Int, Pointer}
+use Rattle.c_layout.specs.Types.{Ty, Pointer}
 use Rattle.c_layout.specs.declared.data_model.Model.{Model}
 use Rattle.c_layout.specs.declared.leaf_lists.Class.{Class}
 use Rattle.c_layout.specs.declared.leaf_lists.Class.TheVariants as class
@@ -14,25 +11,22 @@ use Rattle.c_layout.specs.Leaves.{class_of}
 use Rattle.cc_base.specs.declared.int_types.IntType.{IntType}
 use Rattle.flow_program.specs.declared.machine_instructions.Scalar as declared
 use Rattle.flow_program.specs.declared.machine_instructions.Scalar.TheVariants as of
-use Rattle.lib_models_memory.specs.Bytes.{MachinePointer, null, into, Content, number, part, Byte}
-use Rattle.lib_models_memory.specs.Instances.{Memory, bytes_at}
-use Rattle.lib_models_memory.specs.Labels.{Labels, no_labels}
+use Rattle.lib_models_memory.specs.Bytes.{MachinePointer}
+use Rattle.lib_models_memory.specs.Instances.{bytes_at}
+use Rattle.lib_models_memory.specs.Labels.{Labels}
 use Rattle.lib_models_memory.specs.ScalarSizes.{class_bytes}
 use Rattle.lib_models_memory.specs.Scalars.{Scalar, integer, pointer}
-use Rattle.lib_models_effects.specs.Worlds.{World, Reply, goes, stops, Left, Stuck}
+use Rattle.lib_models_effects.specs.Worlds.{World, Reply, goes, stops, Left}
 use Rattle.lib_models_effects.specs.Accesses.{class_in, stored_bytes, stored, may_store, store_at, store_through, store}
-use Rattle.lib_models_effects.specs.Operands.{is_of_kind}
-use Rattle.lib_models_effects.specs.ScalarBytes.{number_bytes, pointer_bytes, bits_in, scalar_bytes, refilled}
+use Rattle.lib_models_effects.specs.ScalarBytes.{bits_in, scalar_bytes}
 use Rattle.lib_models_effects.specs.Touches.{Spot, touched, is_allocated, storage_at}
 use Rattle.store_domain_sound.proofs.Classes.{class_above}
 use Rattle.store_domain_sound.proofs.Reading.{behind_goes, IsTouched, touched_goes}
-use Rattle.abstract_steps_sound_first_memory.proofs.StartBytes.{numbers_at, parts_at}
-use Rattle.flow_program_types.specs.TypeBytes.{scalar_byte}
-use Rattle.flow_program_types.specs.PointedTypes.{Target, Element, Place, target_type, Known, Pointing, Points, Has, IsOfKind, number_kind, pointer_kind}
+use Rattle.flow_program_types.specs.PointedTypes.{Target, Element, target_type, Known, Points, IsOfKind, number_kind, pointer_kind}
 use Rattle.flow_program_types.specs.StandingTypes.{Stands}
 use Rattle.flow_program_types.specs.TypedStates.{AreDeclared, IsTypedMemory}
 use Rattle.flow_program_types.specs.EffectLaws.{HasIf, KeepsTypes, StoresKeepTypes}
-use Rattle.flow_program_types_memory.proofs.PointedPlaces.{IsAt, points_at, pointer_there, same_pointed, pointer_wide}
+use Rattle.flow_program_types_memory.proofs.PointedPlaces.{points_at, pointer_there, same_pointed, pointer_wide}
 use Rattle.flow_program_types_memory.proofs.TypedBytes.{AreTypedBytes, AreTypedContents, typed_at, typed_refilled, numbers_typed, pointer_typed, set_keeps}
 
 -- a store that goes on has written the bytes of the value

@@ -1,5 +1,5 @@
 -- A test on an edge drops labels alone, and leaves memory typed.
-use Rattle.std.proofs.Common.{◌≡◌, ℕ, zero, suc, ℤ, Bool, true, false, cond, Option, Some, None, List, [], ◌∷◌, ◌++◌, length, take, drop, refl, sym, ap, ◌∙◌, subst}
+use Rattle.std.proofs.Common.{◌≡◌, ℕ, zero, suc, Bool, true, false, cond, Option, Some, None, List, [], ◌∷◌, ◌++◌, take, drop, refl, ap, ◌∙◌, subst}
 use Rattle.std.specs.Prelude.{slice_get}
 use Rattle.std.proofs.lemmas.Option.{same_Some}
 use Rattle.cc_base.specs.declared.int_types.IntType.{IntType}
@@ -11,9 +11,9 @@ use Rattle.flow_program.specs.declared.machine_instructions.Scalar as declared
 use Rattle.flow_program.specs.declared.machine_instructions.Scalar.TheVariants as of
 use Rattle.lib_models_memory.specs.Labels.{Labels, no_labels, is_unlabelled, dropped_labels}
 use Rattle.lib_models_memory.specs.Bytes.{MachinePointer, Content, indeterminate, number, part, Byte}
-use Rattle.lib_models_memory.specs.Instances.{Memory, bytes_at}
-use Rattle.lib_models_effects.specs.Worlds.{World, Reply, goes, world_of, with_memory}
-use Rattle.lib_models_effects.specs.Tests.{TestedSide, object, constant, nothing, SideTest, scalar_size, side_scalar, side_labels, turned, test_holds, relabelled, byte_relabelled, all_relabelled, object_relabelled, with_labels, bounded, both_bounded, after_test, passing, pass_test, is_number, pass_case}
+use Rattle.lib_models_memory.specs.Instances.{bytes_at}
+use Rattle.lib_models_effects.specs.Worlds.{World, goes, world_of, with_memory}
+use Rattle.lib_models_effects.specs.Tests.{TestedSide, object, constant, nothing, SideTest, scalar_size, side_scalar, side_labels, turned, test_holds, relabelled, byte_relabelled, all_relabelled, object_relabelled, with_labels, bounded, after_test, passing, is_number}
 use Rattle.flow_program_types.specs.TypedStates.{IsTypedMemory}
 use Rattle.flow_program_types.specs.EffectLaws.{KeepsTypes, TestsKeepTypes, CasesKeepTypes}
 use Rattle.flow_program_types_memory.proofs.TypedBytes.{set_keeps}
