@@ -5,6 +5,6 @@ pub returns : goal.returns
 returns c = record {
   themselves = λ structs pointer_size t. stands_itself structs pointer_size t;
   transitive = λ structs pointer_size a b c x y p q. stands_through structs pointer_size a b c x y p q;
-  elements = λ m structs laid t n i kind less. element_stands m structs laid t n i less;
+  elements = λ m structs laid t n i less. element_stands m structs laid t n i less;
   members = λ m structs laid i s there n f among. member_stands m structs laid i s there n f among;
 }
