@@ -8,7 +8,7 @@ use Rattle.c_layout.specs.StructViews.{StructView}
 use Rattle.c_layout.specs.Types.{Ty, Pointer, Void}
 use Rattle.c_layout.specs.declared.data_model.Model.{Model}
 use Rattle.lib_models_memory.specs.Bytes.{into}
-use Rattle.flow_program_types.specs.TypeBytes.{ScalarByte, scalar_byte, struct_byte}
+use Rattle.flow_program_types.specs.TypeBytes.{ScalarByte, scalar_byte}
 use Rattle.flow_program_types.specs.StandingTypes.{Stands}
 use Rattle.flow_program_types.specs.PointedTypes.{Target, Element, Place, target_type, IsElement, Points}
 
@@ -43,17 +43,6 @@ module _ (structs : List StructView) (pointer_size : ℕ) (types : ℕ → Optio
   pub points_at : (target : Target) (i offset lo hi size : ℕ) → Points structs pointer_size types target (into i offset lo hi) → 0 < size → offset + size ≤ hi → IsAt structs pointer_size types (target_type target) i offset
   points_at (Element t) i offset lo hi size points some within = record { outer = points.0; is = points.1; stands = at_element points.0 t offset lo hi size points.2 some within }
   points_at (Place t) i offset lo hi size points some within = record { outer = points.0; is = points.1; stands = points.2 (omega (arith, some, within)) }
-
-  -- what stands in what stands in a type stands in that
-  pub stands_further : (a b c : Ty) (x y : ℕ) → Stands structs pointer_size a b x → Stands structs pointer_size b c y → Stands structs pointer_size a c (x + y)
-  stands_further a b c x y one two =
-      let outer = one.within in
-      let inner = two.within in
-      record {
-        within = omega (arith, outer, inner);
-        scalars = λ z inside. let e : (x + y) + z ≡ x + (y + z) = omega arith in ap (scalar_byte structs pointer_size a) e ∙ (one.scalars (y + z) (omega (arith, inner, inside)) ∙ two.scalars z inside);
-        structures = λ index z k there. let e : (x + y) + z ≡ x + (y + z) = omega arith in ap (struct_byte structs pointer_size index a) e ∙ one.structures index (y + z) k (two.structures index z k there);
-      }
 
   -- where a pointer stands, its first byte is there
   pub pointer_there : (outer t : Ty) (offset : ℕ) → 0 < pointer_size → Stands structs pointer_size outer (Pointer t) offset → scalar_byte structs pointer_size outer offset ≡ Some (record { ctype = Pointer t; at = 0 })

@@ -17,7 +17,8 @@ use Rattle.store_domain_sound.proofs.Reading.{behind_goes, touched_goes}
 use Rattle.flow_program_types.specs.StandingTypes.{Stands}
 use Rattle.flow_program_types.specs.PointedTypes.{Target, Element, target_type, Pointing, IsElement, Points, Has}
 use Rattle.flow_program_types.specs.EffectLaws.{GivesKnown, NarrowsAreTyped, ShiftsAreTyped}
-use Rattle.flow_program_types_memory.proofs.PointedPlaces.{points_at, stands_further}
+use Rattle.flow_program_types_layouts.proofs.StandingTypes.{stands_through}
+use Rattle.flow_program_types_memory.proofs.PointedPlaces.{points_at}
 
 abbrev given_of : Reply Scalar → Scalar
 given_of (goes v w) = v
@@ -54,7 +55,7 @@ module _ (structs : List StructView) (pointer_size : ℕ) (types : ℕ → Optio
       let same_end : hi ≡ t.hi = ap end_of t.pointer in
       let below = t.below in
       let at = points_at structs pointer_size types target i o lo hi (offset + size) points (omega (arith, some)) (omega (arith, same_offset, same_end, below)) in
-      let there : Stands structs pointer_size at.outer inner x = subst (Stands structs pointer_size at.outer inner) same_offset (stands_further structs pointer_size types at.outer (target_type target) inner o offset at.stands stands) in
+      let there : Stands structs pointer_size at.outer inner x = subst (Stands structs pointer_size at.outer inner) same_offset (stands_through structs pointer_size at.outer (target_type target) inner o offset at.stands stands) in
       let given : pointer (into j x x (x + size)) ≡ v = ap (λ r. pointer (pointer_of r)) b.3 ∙ ap given_of a.3 in
       record {
         has = subst (Has structs pointer_size types (Pointing (Element inner))) given (at.outer, sym (ap types same_instance) ∙ at.is, one_element at.outer inner x size is there);
