@@ -1,5 +1,5 @@
 -- A struct that is copied between places of its type leaves memory typed.
-use Rattle.std.proofs.Common.{◌≡◌, ◌⊎◌, inl, inr, ℕ, zero, suc, ◌+◌, ◌-◌, ◌<◌, ◌≤◌, Bool, true, false, ◌&&◌, Option, Some, None, List, [], ◌∷◌, ◌++◌, length, take, drop, min, refl, sym, ap, ◌∙◌, subst, arith}
+use Rattle.std.proofs.Common.{◌≡◌, ◌⊎◌, inl, inr, ℕ, zero, suc, ◌+◌, ◌-◌, ◌<◌, ◌≤◌, Bool, true, false, Option, Some, List, [], ◌∷◌, ◌++◌, length, take, drop, min, refl, sym, ap, ◌∙◌, subst, arith}
 use Rattle.std.specs.Prelude.{slice_get}
 use Rattle.std.proofs.lemmas.Bool.{cases_Bool, cases_lt}
 use Rattle.std.proofs.lemmas.List.{length-take, length-drop}
@@ -13,7 +13,6 @@ use Rattle.lib_models_memory.specs.Bytes.{MachinePointer, null, Content, part, B
 use Rattle.lib_models_memory.specs.Instances.{bytes_at}
 use Rattle.lib_models_memory.specs.Scalars.{Scalar, pointer}
 use Rattle.lib_models_effects.specs.Worlds.{World, Reply, goes, stops, world_of, behind, Left}
-use Rattle.lib_models_effects.specs.Operands.{as_pointer}
 use Rattle.lib_models_effects.specs.ScalarBytes.{replaced, region}
 use Rattle.lib_models_effects.specs.StructCopies.{copied, may_copy, copy_made, copy_at, copy_between, copy_struct}
 use Rattle.lib_models_effects.specs.Touches.{Spot, touched, is_allocated, storage_at}
@@ -21,11 +20,10 @@ use Rattle.store_domain_sound.proofs.Reading.{behind_goes, IsTouched, touched_go
 use Rattle.store_domain_sound.proofs.Slices.{get_take, get_drop, get_left, get_right}
 use Rattle.flow_program_types.specs.TypeBytes.{scalar_byte}
 use Rattle.flow_program_types.specs.PointedTypes.{Target, Element, target_type, Points}
-use Rattle.flow_program_types.specs.StandingTypes.{Stands}
 use Rattle.flow_program_types.specs.TypedStates.{IsTypedMemory}
 use Rattle.flow_program_types.specs.EffectLaws.{KeepsTypes, CopiesKeepTypes}
 use Rattle.flow_program_types_memory.proofs.PointedPlaces.{IsAt, points_at}
-use Rattle.flow_program_types_memory.proofs.TypedBytes.{AreTypedBytes, typed_at, set_keeps}
+use Rattle.flow_program_types_memory.proofs.TypedBytes.{AreTypedBytes, set_keeps}
 
 -- ---- the bytes of a copy
 

@@ -1,31 +1,30 @@
 -- A value that is loaded where a pointer to its type points is of the type.
-use Rattle.std.proofs.Common.{◌≡◌, ◌⊎◌, inl, inr, ℕ, zero, suc, ◌+◌, ◌<◌, ◌≤◌, Bool, true, false, cond, ◌&&◌, Option, Some, None, List, [], ◌∷◌, length, refl, sym, ap, ◌∙◌, subst, arith}
+use Rattle.std.proofs.Common.{◌≡◌, ◌⊎◌, inl, inr, ℕ, ◌<◌, true, cond, Option, Some, None, List, [], ◌∷◌, refl, sym, ap, ◌∙◌, subst, arith}
 use Rattle.std.specs.Prelude.{slice_get, ◌==◌}
 use Rattle.std.proofs.lemmas.Bool.{cases_Bool, and_parts, eqb-true}
 use Rattle.std.proofs.lemmas.Option.{same_Some}
-use Rattle.c_layout.specs.Models.{is_model}
 use Rattle.c_layout.specs.StructViews.{StructView}
 use Rattle.c_layout.specs.Types.{Ty, Pointer}
 use Rattle.c_layout.specs.declared.data_model.Model.{Model}
 use Rattle.c_layout.specs.declared.leaf_lists.Class.TheVariants as class
 use Rattle.flow_program.specs.declared.machine_instructions.Scalar as declared
 use Rattle.flow_program.specs.declared.machine_instructions.Scalar.TheVariants as of
-use Rattle.lib_models_memory.specs.Bytes.{MachinePointer, null, into, Content, indeterminate, number, part, Byte}
+use Rattle.lib_models_memory.specs.Bytes.{MachinePointer, null, Content, indeterminate, number, part}
 use Rattle.lib_models_memory.specs.Instances.{bytes_at}
 use Rattle.lib_models_memory.specs.ScalarSizes.{class_bytes}
-use Rattle.lib_models_memory.specs.Scalars.{Scalar, integer, pointer}
+use Rattle.lib_models_memory.specs.Scalars.{Scalar, pointer}
 use Rattle.lib_models_effects.specs.Worlds.{World, goes}
-use Rattle.lib_models_effects.specs.Accesses.{same_pointer, same_place, is_part, are_parts, are_zeros, pointer_of_parts, pointer_by, pointer_in, pointer_scalar, scalar_in, load}
-use Rattle.lib_models_effects.specs.ScalarBytes.{region, contents}
+use Rattle.lib_models_effects.specs.Accesses.{same_pointer, is_part, are_parts, are_zeros, pointer_of_parts, pointer_in, pointer_scalar, scalar_in, load}
+use Rattle.lib_models_effects.specs.ScalarBytes.{region}
 use Rattle.store_domain_sound.proofs.Classes.{class_above}
-use Rattle.store_domain_sound.proofs.MachineLoads.{HasRead, load_goes, load_same}
+use Rattle.store_domain_sound.proofs.MachineLoads.{load_goes, load_same}
 use Rattle.store_domain_sound.proofs.Reading.{region_at}
 use Rattle.store_domain_sound.proofs.Slices.{get_map}
 use Rattle.flow_program_types.specs.PointedTypes.{Target, Element, target_type, Known, Pointing, Points, Has, IsOfKind, number_kind, pointer_kind}
 use Rattle.flow_program_types.specs.StandingTypes.{Stands}
 use Rattle.flow_program_types.specs.TypedStates.{IsTypedMemory}
-use Rattle.flow_program_types.specs.EffectLaws.{HasIf, GivesKnown, LoadsAreTyped}
-use Rattle.flow_program_types_memory.proofs.PointedPlaces.{IsAt, points_at, pointer_there, pointer_wide}
+use Rattle.flow_program_types.specs.EffectLaws.{HasIf, LoadsAreTyped}
+use Rattle.flow_program_types_memory.proofs.PointedPlaces.{points_at, pointer_there, pointer_wide}
 
 -- what contents are as a pointer: null, or the pointer whose first part is the first of them
 record IsPointerOf (cs : List Content) (p : MachinePointer) : Type 0 where
@@ -82,7 +81,7 @@ module _ (m : Model) (structs : List StructView) (types : ℕ → Option Ty) (p 
       ])
 
   by_kind : (target : Target) (t : Ty) (kind : declared.Scalar) (known : Option Known) → 0 < m.pointer → target_type target ≡ t → IsOfKind t kind known → IsTypedMemory structs m.pointer types w.memory → Points structs m.pointer types target p → load m kind (pointer p) w ≡ goes v after → HasIf structs m.pointer types known v
-  by_kind target _ _ _ wide is (number_kind k) typed points goes_on = tt
+  by_kind target _ _ _ wide is (number_kind k some) typed points goes_on = tt
   by_kind target _ _ _ wide is (pointer_kind t) typed points goes_on = loaded_pointer target t wide is typed points goes_on
 
 pub loads : LoadsAreTyped

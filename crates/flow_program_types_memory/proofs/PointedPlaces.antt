@@ -1,16 +1,16 @@
 -- Where a pointer to a type points, so many bytes of the type stand there, where the machine may touch them.
-use Rattle.std.proofs.Common.{◌≡◌, ◌⊎◌, inl, inr, ℕ, zero, suc, ◌+◌, ◌*◌, ◌<◌, ◌≤◌, Bool, true, false, cond, Option, Some, None, List, refl, sym, ap, ◌∙◌, subst, arith}
-use Rattle.std.specs.Prelude.{◌==◌, ◌&&◌, ◌||◌, nat_lt}
-use Rattle.std.proofs.lemmas.Bool.{cases_Bool, cases_lt, and_parts, or_cases, eqb-true, lt-ltb}
+use Rattle.std.proofs.Common.{◌≡◌, inl, inr, ℕ, ◌+◌, ◌*◌, ◌<◌, ◌≤◌, true, cond, Option, Some, None, List, sym, ap, ◌∙◌, subst, arith}
+use Rattle.std.specs.Prelude.{◌==◌, ◌&&◌, ◌||◌}
+use Rattle.std.proofs.lemmas.Bool.{cases_lt, and_parts, or_cases, eqb-true, lt-ltb}
 use Rattle.c_layout.specs.Layout.{size_of_type}
 use Rattle.c_layout.specs.Models.{is_model, short_fits, int_fits, long_fits, long_long_fits, pointer_fits}
 use Rattle.c_layout.specs.StructViews.{StructView}
-use Rattle.c_layout.specs.Types.{Ty, Int, Pointer, Array, Struct, Void}
+use Rattle.c_layout.specs.Types.{Ty, Pointer, Void}
 use Rattle.c_layout.specs.declared.data_model.Model.{Model}
 use Rattle.lib_models_memory.specs.Bytes.{into}
 use Rattle.flow_program_types.specs.TypeBytes.{ScalarByte, scalar_byte}
 use Rattle.flow_program_types.specs.StandingTypes.{Stands}
-use Rattle.flow_program_types.specs.PointedTypes.{Target, Element, Place, target_type, IsElement, IsIn, Points}
+use Rattle.flow_program_types.specs.PointedTypes.{Target, Element, Place, target_type, IsElement, Points}
 
 -- what a pointer points to whose byte it is
 abbrev pointed : Ty → Ty
@@ -42,7 +42,7 @@ module _ (structs : List StructView) (pointer_size : ℕ) (types : ℕ → Optio
   -- where some byte of what a pointer points to lies within its bounds
   pub points_at : (target : Target) (i offset lo hi size : ℕ) → Points structs pointer_size types target (into i offset lo hi) → 0 < size → offset + size ≤ hi → IsAt structs pointer_size types (target_type target) i offset
   points_at (Element t) i offset lo hi size points some within = record { outer = points.0; is = points.1; stands = at_element points.0 t offset lo hi size points.2 some within }
-  points_at (Place t) i offset lo hi size points some within = record { outer = points.0; is = points.1; stands = points.2 }
+  points_at (Place t) i offset lo hi size points some within = record { outer = points.0; is = points.1; stands = points.2 (omega (arith, some, within)) }
 
   -- where a pointer stands, its first byte is there
   pub pointer_there : (outer t : Ty) (offset : ℕ) → 0 < pointer_size → Stands structs pointer_size outer (Pointer t) offset → scalar_byte structs pointer_size outer offset ≡ Some (record { ctype = Pointer t; at = 0 })

@@ -1,12 +1,9 @@
 -- A value that is stored where a pointer to its type points leaves memory typed.
-use Rattle.std.proofs.Common.{◌≡◌, ◌⊎◌, inl, inr, ℕ, zero, suc, ◌+◌, ◌*◌, ◌<◌, ◌≤◌, ℤ, Bool, true, false, cond, Option, Some, None, List, [], ◌∷◌, length, refl, sym, ap, ◌∙◌, subst, arith}
-use Rattle.std.specs.Prelude.{slice_get}
+use Rattle.std.proofs.Common.{◌≡◌, inl, inr, ℕ, ◌<◌, ℤ, true, Option, Some, List, refl, sym, ◌∙◌, subst}
 use Rattle.std.proofs.lemmas.Bool.{cases_Bool}
 use Rattle.std.proofs.lemmas.Option.{same_Some}
-use Rattle.c_layout.specs.Layout.{size_of_type}
-use Rattle.c_layout.specs.Models.{is_model}
 use Rattle.c_layout.specs.StructViews.{StructView}
-use Rattle.c_layout.specs.Types.{Ty, Int, Pointer}
+use Rattle.c_layout.specs.Types.{Ty, Pointer}
 use Rattle.c_layout.specs.declared.data_model.Model.{Model}
 use Rattle.c_layout.specs.declared.leaf_lists.Class.{Class}
 use Rattle.c_layout.specs.declared.leaf_lists.Class.TheVariants as class
@@ -14,34 +11,23 @@ use Rattle.c_layout.specs.Leaves.{class_of}
 use Rattle.cc_base.specs.declared.int_types.IntType.{IntType}
 use Rattle.flow_program.specs.declared.machine_instructions.Scalar as declared
 use Rattle.flow_program.specs.declared.machine_instructions.Scalar.TheVariants as of
-use Rattle.lib_models_memory.specs.Bytes.{MachinePointer, null, into, Content, number, part, Byte}
-use Rattle.lib_models_memory.specs.Instances.{Memory, bytes_at}
-use Rattle.lib_models_memory.specs.Labels.{Labels, no_labels}
+use Rattle.lib_models_memory.specs.Bytes.{MachinePointer}
+use Rattle.lib_models_memory.specs.Instances.{bytes_at}
+use Rattle.lib_models_memory.specs.Labels.{Labels}
 use Rattle.lib_models_memory.specs.ScalarSizes.{class_bytes}
 use Rattle.lib_models_memory.specs.Scalars.{Scalar, integer, pointer}
-use Rattle.lib_models_effects.specs.Worlds.{World, Reply, goes, stops, Left, Stuck}
+use Rattle.lib_models_effects.specs.Worlds.{World, Reply, goes, stops, Left}
 use Rattle.lib_models_effects.specs.Accesses.{class_in, stored_bytes, stored, may_store, store_at, store_through, store}
-use Rattle.lib_models_effects.specs.Operands.{is_of_kind}
-use Rattle.lib_models_effects.specs.ScalarBytes.{number_bytes, pointer_bytes, bits_in, scalar_bytes, refilled}
+use Rattle.lib_models_effects.specs.ScalarBytes.{bits_in, scalar_bytes}
 use Rattle.lib_models_effects.specs.Touches.{Spot, touched, is_allocated, storage_at}
 use Rattle.store_domain_sound.proofs.Classes.{class_above}
 use Rattle.store_domain_sound.proofs.Reading.{behind_goes, IsTouched, touched_goes}
-use Rattle.abstract_steps_sound_first_memory.proofs.StartBytes.{numbers_at, parts_at}
-use Rattle.flow_program_types.specs.TypeBytes.{scalar_byte}
-use Rattle.flow_program_types.specs.PointedTypes.{Target, Element, Place, target_type, Known, Pointing, Points, Has, IsOfKind, number_kind, pointer_kind}
+use Rattle.flow_program_types.specs.PointedTypes.{Target, Element, target_type, Known, Points, IsOfKind, number_kind, pointer_kind}
 use Rattle.flow_program_types.specs.StandingTypes.{Stands}
 use Rattle.flow_program_types.specs.TypedStates.{AreDeclared, IsTypedMemory}
 use Rattle.flow_program_types.specs.EffectLaws.{HasIf, KeepsTypes, StoresKeepTypes}
-use Rattle.flow_program_types_memory.proofs.PointedPlaces.{IsAt, points_at, pointer_there, same_pointed, pointer_wide}
-use Rattle.flow_program_types_memory.proofs.TypedBytes.{IsNoPart, no_part, AreTypedBytes, AreTypedContents, typed_at, typed_refilled, set_keeps}
-
-abbrev part_of : Content → MachinePointer
-part_of (part p k) = p
-part_of other = null
-
-abbrev number_of_part : Content → ℕ
-number_of_part (part p k) = k
-number_of_part other = 0
+use Rattle.flow_program_types_memory.proofs.PointedPlaces.{points_at, pointer_there, same_pointed, pointer_wide}
+use Rattle.flow_program_types_memory.proofs.TypedBytes.{AreTypedBytes, AreTypedContents, typed_at, typed_refilled, numbers_typed, pointer_typed, set_keeps}
 
 -- a store that goes on has written the bytes of the value
 record IsStored (m : Model) (class : Class) (v : Scalar) (p : MachinePointer) (w after : World) : Type 0 where
@@ -78,24 +64,10 @@ module _ (m : Model) (structs : List StructView) (types : ℕ → Option Ty) (p 
       subst (λ b. AreTypedBytes structs m.pointer types outer (stored_bytes b (class_in kind) (bytes_at w.memory i) s.spot.offset cs)) (sym (are i outer is))
       (typed_refilled structs m.pointer types outer (bytes_at w.memory i) s.spot.offset cs (typed_at structs m.pointer types w.memory typed i outer is) (new outer is))))
 
-  numbers_typed : (outer : Ty) (offset size n : ℕ) (labels : Labels) → AreTypedContents structs m.pointer types outer offset (number_bytes size n labels)
-  numbers_typed outer offset size n labels k t q there byte = let r = numbers_at size n labels k (part q 0) there in cc
-
-  -- a pointer alone has a first part, at the place of the store
-  pointers_typed : (outer t : Ty) (offset size : ℕ) (q : MachinePointer) → 0 < m.pointer → Stands structs m.pointer outer (Pointer t) offset → Points structs m.pointer types (Element t) q → AreTypedContents structs m.pointer types outer offset (pointer_bytes size q)
-  pointers_typed outer t offset size null wide stands points k u q there byte = numbers_typed outer offset size 0 no_labels k u q there byte
-  pointers_typed outer t offset size (into i o lo hi) wide stands points k u q there byte =
-      let r = parts_at (into i o lo hi) 0 size k (part q 0) there in
-      let same : q ≡ into i o lo hi = ap (part_of) r.0 in
-      let number : 0 ≡ 0 + k = ap (number_of_part) r.0 in
-      let first : offset + k ≡ offset = omega (arith, number) in
-      let inner : t ≡ u = same_pointed structs m.pointer types outer t u offset (pointer_there structs m.pointer types outer t offset wide stands) (ap (scalar_byte structs m.pointer outer) (sym first) ∙ byte) in
-      subst (λ z. Points structs m.pointer types (Element z) q) inner (subst (Points structs m.pointer types (Element t)) (sym same) points)
-
   stored_number : (k : IntType) (n : ℤ) (labels : Labels) (kept : Scalar) → store_through m (of.Int k) (integer n labels) p w ≡ goes kept after → KeepsTypes structs m.pointer types w after
   stored_number k n labels kept goes_on =
       let s = through m (of.Int k) (integer n labels) kept p w after goes_on in
-      written (of.Int k) (integer n labels) s (λ outer is. numbers_typed outer s.spot.offset (class_bytes m (class_of k)) (bits_in (class_bytes m (class_of k)) n) labels)
+      written (of.Int k) (integer n labels) s (λ outer is. numbers_typed structs m.pointer types outer s.spot.offset (class_bytes m (class_of k)) (bits_in (class_bytes m (class_of k)) n) labels)
 
   stored_pointer : (target : Target) (t : Ty) (q : MachinePointer) (kept : Scalar) → 0 < m.pointer → target_type target ≡ Pointer t → Points structs m.pointer types target p → Points structs m.pointer types (Element t) q → store_through m of.Pointer (pointer q) p w ≡ goes kept after → KeepsTypes structs m.pointer types w after
   stored_pointer target t q kept wide is points has goes_on =
@@ -104,11 +76,12 @@ module _ (m : Model) (structs : List StructView) (types : ℕ → Option Ty) (p 
       written of.Pointer (pointer q) s (λ outer named.
       let same : at.outer ≡ outer = same_Some at.outer outer (sym at.is ∙ named) in
       let stands : Stands structs m.pointer outer (Pointer t) s.spot.offset = subst (λ z. Stands structs m.pointer z (Pointer t) s.spot.offset) same (subst (λ z. Stands structs m.pointer at.outer z s.spot.offset) is at.stands) in
-      pointers_typed outer t s.spot.offset (class_bytes m class.Pointer) q wide stands has)
+      let there = pointer_there structs m.pointer types outer t s.spot.offset wide stands in
+      pointer_typed structs m.pointer types outer s.spot.offset (class_bytes m class.Pointer) q (λ u byte. subst (λ z. Points structs m.pointer types (Element z) q) (same_pointed structs m.pointer types outer t u s.spot.offset there byte) has))
 
   by_kind : (target : Target) (t : Ty) (kind : declared.Scalar) (known : Option Known) (v kept : Scalar) → 0 < m.pointer → target_type target ≡ t → IsOfKind t kind known → Points structs m.pointer types target p → HasIf structs m.pointer types known v → store m kind (pointer p) v w ≡ goes kept after → KeepsTypes structs m.pointer types w after
-  by_kind target _ _ _ (integer n labels) kept wide is (number_kind k) points has goes_on = stored_number k n labels kept goes_on
-  by_kind target _ _ _ (pointer q) kept wide is (number_kind k) points has goes_on = absurd (cc)
+  by_kind target _ _ _ (integer n labels) kept wide is (number_kind k some) points has goes_on = stored_number k n labels kept goes_on
+  by_kind target _ _ _ (pointer q) kept wide is (number_kind k some) points has goes_on = absurd (cc)
   by_kind target _ _ _ (integer n labels) kept wide is (pointer_kind t) points has goes_on = absurd has
   by_kind target _ _ _ (pointer q) kept wide is (pointer_kind t) points has goes_on = stored_pointer target t q kept wide is points has goes_on
 

@@ -1,18 +1,20 @@
 -- Pointers in the bytes of one instance, and memory in which one instance has other bytes.
-use Rattle.std.proofs.Common.{◌≡◌, ◌⊎◌, inl, inr, ℕ, zero, suc, ◌+◌, Option, Some, None, List, [], ◌∷◌, ◌++◌, length, take, drop, refl, sym, ap, ◌∙◌, subst, arith}
-use Rattle.std.specs.Prelude.{slice_get, set, map}
+use Rattle.std.proofs.Common.{◌≡◌, inl, inr, ℕ, zero, suc, ◌+◌, Option, Some, None, List, [], ◌∷◌, ◌++◌, length, take, refl, sym, ap, ◌∙◌, subst, arith}
+use Rattle.std.specs.Prelude.{slice_get, set}
 use Rattle.std.proofs.lemmas.Bool.{cases_eq}
 use Rattle.std.proofs.lemmas.List.{length-set}
-use Rattle.std.proofs.lemmas.Option.{slice_get_within}
+use Rattle.std.proofs.lemmas.Option.{same_Some, slice_get_within}
 use Rattle.c_layout.specs.StructViews.{StructView}
 use Rattle.c_layout.specs.Types.{Ty, Pointer}
-use Rattle.lib_models_memory.specs.Bytes.{MachinePointer, Content, indeterminate, number, part, Byte}
+use Rattle.lib_models_memory.specs.Bytes.{MachinePointer, null, into, Content, indeterminate, number, part, Byte}
+use Rattle.lib_models_memory.specs.Labels.{Labels, no_labels}
 use Rattle.lib_models_memory.specs.Instances.{Instance, Memory, bytes_of, bytes_at}
 use Rattle.lib_models_effects.specs.Worlds.{World, with_memory}
-use Rattle.lib_models_effects.specs.ScalarBytes.{refilled}
+use Rattle.lib_models_effects.specs.ObjectEffects.{characters}
+use Rattle.lib_models_effects.specs.ScalarBytes.{number_bytes, pointer_bytes, refilled}
 use Rattle.lib_models_effects.specs.Touches.{storage_of, storage_at, with_bytes, set_bytes}
-use Rattle.store_domain_sound.proofs.Slices.{get_set_same, get_set_other}
-use Rattle.abstract_steps_sound_first_memory.proofs.StartBytes.{refilled_at}
+use Rattle.store_domain_sound.proofs.Slices.{get_take, get_set_same, get_set_other}
+use Rattle.abstract_steps_sound_first_memory.proofs.StartBytes.{numbers_at, parts_at, refilled_at}
 use Rattle.flow_program_types.specs.TypeBytes.{scalar_byte}
 use Rattle.flow_program_types.specs.PointedTypes.{Element, Points}
 use Rattle.flow_program_types.specs.TypedStates.{IsTypedMemory}
@@ -25,8 +27,25 @@ IsNoPart (part p k) = ⊥
 IsNoPart indeterminate = Unit {0}
 IsNoPart (number n labels) = Unit {0}
 
-pub no_part : {A : Type 0} (c : Content) (p : MachinePointer) (k : ℕ) → IsNoPart c → c ≡ part p k → A
-no_part c p k other is = absurd (subst IsNoPart is other)
+pub no_part : (c : Content) (p : MachinePointer) (k : ℕ) → IsNoPart c → c ≡ part p k → ⊥
+no_part c p k other is = subst IsNoPart is other
+
+abbrev part_of : Content → MachinePointer
+part_of (part p k) = p
+part_of indeterminate = null
+part_of (number n labels) = null
+
+abbrev part_number : Content → ℕ
+part_number (part p k) = k
+part_number indeterminate = 0
+part_number (number n labels) = 0
+
+-- a text has none
+pub text_plain : {A : Type 0} (text : List ℕ) (k : ℕ) (c : Content) (p : MachinePointer) (n : ℕ) → slice_get (characters text ++ number 0 no_labels ∷ []) k ≡ Some c → c ≡ part p n → A
+text_plain [] zero c p n there is = absurd (no_part (number 0 no_labels) p n tt (same_Some (number 0 no_labels) c there ∙ is))
+text_plain [] (suc k) c p n there is = absurd (cc)
+text_plain (x ∷ text) zero c p n there is = absurd (no_part (number x no_labels) p n tt (same_Some (number x no_labels) c there ∙ is))
+text_plain (x ∷ text) (suc k) c p n there is = text_plain text k c p n there is
 
 -- ---- other bytes of one instance
 
@@ -70,6 +89,22 @@ module _ (structs : List StructView) (pointer_size : ℕ) (types : ℕ → Optio
         | inl same ↦ old x t r.was p r.there (sym same ∙ content) byte
         | inr here ↦ new here.0 t p (here.2 ∙ ap Some content) (sym (ap (scalar_byte structs pointer_size outer) here.1) ∙ byte)
       ]
+
+  pub numbers_typed : (outer : Ty) (offset size n : ℕ) (labels : Labels) → AreTypedContents outer offset (number_bytes size n labels)
+  numbers_typed outer offset size n labels k t p there byte = let r = numbers_at size n labels k (part p 0) there in absurd (no_part (number r.value labels) p 0 tt (sym r.is))
+
+  -- a pointer has its first part at the offset alone
+  pub pointer_typed : (outer : Ty) (offset size : ℕ) (q : MachinePointer) → ((t : Ty) → scalar_byte structs pointer_size outer offset ≡ Some (record { ctype = Pointer t; at = 0 }) → Points structs pointer_size types (Element t) q) → AreTypedContents outer offset (pointer_bytes size q)
+  pointer_typed outer offset size null points k t p there byte = numbers_typed outer offset size 0 no_labels k t p there byte
+  pointer_typed outer offset size (into i o lo hi) points k t p there byte =
+      let r = parts_at (into i o lo hi) 0 size k (part p 0) there in
+      let same : p ≡ into i o lo hi = ap part_of r.0 in
+      let first : 0 ≡ 0 + k = ap part_number r.0 in
+      let place : offset + k ≡ offset = omega (arith, first) in
+      subst (Points structs pointer_size types (Element t)) (sym same) (points t (sym (ap (scalar_byte structs pointer_size outer) place) ∙ byte))
+
+  pub text_typed : (outer : Ty) (offset room : ℕ) (text : List ℕ) → AreTypedContents outer offset (take room (characters text ++ number 0 no_labels ∷ []))
+  text_typed outer offset room text k t p there byte = let r = get_take room (characters text ++ number 0 no_labels ∷ []) k (part p 0) there in text_plain text k (part p 0) p 0 r.1 refl
 
   -- the bytes of one instance give place to others
   pub set_keeps : (w : World) (i : ℕ) (bytes : List Byte) → IsTypedMemory structs pointer_size types w.memory → ((outer : Ty) → types i ≡ Some outer → AreTypedBytes outer bytes) → KeepsTypes structs pointer_size types w (with_memory w (set_bytes w.memory i bytes))
