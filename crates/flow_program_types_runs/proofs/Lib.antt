@@ -3,3 +3,7 @@ pub mod KnownValues
 pub mod TypedStates
 pub mod PlainCalls
 pub mod TypedInstructions
+pub mod TypedEdges
+pub mod TypedRuns
+pub mod TypedAccesses
+pub mod TypedPrograms

@@ -267,7 +267,7 @@ module _ (laws : TypeLaws) (flow : Flow) (laid : AreLaidOut flow.model (structs_
 
     -- ---- all instructions
 
-    instruction : (o : Operation) → IsTypedOperation flow objects before after o → leads o ≡ On → Goes (act_step f (act o) s)
+    pub instruction : (o : Operation) → IsTypedOperation flow objects before after o → leads o ≡ On → Goes (act_step f (act o) s)
     instruction _ (gives_zero to kind gives) on = given to (Some Zero) gives (goes (integer (pos 0) no_labels) s.world) (record { has = refl; memory = refl })
     instruction _ (gives_number to n kind gives) on = numbered to gives (goes (integer n no_labels) s.world) refl
     instruction _ (gives_address to base gives) on = addressed to base 0 (Element (objects base)) gives (λ i e. (objects base, e, whole base))
