@@ -1,0 +1,3 @@
+pub mod ByteEnds
+pub mod ListedLeaves
+pub mod ScalarLeaves
