@@ -1,5 +1,5 @@
 -- Where the bytes of elements, members and types end, and of which part a byte is.
-use Rattle.std.proofs.Common.{◌≡◌, ℕ, zero, suc, ◌+◌, ◌-◌, ◌*◌, ◌^◌, ◌<◌, ◌≤◌, Bool, true, false, cond, nat_le, nat_lt, List, [], ◌∷◌, ◌⊎◌, inl, inr, Option, Some, None, arith, ap, refl, ◌∙◌}
+use Rattle.std.proofs.Common.{◌≡◌, ℕ, zero, suc, ◌+◌, ◌-◌, ◌*◌, ◌^◌, ◌<◌, ◌≤◌, Bool, true, false, cond, nat_le, nat_lt, List, [], ◌∷◌, length, ◌⊎◌, inl, inr, Option, Some, None, arith, ap, refl, ◌∙◌}
 use Rattle.std.specs.Option.{option_or}
 use Rattle.std.proofs.lemmas.Bool.{and_parts, leb-true, leb-false, ltb-true}
 use Rattle.std.proofs.lemmas.Option.{none-some}
@@ -10,7 +10,7 @@ use Rattle.c_layout.specs.Types.{Ty, Int, Pointer, Array, Struct, Void}
 use Rattle.store_domain_structs.specs.LeafCounts.{bytes_in}
 use Rattle.store_domain_laws_layouts.specs.LaidApart.{is_member_in, are_members_in, are_laid_apart}
 use Rattle.store_domain_laws_tags.proofs.TypeTags.{member_is, laid_out}
-use Rattle.flow_program_types.specs.TypeBytes.{behind, repeated_bytes, member_bytes, bytes_with, struct_bytes, ScalarByte, own_scalar}
+use Rattle.flow_program_types.specs.TypeBytes.{behind, repeated_bytes, member_bytes, bytes_with, struct_bytes, ScalarByte, own_scalar, scalar_byte}
 
 module _ {A : Type 0} where
   pub or_is : (a b : Option A) (s : A) → option_or a b ≡ Some s → (a ≡ Some s) ⊎ (b ≡ Some s)
@@ -106,3 +106,7 @@ module _ (m : Model) (structs : List StructView) (apart : are_laid_apart m struc
 
   pub ends_at : (depth : ℕ) (t : Ty) → Ends (size_of_type structs m.pointer t) (bytes_at depth t)
   ends_at depth t = type_ends (struct_bytes structs m.pointer (own_scalar structs m.pointer) depth) (struct_ends depth) t
+
+  pub scalar_ends : (t : Ty) → Ends (size_of_type structs m.pointer t) (scalar_byte structs m.pointer t)
+  unfolding scalar_byte
+  scalar_ends t = ends_at (length structs) t

@@ -3,4 +3,4 @@
 
 mod theorems;
 
-pub use theorems::leaves_are_scalars;
+pub use theorems::{leaves_are_scalars, structures_have_leaves};
