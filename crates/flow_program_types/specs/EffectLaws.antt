@@ -20,10 +20,11 @@ use Rattle.lib_models_effects.specs.NumberedTables.{put_at}
 use Rattle.lib_models_effects.specs.ObjectEffects.{next_instance, entered, left, forgotten, cleared, spelled}
 use Rattle.lib_models_effects.specs.PointerEffects.{narrow, shift}
 use Rattle.lib_models_effects.specs.StructCopies.{copy_struct}
+use Rattle.lib_models_effects.specs.Touches.{storage_at}
 use Rattle.lib_models_effects.specs.UnitStarts.{start_world}
 use Rattle.flow_program_types.specs.StandingTypes.{AreLaidOut, Stands}
 use Rattle.flow_program_types.specs.PointedTypes.{Target, Element, target_type, Known, Pointing, Points, Has, IsOfKind}
-use Rattle.flow_program_types.specs.TypedStates.{IsTypedMemory}
+use Rattle.flow_program_types.specs.TypedStates.{AreDeclared, IsTypedMemory}
 use Rattle.flow_program_types.specs.TypedPrograms.{first_types, HasTypedObjects}
 
 abbrev pub HasIf : List StructView → ℕ → (ℕ → Option Ty) → Option Known → Scalar → Type 0
@@ -35,10 +36,11 @@ pub record GivesKnown (structs : List StructView) (pointer_size : ℕ) (types : 
   pub has : HasIf structs pointer_size types known v
   pub memory : after.memory ≡ before.memory
 
--- pointers in memory keep to types, and there are as many instances
+-- pointers in memory keep to types, and there are as many instances of the same storage
 pub record KeepsTypes (structs : List StructView) (pointer_size : ℕ) (types : ℕ → Option Ty) (before after : World) : Type 0 where
   pub memory : IsTypedMemory structs pointer_size types after.memory
   pub long : length after.memory ≡ length before.memory
+  pub storages : (i : ℕ) → storage_at after.memory i ≡ storage_at before.memory i
 
 -- ---- pointers
 
@@ -59,10 +61,10 @@ LoadsAreTyped = (m : Model) (structs : List StructView) (types : ℕ → Option 
     → is_model m ≡ true → IsTypedMemory structs m.pointer types w.memory → Points structs m.pointer types target p → IsOfKind (target_type target) kind known
     → load m kind (pointer p) w ≡ goes v after → GivesKnown structs m.pointer types known v w after
 
--- the value is that which was stored
+-- the value is that which was stored; a store to an allocated object that is too short would move bytes
 abbrev pub StoresKeepTypes : Type 0
 StoresKeepTypes = (m : Model) (structs : List StructView) (types : ℕ → Option Ty) (target : Target) (kind : declared.Scalar) (known : Option Known) (p : MachinePointer) (v kept : Scalar) (w after : World)
-    → is_model m ≡ true → IsTypedMemory structs m.pointer types w.memory → Points structs m.pointer types target p → IsOfKind (target_type target) kind known → HasIf structs m.pointer types known v
+    → is_model m ≡ true → AreDeclared types w.memory → IsTypedMemory structs m.pointer types w.memory → Points structs m.pointer types target p → IsOfKind (target_type target) kind known → HasIf structs m.pointer types known v
     → store m kind (pointer p) v w ≡ goes kept after → KeepsTypes structs m.pointer types w after
 
 -- a struct is copied between places of its type; the pointer to the target is given
@@ -76,8 +78,8 @@ CopiesKeepTypes = (m : Model) (structs : List StructView) (types : ℕ → Optio
 -- a fresh instance of any type has no pointers yet, and pointers of before point to what they did
 abbrev pub EntersKeepTypes : Type 0
 EntersKeepTypes = (m : Model) (structs : List StructView) (pointer_size : ℕ) (types : ℕ → Option Ty) (t : Ty) (leaves : List Leaf) (size : ℕ) (w : World)
-    → ((i : ℕ) (u : Ty) → types i ≡ Some u → i < length w.memory) → IsTypedMemory structs pointer_size types w.memory
-    → IsTypedMemory structs pointer_size (put_at types (next_instance w) t) (entered m leaves size w).memory × (length (entered m leaves size w).memory ≡ length w.memory + 1)
+    → ((i : ℕ) (u : Ty) → types i ≡ Some u → i < length w.memory) → AreDeclared types w.memory → IsTypedMemory structs pointer_size types w.memory
+    → IsTypedMemory structs pointer_size (put_at types (next_instance w) t) (entered m leaves size w).memory × (length (entered m leaves size w).memory ≡ length w.memory + 1) × AreDeclared (put_at types (next_instance w) t) (entered m leaves size w).memory
 
 abbrev pub LeavesKeepTypes : Type 0
 LeavesKeepTypes = (structs : List StructView) (pointer_size : ℕ) (types : ℕ → Option Ty) (i : ℕ) (w : World) → IsTypedMemory structs pointer_size types w.memory → KeepsTypes structs pointer_size types w (left i w)
@@ -96,4 +98,4 @@ SpellsKeepTypes = (structs : List StructView) (pointer_size : ℕ) (types : ℕ 
 -- the first memory of a unit whose initializers are typed
 abbrev pub StartsAreTyped : Type 0
 StartsAreTyped = (u : UnitView) (draws : List ℤ) (w : World) (done : _) → HasTypedObjects u → start_world u draws ≡ goes done w
-    → IsTypedMemory u.structs u.model.pointer (first_types u) w.memory × ((i : ℕ) (t : Ty) → first_types u i ≡ Some t → i < length w.memory)
+    → IsTypedMemory u.structs u.model.pointer (first_types u) w.memory × ((i : ℕ) (t : Ty) → first_types u i ≡ Some t → i < length w.memory) × AreDeclared (first_types u) w.memory

@@ -20,7 +20,7 @@ abbrev pub target_type : Target → Ty
 target_type (Element t) = t
 target_type (Place t) = t
 
--- what is known of the value of a temporary: that it is zero, a null pointer, or a pointer to a type
+-- what is known of the value of a temporary: that it is zero or null, a null pointer, or a pointer to a type
 pub data Known : Type 0 where
   Zero : Known
   Null : Known
@@ -38,7 +38,8 @@ module _ (structs : List StructView) (pointer_size : ℕ) where
 
   abbrev pub IsIn : Target → Ty → (offset lo hi : ℕ) → Type 0
   IsIn (Element t) outer offset lo hi = IsElement outer t offset lo hi
-  IsIn (Place t) outer offset lo hi = Stands structs pointer_size outer t offset
+  -- within the bounds, as an element before the last one's end is
+  IsIn (Place t) outer offset lo hi = offset < hi → Stands structs pointer_size outer t offset
 
   -- by the types of instances; null points to each type
   abbrev pub Points : (ℕ → Option Ty) → Target → MachinePointer → Type 0
@@ -47,7 +48,7 @@ module _ (structs : List StructView) (pointer_size : ℕ) where
 
   abbrev pub Has : (ℕ → Option Ty) → Known → Scalar → Type 0
   Has types Zero (integer n labels) = n ≡ pos 0
-  Has types Zero (pointer p) = ⊥
+  Has types Zero (pointer p) = p ≡ null
   Has types Null (integer n labels) = ⊥
   Has types Null (pointer p) = p ≡ null
   Has types (Pointing target) (integer n labels) = ⊥
@@ -73,7 +74,7 @@ IsLess k m = ⊥
 
 -- a scalar of the kind, and what is known of its value when it is loaded
 pub data IsOfKind : Ty → declared.Scalar → Option Known → Type 0 where
-  number_kind : (k : IntType) → IsOfKind (Int k) (of.Int k) None
+  number_kind : (k : IntType) → 0 < k.bytes → IsOfKind (Int k) (of.Int k) None
   pointer_kind : (t : Ty) → IsOfKind (Pointer t) of.Pointer (Some (Pointing (Element t)))
 
 -- a value may be stored where a scalar stands: each number where a number does

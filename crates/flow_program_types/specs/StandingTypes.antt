@@ -5,7 +5,7 @@ use Rattle.c_layout.specs.Models.{is_model}
 use Rattle.c_layout.specs.StructViews.{FieldView, StructView}
 use Rattle.c_layout.specs.Types.{Ty, Array, Struct}
 use Rattle.c_layout.specs.declared.data_model.Model.{Model}
-use Rattle.store_domain_laws_layouts.specs.LaidApart.{has_class_bytes, are_laid_apart}
+use Rattle.store_domain_laws_layouts.specs.LaidApart.{are_laid_apart}
 use Rattle.struct_nesting.specs.OrderedStructs.{are_ordered}
 use Rattle.flow_program_types.specs.TypeBytes.{scalar_byte, struct_byte}
 
@@ -30,7 +30,7 @@ abbrev pub StandingIsTransitive : Type 0
 StandingIsTransitive = (structs : List StructView) (pointer_size : ℕ) (a b c : Ty) (x y : ℕ) → Stands structs pointer_size a b x → Stands structs pointer_size b c y → Stands structs pointer_size a c (x + y)
 
 abbrev pub ElementsStand : Type 0
-ElementsStand = (m : Model) (structs : List StructView) → AreLaidOut m structs → (t : Ty) (n i : ℕ) → has_class_bytes m t ≡ true → i < n → Stands structs m.pointer (Array t n) t (i * size_of_type structs m.pointer t)
+ElementsStand = (m : Model) (structs : List StructView) → AreLaidOut m structs → (t : Ty) (n i : ℕ) → i < n → Stands structs m.pointer (Array t n) t (i * size_of_type structs m.pointer t)
 
 abbrev pub MembersStand : Type 0
 MembersStand = (m : Model) (structs : List StructView) → AreLaidOut m structs → (i : ℕ) (s : StructView) → slice_get structs i ≡ Some s → (n : ℕ) (f : FieldView) → slice_get s.fields n ≡ Some f → Stands structs m.pointer (Struct i) f.ctype f.offset

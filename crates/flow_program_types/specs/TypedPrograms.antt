@@ -78,7 +78,7 @@ module _ (flow : Flow) (objects : ℕ → Ty) (before after : Temporaries) where
     gives_part : (to base offset : ℕ) (t : Ty) → Stands (structs_of flow) flow.model.pointer (objects base) t offset → Gives to (Some (Pointing (Place t))) before after → IsTypedOperation (op.Address to base offset)
     loads : (to from : ℕ) (kind : Scalar) (t : Ty) (known : Option Known) → PointsTo from t → IsOfKind t kind known → Gives to known before after → IsTypedOperation (op.Load to from kind)
     stores_in : (to from : ℕ) (kind : Scalar) (kept : _) (t : Ty) (known : Option Known) → PointsTo to t → IsOfKind t kind known → IsStorable known (before from) → Keeps kept before after → IsTypedOperation (op.Store to from kind kept)
-    copies : (to from index : ℕ) → PointsTo to (Struct index) → PointsTo from (Struct index) → IsKept before after → IsTypedOperation (op.Copy to from index)
+    copies : (to from index : ℕ) → PointsTo to (Struct index) → PointsTo from (Struct index) → 0 < size_in flow (Struct index) → IsKept before after → IsTypedOperation (op.Copy to from index)
     -- a member, or an array as its first element
     narrows : (to from offset size : ℕ) (t inner : Ty) → PointsTo from t → Stands (structs_of flow) flow.model.pointer t inner offset → size ≡ size_in flow inner → 0 < size → Gives to (Some (Pointing (Element inner))) before after → IsTypedOperation (op.Narrow to from offset size)
     shifts : (to from : ℕ) (by : Amount) (size : ℕ) (back : _) (t : Ty) → (known : Known) → before from ≡ Some known → IsLess known (Pointing (Element t)) → size ≡ size_in flow t → 0 < size → Gives to (Some (Pointing (Element t))) before after → IsTypedOperation (op.Shift to from by size back)

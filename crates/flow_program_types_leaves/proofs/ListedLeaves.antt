@@ -1,5 +1,5 @@
 -- Lists of leaves that are those of the scalars that bytes say, from an offset on.
-use Rattle.std.proofs.Common.{◌≡◌, ℕ, zero, suc, ◌+◌, ◌-◌, ◌*◌, ◌<◌, ◌≤◌, Bool, true, false, cond, nat_lt, List, [], ◌∷◌, ◌++◌, ◌⊎◌, inl, inr, Option, Some, None, slice_get, arith, ap, sym, subst, refl, ◌∙◌}
+use Rattle.std.proofs.Common.{◌≡◌, ℕ, zero, suc, ◌+◌, ◌-◌, ◌<◌, Bool, true, false, cond, nat_lt, List, [], ◌∷◌, ◌++◌, ◌⊎◌, inl, inr, Option, Some, None, slice_get, arith, ap, sym, subst, refl, ◌∙◌}
 use Rattle.std.specs.Option.{option_or}
 use Rattle.std.proofs.lemmas.Bool.{lt-ltb}
 use Rattle.std.proofs.lemmas.Option.{same_Some, none-some}
@@ -10,7 +10,8 @@ use Rattle.c_layout.specs.Types.{Ty}
 use Rattle.lib_models_memory.specs.ScalarSizes.{class_bytes}
 use Rattle.flow_program_types.specs.TypeBytes.{behind, repeated_bytes, ScalarByte}
 use Rattle.flow_program_types.specs.LeafTypes.{IsLeafOf, HasLeaf}
-use Rattle.flow_program_types_leaves.proofs.ByteEnds.{Ends, or_is, behind_is, behind_on, own_byte}
+use Rattle.flow_program_types_layouts.proofs.RepeatedBytes.{Ends, behind_on}
+use Rattle.flow_program_types_leaves.proofs.ByteEnds.{or_is, behind_is, own_byte}
 
 -- ---- lists behind one another
 

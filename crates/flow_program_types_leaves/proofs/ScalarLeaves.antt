@@ -1,5 +1,5 @@
 -- The leaves of a type are its scalars, where each array has few elements.
-use Rattle.std.proofs.Common.{◌≡◌, ℕ, zero, suc, ◌+◌, ◌*◌, ◌^◌, ◌<◌, ◌≤◌, Bool, true, false, cond, nat_le, ◌&&◌, List, [], ◌∷◌, ◌++◌, length, inl, inr, Option, Some, None, slice_get, arith, ap, sym, subst, refl, ◌∙◌, add-one, append_assoc}
+use Rattle.std.proofs.Common.{◌≡◌, ℕ, zero, suc, ◌+◌, ◌*◌, ◌^◌, ◌≤◌, Bool, true, false, cond, ◌&&◌, List, [], ◌∷◌, ◌++◌, length, inl, inr, Option, Some, None, arith, ap, sym, subst, refl, ◌∙◌, add-one, append_assoc}
 use Rattle.std.proofs.lemmas.Bool.{and_parts, and_from, eqb-true, cases_lt}
 use Rattle.std.proofs.lemmas.List.{append-nil}
 use Rattle.std.proofs.lemmas.Option.{none-some}
@@ -8,19 +8,19 @@ use Rattle.c_layout.specs.declared.leaf_lists.Class.TheVariants as class
 use Rattle.c_layout.specs.declared.leaf_lists.Leaf.{Leaf}
 use Rattle.c_layout.specs.Layout.{size_of_type}
 use Rattle.c_layout.specs.Leaves.{class_of, is_short, short_count, behind_short, behind_all, repeated, of_fields, leaf, alone, folded_unit, folded_leaves, leaves_of}
-use Rattle.c_layout.specs.Models.{is_model}
 use Rattle.c_layout.specs.StructViews.{FieldView, StructView, struct_at}
 use Rattle.c_layout.specs.Types.{Ty, Int, Pointer, Array, Struct, Void}
 use Rattle.flow_program.specs.ModelKinds as flow
 use Rattle.flow_lower_plain.specs.ShortArrays.{are_short, have_short_arrays, has_short_members, has_short_arrays_within, has_short_arrays}
 use Rattle.lib_models_memory.specs.ScalarSizes.{class_bytes}
 use Rattle.store_domain_structs.specs.LeafCounts.{bytes_in}
-use Rattle.store_domain_laws_layouts.specs.LaidApart.{has_class_bytes, is_member_in, are_members_in, are_laid_apart}
+use Rattle.store_domain_laws_layouts.specs.LaidApart.{has_class_bytes, is_member_in, are_members_in}
 use Rattle.store_domain_laws_tags.proofs.TypeTags.{model_bytes, short_size, member_is, laid_out}
 use Rattle.flow_program_types.specs.TypeBytes.{behind, repeated_bytes, member_bytes, struct_bytes, ScalarByte, own_scalar, scalar_byte}
 use Rattle.flow_program_types.specs.StandingTypes.{AreLaidOut}
-use Rattle.flow_program_types.specs.LeafTypes.{HasScalar, ScalarsAreLeaves, LeavesAreScalars}
-use Rattle.flow_program_types_leaves.proofs.ByteEnds.{Ends, behind_ends, none_before, bytes_at, ends_at}
+use Rattle.flow_program_types.specs.LeafTypes.{ScalarsAreLeaves, LeavesAreScalars}
+use Rattle.flow_program_types_layouts.proofs.RepeatedBytes.{Ends, behind_ends}
+use Rattle.flow_program_types_leaves.proofs.ByteEnds.{none_before, bytes_at, ends_at}
 use Rattle.flow_program_types_leaves.proofs.ListedLeaves.{AreLeaves, no_leaves, one_leaf, leaves_as, leaves_behind, leaves_joined, leaves_repeated}
 
 -- ---- elements of elements
@@ -78,14 +78,14 @@ module _ (m : Model) (structs : List StructView) (laid : AreLaidOut m structs) w
       ap (λ b. repeated (cond b (n * short_count t) 1) at (size (cond b (behind_short t) (Array t n))) (unit (cond b (behind_short t) (Array t n)))) short
       ∙ (in_groups (size (behind_short t)) (unit (behind_short t)) n (short_count t) at
       ∙ ap (λ s. repeated n at s (list (suc depth) t)) (sym (short_size structs m.pointer t)))
-  )
+      )
     where
       unit : Ty → ℕ → List Leaf
       unit = folded_unit (suc depth) structs m.pointer (list depth)
 
   -- of each type that has short arrays alone, where those of structs are so
   type_leaves : (depth : ℕ) → ((i : ℕ) → has_short_arrays_within (suc depth) structs (Struct i) ≡ true → (at : ℕ) → AreLeaves m at (struct_bytes structs m.pointer (own_scalar structs m.pointer) depth i) (of_fields (struct_at structs i).fields at (list depth)))
-      → (t : Ty) → has_class_bytes m t ≡ true → has_short_arrays_within (suc depth) structs t ≡ true → (at : ℕ) → AreLeaves m at (bytes_at m structs laid.apart depth t) (list (suc depth) t at)
+      → (t : Ty) → has_class_bytes m t ≡ true → has_short_arrays_within (suc depth) structs t ≡ true → (at : ℕ) → AreLeaves m at (bytes_at m structs depth t) (list (suc depth) t at)
   type_leaves depth each (Int k) kind short at =
       let e = eqb-true k.bytes (flow.class_bytes m (class_of k)) kind ∙ model_bytes m laid.model (class_of k) in
       let a = one_leaf m at (Int k) k.bytes (leaf at (class_of k) k.signed (alone k.bytes)) (record { class = refl; signed = refl; alone = refl }) refl (sym e) in
@@ -97,13 +97,13 @@ module _ (m : Model) (structs : List StructView) (laid : AreLaidOut m structs) w
       let p = and_parts (is_short n && are_short t) (has_short_members (has_short_arrays_within depth structs) structs (behind_all t)) short in
       let q = and_parts (is_short n) (are_short t) p.0 in
       let inner = type_leaves depth each t kind (and_from (are_short t) (has_short_members (has_short_arrays_within depth structs) structs (behind_all t)) q.1 p.1) in
-      let a = leaves_as m at (repeated_bytes n (size t) (bytes_at m structs laid.apart depth t)) (repeated n at (size t) (list (suc depth) t)) (list (suc depth) (Array t n) at) (array_list depth t n q.0 at)
-      (leaves_repeated m (size t) (bytes_at m structs laid.apart depth t) (list (suc depth) t) (ends_at m structs laid.apart depth t) inner n at) in
+      let a = leaves_as m at (repeated_bytes n (size t) (bytes_at m structs depth t)) (repeated n at (size t) (list (suc depth) t)) (list (suc depth) (Array t n) at) (array_list depth t n q.0 at)
+      (leaves_repeated m (size t) (bytes_at m structs depth t) (list (suc depth) t) (ends_at m structs laid.apart depth t) inner n at) in
       record { scalars = a.scalars; leaves = a.leaves }
   type_leaves depth each (Struct i) kind short at =
       let a = leaves_as m at (struct_bytes structs m.pointer (own_scalar structs m.pointer) depth i) (of_fields (struct_at structs i).fields at (list depth)) (list (suc depth) (Struct i) at) (sym (append-nil (of_fields (struct_at structs i).fields at (list depth)))) (each i short at) in
       record { scalars = a.scalars; leaves = a.leaves }
-  type_leaves depth each Void kind short at = no_leaves m at (bytes_at m structs laid.apart depth Void) (λ x. refl)
+  type_leaves depth each Void kind short at = no_leaves m at (bytes_at m structs depth Void) (λ x. refl)
 
   no_members : (fs : List FieldView) (at : ℕ) → of_fields fs at (list 0) ≡ []
   no_members [] at = refl
@@ -113,14 +113,14 @@ module _ (m : Model) (structs : List StructView) (laid : AreLaidOut m structs) w
   struct_leaves zero i short at = leaves_as m at (λ x. None) [] (of_fields (struct_at structs i).fields at (list 0)) (sym (no_members (struct_at structs i).fields at)) (no_leaves m at (λ x. None) (λ x. refl))
   struct_leaves (suc depth) i short at =
       let a = laid_out m structs laid.apart i in
-      let b = members_leaves (bytes_at m structs laid.apart depth) (list (suc depth)) (has_short_arrays_within (suc depth) structs) (ends_at m structs laid.apart depth) (type_leaves depth (struct_leaves depth)) (struct_at structs i).size 0 (struct_at structs i).fields a.small a.members short at in
+      let b = members_leaves (bytes_at m structs depth) (list (suc depth)) (has_short_arrays_within (suc depth) structs) (ends_at m structs laid.apart depth) (type_leaves depth (struct_leaves depth)) (struct_at structs i).size 0 (struct_at structs i).fields a.small a.members short at in
       record { scalars = b.scalars; leaves = b.leaves }
 
   all_leaves : (t : Ty) → has_class_bytes m t ≡ true → has_short_arrays structs t ≡ true → AreLeaves m 0 (scalar_byte structs m.pointer t) (leaves_of structs m.pointer t)
   unfolding leaves_of scalar_byte
   all_leaves t kind short =
       let e = add-one (length structs) in
-      let a = leaves_as m 0 (bytes_at m structs laid.apart (length structs) t) (list (suc (length structs)) t 0) (list (length structs + 1) t 0) (ap (λ d. list d t 0) (sym e))
+      let a = leaves_as m 0 (bytes_at m structs (length structs) t) (list (suc (length structs)) t 0) (list (length structs + 1) t 0) (ap (λ d. list d t 0) (sym e))
       (type_leaves (length structs) (struct_leaves (length structs)) t kind (subst (λ d. has_short_arrays_within d structs t ≡ true) e short) 0) in
       record { scalars = a.scalars; leaves = a.leaves }
 

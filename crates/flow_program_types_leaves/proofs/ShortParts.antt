@@ -1,6 +1,5 @@
 -- Structures in a type that has short arrays alone have short arrays alone.
-use Rattle.std.proofs.Common.{◌≡◌, ℕ, zero, suc, ◌+◌, ◌-◌, ◌*◌, ◌<◌, ◌≤◌, Bool, true, false, cond, ◌==◌, nat_lt, ◌&&◌, List, [], ◌∷◌, length, inl, inr, Option, Some, None, slice_get, arith, ap, sym, subst, refl, ◌∙◌, add-one}
-use Rattle.std.specs.Option.{option_or}
+use Rattle.std.proofs.Common.{◌≡◌, ℕ, zero, suc, ◌-◌, ◌≤◌, Bool, true, false, cond, ◌==◌, nat_lt, ◌&&◌, List, [], ◌∷◌, length, inl, inr, Option, Some, None, arith, sym, subst, refl, add-one}
 use Rattle.std.proofs.lemmas.Bool.{and_parts, and_from, eqb-true, cases_lt}
 use Rattle.std.proofs.lemmas.Option.{none-some}
 use Rattle.c_layout.specs.Layout.{size_of_type}

@@ -1,25 +1,21 @@
 -- Where a structure stands in an object, its leaves are those of the object there.
-use Rattle.std.proofs.Common.{◌≡◌, ℕ, zero, suc, ◌+◌, ◌-◌, ◌*◌, ◌<◌, ◌≤◌, Bool, true, false, cond, ◌==◌, nat_lt, ◌&&◌, List, [], length, inl, inr, Option, Some, None, slice_get, arith, ap, sym, subst, refl, ◌∙◌}
+use Rattle.std.proofs.Common.{◌≡◌, ℕ, zero, suc, ◌+◌, ◌-◌, ◌*◌, ◌<◌, ◌≤◌, true, cond, nat_lt, ◌&&◌, List, length, inl, inr, Some, None, slice_get, arith, ap, sym, refl, ◌∙◌}
 use Rattle.std.specs.Option.{option_or}
 use Rattle.std.proofs.lemmas.Bool.{cases_lt, eq-eqb, lt-ltb}
 use Rattle.std.proofs.lemmas.Option.{slice_get_within, get_or_from_slice_get, none-some}
 use Rattle.c_layout.specs.declared.data_model.Model.{Model}
 use Rattle.c_layout.specs.declared.leaf_lists.Leaf.{Leaf}
-use Rattle.c_layout.specs.declared.shapes.BaseInfo.{BaseInfo}
-use Rattle.c_layout.specs.Layout.{size_of_type}
 use Rattle.c_layout.specs.Leaves.{leaves_of}
 use Rattle.c_layout.specs.StructViews.{StructView, no_struct, struct_at}
 use Rattle.c_layout.specs.Types.{Ty, Struct}
 use Rattle.flow_lower_plain.specs.ShortArrays.{has_short_arrays}
-use Rattle.flow_program.specs.declared.programs.Flow.{Flow}
-use Rattle.lib_models_memory.specs.ScalarSizes.{class_bytes}
 use Rattle.store_domain_meaning.specs.Places.{OwnedByLeaf}
 use Rattle.store_domain_laws_tags.proofs.TypeTags.{some_bytes}
-use Rattle.abstract_steps_single_copies.specs.TypedCopies.{HasOwnLeaf, HasStructLeaf}
+use Rattle.abstract_steps_single_copies.specs.TypedCopies.{IsSameLeaf, HasOwnLeaf, HasStructLeaf}
 use Rattle.flow_program_types.specs.TypeBytes.{ScalarByte, own_struct, member_bytes, bytes_with, struct_bytes, scalar_byte, struct_byte}
 use Rattle.flow_program_types.specs.StandingTypes.{AreLaidOut, Stands}
-use Rattle.flow_program_types.specs.LeafTypes.{IsLeafOf}
-use Rattle.flow_program_types.specs.TypedPrograms.{structs_of, IsObjectOf}
+use Rattle.flow_program_types.specs.LeafTypes.{IsLeafOf, HasScalar}
+use Rattle.flow_program_types.specs.TypedPrograms.{structs_of}
 use Rattle.flow_program_types.specs.CopyLaws.{StructuresHaveLeaves}
 use Rattle.flow_program_types_leaves.proofs.ByteEnds.{scalar_ends}
 use Rattle.flow_program_types_leaves.proofs.ScalarLeaves.{scalars_are_leaves, leaves_are_scalars}
@@ -59,6 +55,19 @@ module _ (m : Model) (structs : List StructView) (laid : AreLaidOut m structs) (
     | inr more ↦ absurd (none-some s (sym (scalar_ends m structs laid.apart (Struct index) x more) ∙ e))
   ]
 
+  -- a byte of the object is one of the structure
+  inner_byte : (x at : ℕ) (s : ScalarByte) → at ≡ x → offset ≤ x → x - offset < (struct_at structs index).size → scalar_byte structs m.pointer outer at ≡ Some s → scalar_byte structs m.pointer (Struct index) (x - offset) ≡ Some s
+  inner_byte x at s e from inside byte =
+      let d : offset + (x - offset) ≡ at = omega (arith, e, from) in
+      sym (stands.scalars (x - offset) inside) ∙ (ap (scalar_byte structs m.pointer outer) d ∙ byte)
+
+-- the first byte of a leaf's scalar
+first_scalar : (m : Model) (structs : List StructView) (t : Ty) (leaf : Leaf) (s : HasScalar m structs t leaf) → scalar_byte structs m.pointer t leaf.offset ≡ Some (record { ctype = s.scalar; at = 0 })
+first_scalar m structs t leaf s = (let e : leaf.offset ≡ leaf.offset + 0 = omega arith in ap (scalar_byte structs m.pointer t) e ∙ s.bytes 0 (some_bytes m leaf.class))
+
+same_leaf : (scalar : Ty) (leaf own : Leaf) (offset : ℕ) → IsLeafOf scalar leaf → IsLeafOf scalar own → own.offset ≡ offset + leaf.offset → IsSameLeaf leaf own offset
+same_leaf scalar leaf own offset a b there = record { alone = a.alone; class = b.class ∙ sym a.class; signed = b.signed ∙ sym a.signed; there = there }
+
 pub structures_have_leaves : StructuresHaveLeaves
 structures_have_leaves flow outer base index offset view laid object found stands = record { leaves = own_leaf; only = struct_leaf }
   where
@@ -74,8 +83,7 @@ structures_have_leaves flow outer base index offset view laid object found stand
     own_leaf : (number : ℕ) (leaf : Leaf) → slice_get (leaves_of (structs_of flow) flow.model.pointer (Struct index)) number ≡ Some leaf → HasOwnLeaf flow index view base offset leaf
     own_leaf number leaf e =
         let s = leaves_are_scalars flow.model (structs_of flow) laid (Struct index) refl (short (some_size flow.model (structs_of flow) laid outer index offset there stands object.small number leaf e)) number leaf e in
-        let first : scalar_byte (structs_of flow) flow.model.pointer (Struct index) leaf.offset ≡ Some (record { ctype = s.scalar; at = 0 }) =
-        (let z : leaf.offset + 0 ≡ leaf.offset = omega arith in ap (scalar_byte (structs_of flow) flow.model.pointer (Struct index)) (sym z) ∙ s.bytes 0 (some_bytes flow.model leaf.class)) in
+        let first = first_scalar flow.model (structs_of flow) (Struct index) leaf s in
         let inside = is_inside flow.model (structs_of flow) laid outer index offset there stands object.small leaf.offset (record { ctype = s.scalar; at = 0 }) first in
         let r = scalars_are_leaves flow.model (structs_of flow) laid outer object.kinds object.small (offset + leaf.offset) 0 s.scalar (stands.scalars leaf.offset inside ∙ first) in
         let own = r.2 in
@@ -85,7 +93,7 @@ structures_have_leaves flow outer base index offset view laid object found stand
           number = own.number;
           own = own.leaf;
           among = ap (λ cells. slice_get cells own.number) object.leaves ∙ own.among;
-          same = record { alone = s.is.alone; class = own.is.class ∙ sym s.is.class; signed = own.is.signed ∙ sym s.is.signed; there = omega (arith, sum, begins) };
+          same = same_leaf s.scalar leaf own.leaf offset s.is own.is (omega (arith, sum, begins));
         }
 
     struct_leaf : (number x k : ℕ) (own : Leaf) → slice_get base.shape.cells number ≡ Some own → offset ≤ x → x < offset + view.size → OwnedByLeaf flow.model own x k → HasStructLeaf flow index view base offset own
@@ -97,10 +105,8 @@ structures_have_leaves flow outer base index offset view laid object found stand
         let begins : owned.start ≡ own.offset + own.stride * 0 = owned.place.there ∙ ap (λ t. own.offset + own.stride * t) turn in
         let sum = owned.there in
         let at : own.offset + k ≡ x = omega (arith, begins, sum) in
-        let inner : offset + (x - offset) ≡ x = omega (arith, from) in
         let inside : x - offset < (struct_at (structs_of flow) index).size = omega (arith, from, to, size) in
-        let byte : scalar_byte (structs_of flow) flow.model.pointer (Struct index) (x - offset) ≡ Some (record { ctype = s.scalar; at = k }) =
-        sym (stands.scalars (x - offset) inside) ∙ (ap (scalar_byte (structs_of flow) flow.model.pointer outer) (inner ∙ sym at) ∙ s.bytes k owned.small) in
+        let byte = inner_byte flow.model (structs_of flow) laid outer index offset there stands object.small x (own.offset + k) (record { ctype = s.scalar; at = k }) at from inside (s.bytes k owned.small) in
         let r = scalars_are_leaves flow.model (structs_of flow) laid (Struct index) refl (short (omega (arith, inside))) (x - offset) k s.scalar byte in
         let has = r.2 in
         let rest : r.0 + k ≡ x - offset = r.1 in
@@ -109,5 +115,5 @@ structures_have_leaves flow outer base index offset view laid object found stand
           number = has.number;
           leaf = has.leaf;
           among = has.among;
-          same = record { alone = has.is.alone; class = s.is.class ∙ sym has.is.class; signed = s.is.signed ∙ sym has.is.signed; there = omega (arith, at, rest, first, from) };
+          same = same_leaf s.scalar has.leaf own offset has.is s.is (omega (arith, at, rest, first, from));
         }
