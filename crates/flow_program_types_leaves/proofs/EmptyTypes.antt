@@ -4,7 +4,6 @@ use Rattle.std.proofs.lemmas.Bool.{and_parts, eqb-true, leb-false}
 use Rattle.c_layout.specs.declared.data_model.Model.{Model}
 use Rattle.c_layout.specs.declared.leaf_lists.Class.TheVariants as class
 use Rattle.c_layout.specs.declared.leaf_lists.Leaf.{Leaf}
-use Rattle.c_layout.specs.declared.leaf_lists.Places.{Places}
 use Rattle.c_layout.specs.Layout.{size_of_type}
 use Rattle.c_layout.specs.Leaves.{class_of, is_short, short_count, behind_short, long_count, behind_long, full_count, behind_all, repeated, of_fields, plain_unit, plain_leaves, folded_unit, folded_leaves, leaves_of}
 use Rattle.c_layout.specs.StructViews.{FieldView, StructView, struct_at}
@@ -84,18 +83,18 @@ module _ (m : Model) (structs : List StructView) (laid : AreLaidOut m structs) w
 
   -- ---- where no array is folded
 
-  no_plain_unit : (places : Places) (list : Ty → ℕ → List Leaf) → AreNone list → (t : Ty) → has_class_bytes m t ≡ true → size (behind_all t) ≡ 0 → (at : ℕ) → plain_unit structs places list (behind_all t) at ≡ []
-  no_plain_unit places list none (Int k) kind empty at = absurd (some_int k kind empty)
-  no_plain_unit places list none (Pointer t) kind empty at = absurd (some_pointer empty)
-  no_plain_unit places list none (Array t n) kind empty at = no_plain_unit places list none t kind empty at
-  no_plain_unit places list none (Struct i) kind empty at = no_struct_leaves list none i empty at
-  no_plain_unit places list none Void kind empty at = refl
+  no_plain_unit : (stride count : ℕ) (list : Ty → ℕ → List Leaf) → AreNone list → (t : Ty) → has_class_bytes m t ≡ true → size (behind_all t) ≡ 0 → (at : ℕ) → plain_unit structs (record { stride = stride; count = count }) list (behind_all t) at ≡ []
+  no_plain_unit stride count list none (Int k) kind empty at = absurd (some_int k kind empty)
+  no_plain_unit stride count list none (Pointer t) kind empty at = absurd (some_pointer empty)
+  no_plain_unit stride count list none (Array t n) kind empty at = no_plain_unit stride count list none t kind empty at
+  no_plain_unit stride count list none (Struct i) kind empty at = no_struct_leaves list none i empty at
+  no_plain_unit stride count list none Void kind empty at = refl
 
-  no_plain : (places : Places) (depth : ℕ) → AreNone (plain_leaves depth structs m.pointer places)
-  no_plain places zero t kind empty at = refl
-  no_plain places (suc depth) t kind empty at =
-      elements_none (plain_unit structs places (plain_leaves depth structs m.pointer places) (behind_all t)) (full_count t) (size (behind_all t)) (size t) at (full_size structs m.pointer t) empty
-      (no_plain_unit places (plain_leaves depth structs m.pointer places) (no_plain places depth) t kind)
+  no_plain : (stride count : ℕ) (depth : ℕ) → AreNone (plain_leaves depth structs m.pointer (record { stride = stride; count = count }))
+  no_plain stride count zero t kind empty at = refl
+  no_plain stride count (suc depth) t kind empty at =
+      elements_none (plain_unit structs (record { stride = stride; count = count }) (plain_leaves depth structs m.pointer (record { stride = stride; count = count })) (behind_all t)) (full_count t) (size (behind_all t)) (size t) at (full_size structs m.pointer t) empty
+      (no_plain_unit stride count (plain_leaves depth structs m.pointer (record { stride = stride; count = count })) (no_plain stride count depth) t kind)
 
   -- ---- where long arrays are folded
 
@@ -114,7 +113,7 @@ module _ (m : Model) (structs : List StructView) (laid : AreLaidOut m structs) w
   no_long depth list t n kind long empty at =
       let many = leb-false n 64 long in
       let inner : size t ≡ 0 = some_product n (size t) (omega (arith, many)) empty in
-      no_plain (record { stride = size (behind_long t); count = n * long_count t }) depth (behind_long t) (long_kind t kind) (some_product (long_count t) (size (behind_long t)) (some_long t) (sym (long_size structs m.pointer t) ∙ inner)) at
+      no_plain (size (behind_long t)) (n * long_count t) depth (behind_long t) (long_kind t kind) (some_product (long_count t) (size (behind_long t)) (some_long t) (sym (long_size structs m.pointer t) ∙ inner)) at
 
   no_unit : (depth : ℕ) (list : Ty → ℕ → List Leaf) → AreNone list → (t : Ty) → has_class_bytes m t ≡ true → size (behind_short t) ≡ 0 → (at : ℕ) → folded_unit depth structs m.pointer list (behind_short t) at ≡ []
   no_unit depth list none (Int k) kind empty at = absurd (some_int k kind empty)
