@@ -222,7 +222,7 @@ module _ {I : Type 0} {l : LatticeOf I} {n : IntegersOf I} {stands : I → ℤ �
           places_are = subst (λ z. AreOneOrApart flow index (into a.i a.offset a.lo a.hi) z) b.is (subst (λ z. AreOneOrApart flow index z m) a.is places)
 
           apart : (z : ℕ) → b.from.base ≡ a.from.base → a.offset ≤ z → z < a.offset + view.size → b.offset ≤ z → z < b.offset + view.size → a.offset ≡ b.offset
-          apart z same f g h k = places_are z view in_view (same_Some a.i b.i (sym a.from.names ∙ (ap s.bases (sym same) ∙ b.from.names))) f g h k
+          apart z same f g h k = places_are z view in_view (same_Some a.i b.i (sym a.from.names ∙ (ap s.bases (sym same) ∙ b.from.names))) a.above a.fits b.above b.fits f g h k
 
           single : (c : ℕ) (info : BaseInfo) → slice_get flow.bases.items c ≡ Some info → (j : ℕ) (leaf : Leaf) → slice_get info.shape.cells j ≡ Some leaf → leaf.count ≡ 1
           single c info at j leaf e = plain.apart c j info leaf at e
@@ -240,7 +240,7 @@ module _ {I : Type 0} {l : LatticeOf I} {n : IntegersOf I} {stands : I → ℤ �
           parts = parts_there flow index view listed b.info b.offset at_from (objects b.from.base b.info b.there) (single b.from.base b.info b.there) s.world.memory b.i (tagged b.from.base b.i b.info b.there b.from.names) (λ z w e. r.stands_for.sane.bytes b.i z w e)
 
           may : may_copy flow.model leaves view.size s.world to_spot from_spot ≡ true
-          may = and_from _ _ to_fits (and_from _ _ from_fits (and_from _ _ (apart_there to_spot from_spot view.size (λ z same f g h k. places_are z view in_view same f g h k)) parts))
+          may = and_from _ _ to_fits (and_from _ _ from_fits (and_from _ _ (apart_there to_spot from_spot view.size (λ z same f g h k. places_are z view in_view same a.above a.fits b.above b.fits f g h k)) parts))
 
           abbrev u : World
           u = copy_made flow.model leaves view.size s.world to_spot from_spot

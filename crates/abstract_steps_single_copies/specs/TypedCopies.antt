@@ -46,11 +46,11 @@ PointsToStruct flow entered index (into i offset lo hi) = (b : ℕ) (base : Base
 abbrev pub HasStructType : Flow → Standing → ℕ → ℕ → Type 0
 HasStructType flow s temp index = (p : MachinePointer) → s.temps temp ≡ Some (pointer p) → PointsToStruct flow s.bases index p
 
--- two places of a struct type in one instance are one place, or share no byte (6.5.16.1)
+-- two places of a struct type in one instance, each within its bounds, are one place, or share no byte (6.5.16.1)
 abbrev pub AreOneOrApart : Flow → ℕ → MachinePointer → MachinePointer → Type 0
 AreOneOrApart flow index null q = Unit {0}
 AreOneOrApart flow index (into i offset lo hi) null = Unit {0}
-AreOneOrApart flow index (into i offset lo hi) (into j at below above) = (x : ℕ) (view : StructView) → slice_get (structs_view flow.structs) index ≡ Some view → i ≡ j → offset ≤ x → x < offset + view.size → at ≤ x → x < at + view.size → offset ≡ at
+AreOneOrApart flow index (into i offset lo hi) (into j at below above) = (x : ℕ) (view : StructView) → slice_get (structs_view flow.structs) index ≡ Some view → i ≡ j → lo ≤ offset → offset + view.size ≤ hi → below ≤ at → at + view.size ≤ above → offset ≤ x → x < offset + view.size → at ≤ x → x < at + view.size → offset ≡ at
 
 abbrev pub HasPlaces : Flow → Standing → ℕ → ℕ → ℕ → Type 0
 HasPlaces flow s to from index = (p q : MachinePointer) → s.temps to ≡ Some (pointer p) → s.temps from ≡ Some (pointer q) → AreOneOrApart flow index p q

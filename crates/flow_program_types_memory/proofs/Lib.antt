@@ -1,0 +1,9 @@
+pub mod TypedBytes
+pub mod PointedPlaces
+pub mod Pointers
+pub mod Loads
+pub mod Stores
+pub mod Copies
+pub mod Objects
+pub mod Tests
+pub mod Starts

@@ -1,0 +1,9 @@
+pub mod TypeLaws
+pub mod KnownValues
+pub mod TypedStates
+pub mod PlainCalls
+pub mod TypedInstructions
+pub mod TypedEdges
+pub mod TypedRuns
+pub mod TypedAccesses
+pub mod TypedPrograms
