@@ -7,3 +7,4 @@ pub mod TypedEdges
 pub mod TypedRuns
 pub mod TypedAccesses
 pub mod TypedPrograms
+pub mod AllLaws
