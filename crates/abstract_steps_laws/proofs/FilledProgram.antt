@@ -30,10 +30,10 @@ use Rattle.value_domain.specs.declared.row_cells.Cell.TheVariants.{Value}
 use Rattle.value_domain.specs.ValueTables.{number_value, pointer_value, truth_value}
 use Rattle.store_domain.specs.RowPositions.{value_at, put_value}
 use Rattle.abstract_steps_checks.specs.Temporaries.{temp_position, put_temp}
-use Rattle.abstract_steps_values.specs.ResultTemps.{put_number, put_truth, put_pointer}
-use Rattle.abstract_steps_values.specs.Scalars.{class_of}
-use Rattle.abstract_steps_values.specs.IntegerSteps.{constant_step, binary_step, unary_step, compare_step, not_step, put_converted, convert_value, convert_step}
-use Rattle.abstract_steps_values.specs.PointerSteps.{is_short, address_in, address_step, narrow_touched, narrow_step, put_moved, shift_by, shift_step, difference_step, relation_step}
+use Rattle.abstract_steps_system.specs.ResultTemps.{put_number, put_truth, put_pointer}
+use Rattle.abstract_steps_system.specs.Scalars.{class_of}
+use Rattle.abstract_steps_system.specs.IntegerSteps.{constant_step, binary_step, unary_step, compare_step, not_step, put_converted, convert_value, convert_step}
+use Rattle.abstract_steps_system.specs.PointerSteps.{is_short, address_in, address_step, narrow_touched, narrow_step, put_moved, shift_by, shift_step, difference_step, relation_step}
 use Rattle.abstract_steps_system.specs.MemorySteps.{put_read, put_loaded, load_step, move_temp, moved_behind, store_to, store_step, kept_target, copy_between, copy_step}
 use Rattle.abstract_steps_system.specs.CallSteps.{line_goes_on}
 use Rattle.abstract_steps_system.specs.Steps.{operate}

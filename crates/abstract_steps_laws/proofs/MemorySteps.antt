@@ -29,7 +29,7 @@ use Rattle.abstract_steps_checks.specs.declared.touches.Touched.{Touched}
 use Rattle.abstract_steps_checks.specs.ViolationSets.{violations_union}
 use Rattle.abstract_steps_checks.specs.Touches.{touch}
 use Rattle.abstract_steps_checks.specs.Temporaries.{temp_value}
-use Rattle.abstract_steps_values.specs.Scalars.{class_of, minds_blank}
+use Rattle.abstract_steps_system.specs.Scalars.{class_of, minds_blank}
 use Rattle.abstract_steps_system.specs.MemorySteps.{struct_size, touch_scalar, loaded, is_blank, is_freed, blank_or_freed, read_violations, load_violations, put_read, put_loaded, load_step, move_temp, moved_behind, store_to, store_step, touch_struct, both_touched, copy_violations, copy_touched, kept_target, copy_between, copy_step}
 use Rattle.abstract_steps_laws_values.specs.RisingRows.{LeftRise, PointersRise, ValuesRise}
 use Rattle.abstract_steps_laws_values.specs.LaidOut.{IsLaidOut}

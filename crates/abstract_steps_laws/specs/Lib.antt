@@ -8,3 +8,4 @@ pub use Rattle.abstract_steps_system.specs.BlockPasses
 pub use Rattle.abstract_steps_system.specs.FlowMachines
 pub use Rattle.abstract_steps_system.specs.MemorySteps
 pub use Rattle.abstract_steps_system.specs.Steps
+pub use Rattle.abstract_steps_system.specs.StartRows

@@ -10,3 +10,4 @@ pub use Rattle.abstract_steps_laws.specs.BlockPasses
 pub use Rattle.abstract_steps_laws.specs.FlowMachines
 pub use Rattle.abstract_steps_laws.specs.CallSteps
 pub use Rattle.abstract_steps_laws.specs.MemorySteps
+pub use Rattle.abstract_steps_laws.specs.StartRows

@@ -7,3 +7,7 @@ pub mod IntervalSystems
 pub mod ShortLists
 pub use Rattle.abstract_steps_laws_own.proofs.Starts
 pub use Rattle.abstract_steps_laws.proofs.Systems
+pub use Rattle.abstract_steps_laws.proofs.FilledSteps
+pub use Rattle.abstract_steps_laws.proofs.FittedOrder
+pub use Rattle.abstract_steps_laws.proofs.MemorySteps
+pub use Rattle.abstract_steps_laws.proofs.Operations

@@ -20,7 +20,7 @@ use Rattle.store_domain_laws.specs.TopRows.{top_base, top_bases, top_row}
 use Rattle.store_domain_laws.specs.ConsistentRows.{IsConsistentCell, AreConsistent}
 use Rattle.store_domain_laws.proofs.Consistent.{even_bare}
 use Rattle.abstract_steps.specs.StartRows.{empty_row}
-use Rattle.abstract_steps_laws.specs.FilledRows.{IsFilled, AreFilled}
+use Rattle.abstract_steps_laws_own_rows.specs.FilledRows.{IsFilled, AreFilled}
 use Rattle.abstract_steps_laws_own_starts.proofs.EmptyRows.{least_base, least_bases, least_row, empty_is}
 
 -- a row below another one, of consistent pointer parts and something in each cell

@@ -28,11 +28,11 @@ use Rattle.abstract_steps_rows.specs.FittedRows.{row_fit}
 use Rattle.abstract_steps_rows.specs.OwnRows.{program_bases, reach_of, is_own_row}
 use Rattle.abstract_steps_rows.specs.OwnLaws.{fit_own}
 use Rattle.abstract_steps_rows.specs.declared.own_cells.Reach.{Reach}
-use Rattle.abstract_steps_laws.specs.FlowMachines.{has_start, known_start, start_of}
+use Rattle.abstract_steps_laws_own_rows.specs.FlowMachines.{has_start, known_start, start_of}
 use Rattle.abstract_steps_laws_values.specs.LaidOut.{IsLaidOut}
 use Rattle.abstract_steps_laws_values.proofs.TempPlaces.{row_length}
-use Rattle.abstract_steps_laws.specs.SystemLaws.{IsNearList}
-use Rattle.abstract_steps_laws.proofs.FittedOrder.{row_top}
+use Rattle.abstract_steps_laws_own_rows.specs.SystemLaws.{IsNearList}
+use Rattle.abstract_steps_laws_own_rows.proofs.FittedOrder.{row_top}
 use Rattle.abstract_steps_laws_programs.specs.ProgramRows.{IsProgramRow, AreCut}
 use Rattle.abstract_steps_laws_programs.proofs.ProgramRows.{fit_kept}
 use Rattle.abstract_steps_laws_programs.proofs.WellFormed.{well_made, laid_out}

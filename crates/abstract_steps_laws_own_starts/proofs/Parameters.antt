@@ -38,8 +38,8 @@ use Rattle.abstract_steps_laws_values.specs.RisingRows.{ValuesRise}
 use Rattle.abstract_steps_laws_values.proofs.IntegerSteps.{near_ends}
 use Rattle.abstract_steps_laws_values.proofs.RisingCells.{put_rises}
 use Rattle.abstract_steps_laws_values.proofs.Touches.{range_near}
-use Rattle.abstract_steps_laws.proofs.FilledSteps.{fill_set}
-use Rattle.abstract_steps_laws.proofs.MemorySteps.{row_near}
+use Rattle.abstract_steps_laws_own_rows.proofs.FilledSteps.{fill_set}
+use Rattle.abstract_steps_laws_own_rows.proofs.MemorySteps.{row_near}
 use Rattle.abstract_steps_laws_own_starts.proofs.StaticValues.{flag_true}
 use Rattle.abstract_steps_laws_own_starts.proofs.StartSteps.{IsKept, IsLeftKept}
 

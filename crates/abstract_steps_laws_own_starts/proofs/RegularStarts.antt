@@ -14,7 +14,7 @@ use Rattle.interval_domain_laws.specs.Operations.{interval_monotone}
 use Rattle.value_domain.specs.Cells.{cell_lattice}
 use Rattle.value_domain.specs.declared.row_cells.Cell.{Cell}
 use Rattle.abstract_steps_rows.specs.IntervalEnds.{interval_ends}
-use Rattle.abstract_steps_laws.specs.FlowMachines.{has_start, known_start, flow_machine}
+use Rattle.abstract_steps_laws_own_rows.specs.FlowMachines.{has_start, known_start, flow_machine}
 use Rattle.abstract_steps_laws_programs.specs.RegularPrograms.{is_regular}
 use Rattle.abstract_steps_laws_programs.proofs.RegularPrograms.{Regular, regular_of}
 use Rattle.abstract_steps_laws_programs.proofs.WellFormed.{well_made}

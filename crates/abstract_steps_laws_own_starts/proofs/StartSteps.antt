@@ -41,10 +41,10 @@ use Rattle.abstract_steps_laws_values.proofs.OwnBases.{words_less}
 use Rattle.abstract_steps_laws_values.proofs.PointerSteps.{extents}
 use Rattle.abstract_steps_laws_values.proofs.RisingCells.{own_bases}
 use Rattle.abstract_steps_laws_values.proofs.Results.{value_small}
-use Rattle.abstract_steps_laws.specs.FilledRows.{AreFilled, IsLeftFilled}
-use Rattle.abstract_steps_laws.proofs.FilledSteps.{store_fills, clear_fills, spell_fills}
-use Rattle.abstract_steps_laws.proofs.MemorySteps.{left_of, row_near}
-use Rattle.abstract_steps_laws.proofs.Operations.{spell_rises}
+use Rattle.abstract_steps_laws_own_rows.specs.FilledRows.{AreFilled, IsLeftFilled}
+use Rattle.abstract_steps_laws_own_rows.proofs.FilledSteps.{store_fills, clear_fills, spell_fills}
+use Rattle.abstract_steps_laws_own_rows.proofs.MemorySteps.{left_of, row_near}
+use Rattle.abstract_steps_laws_own_rows.proofs.Operations.{spell_rises}
 use Rattle.abstract_steps_laws_programs.specs.RegularPrograms.{is_byte}
 use Rattle.abstract_steps_laws_programs.specs.RegularPrograms.{spells_bytes, begins_with_bytes}
 use Rattle.abstract_steps_laws_own_starts.proofs.StaticValues.{static_own}

@@ -8,7 +8,7 @@ use Rattle.interval_domain.specs.IntervalNumbers.{interval_numbers}
 use Rattle.value_domain.specs.declared.row_cells.Cell.TheVariants.{Nothing}
 use Rattle.abstract_steps.specs.StartRows.{start_row}
 use Rattle.abstract_steps_rows.specs.OwnRows.{is_own_row}
-use Rattle.abstract_steps_laws.specs.FlowMachines.{has_start, known_start}
+use Rattle.abstract_steps_laws_own_rows.specs.FlowMachines.{has_start, known_start}
 use Rattle.abstract_steps_laws_programs.specs.RegularPrograms.{has_scalars, has_apart_members, is_near_list, is_regular}
 
 -- -2^63, 0 and 2^64

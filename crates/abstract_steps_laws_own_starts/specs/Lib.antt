@@ -3,4 +3,4 @@ pub mod UnfittedSystems
 pub mod CutStarts
 pub use Rattle.abstract_steps_laws_own_rows.specs.OwnLists
 pub use Rattle.abstract_steps_laws_programs.specs.RegularPrograms
-pub use Rattle.abstract_steps_laws.specs.FlowMachines
+pub use Rattle.abstract_steps_laws_own_rows.specs.FlowMachines

@@ -7,7 +7,7 @@ use Rattle.value_domain.specs.declared.row_cells.Cell.{Cell}
 use Rattle.value_domain.specs.declared.row_cells.Cell.TheVariants.{Nothing}
 use Rattle.abstract_steps.specs.StartRows.{start_row}
 use Rattle.abstract_steps_rows.specs.OwnRows.{is_own_row}
-use Rattle.abstract_steps_laws.specs.FlowMachines.{has_start, start_of}
+use Rattle.abstract_steps_laws_own_rows.specs.FlowMachines.{has_start, start_of}
 
 module _ {I : Type 0} (l : LatticeOf I) (n : IntegersOf I) (flow : Flow) (list : List ℤ) where
   -- in whatever row of the program's width it is made

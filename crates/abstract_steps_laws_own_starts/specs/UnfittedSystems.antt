@@ -7,7 +7,7 @@ use Rattle.flow_program.specs.declared.programs.Flow.{Flow}
 use Rattle.value_domain.specs.declared.row_cells.Cell.{Cell}
 use Rattle.value_domain.specs.declared.row_cells.Cell.TheVariants.{Nothing}
 use Rattle.abstract_steps.specs.StartRows.{start_row}
-use Rattle.abstract_steps_laws.specs.FlowMachines.{known_start}
+use Rattle.abstract_steps_laws_own_rows.specs.FlowMachines.{known_start}
 use Rattle.abstract_steps_laws_own_rows.specs.PlainSystems.{plain_machine}
 
 module _ {I : Type 0} where

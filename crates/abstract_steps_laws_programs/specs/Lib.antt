@@ -3,3 +3,4 @@ pub mod NearNumbers
 pub mod CopiedStructs
 pub mod RegularPrograms
 pub mod ProgramRows
+pub use Rattle.abstract_steps_laws_structs.specs.StartRows

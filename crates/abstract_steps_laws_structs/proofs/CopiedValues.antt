@@ -22,9 +22,9 @@ use Rattle.store_domain_laws.specs.TopCells.{top_value}
 use Rattle.store_domain_laws.proofs.CellReads.{read_monotone, read_top, stored_in_monotone, stored_in_top, byte_monotone, whole_monotone, whole_top, written_monotone, written_top}
 use Rattle.store_domain_laws.proofs.Consistent.{IsEven, even_join, even_bare}
 use Rattle.store_domain_laws.proofs.OwnValues.{blank_top}
-use Rattle.store_domain_structs.specs.LeafCopies.{with_flag}
-use Rattle.abstract_steps_laws_values.specs.RisingRows.{ValuesRise}
-use Rattle.abstract_steps_laws_values.proofs.OwnBases.{words_less}
+use Rattle.store_domain_laws_structs.specs.LeafCopies.{with_flag}
+use Rattle.abstract_steps_laws_writes.specs.RisingRows.{ValuesRise}
+use Rattle.abstract_steps_laws_writes.proofs.OwnBases.{words_less}
 
 module _ {I : Type 0} (l : LatticeOf I) (n : IntegersOf I) (all : Bases) where
   -- what is read, the smaller below the larger

@@ -24,8 +24,8 @@ use Rattle.store_domain_laws.proofs.CellSteps.{put_pair, put_above}
 use Rattle.store_domain_laws.proofs.FirstZeros.{zero_at_monotone, zero_at_top, first_below_at}
 use Rattle.store_domain_laws.proofs.PairedSteps.{Step, walk_step, numbers_below}
 use Rattle.store_domain_laws.proofs.ZeroTargets.{TargetBelow, target_monotone}
-use Rattle.store_domain_structs.specs.CopyZeros.{Exact, is_array_at, array_at, source_offset, source_part, lies_inside, zero_from, zero_exact, zero_copied, copy_part_at, copy_part, copy_zeros}
-use Rattle.abstract_steps_laws_values.specs.RisingRows.{RowsRise}
+use Rattle.store_domain_laws_structs.specs.CopyZeros.{Exact, is_array_at, array_at, source_offset, source_part, lies_inside, zero_from, zero_exact, zero_copied, copy_part_at, copy_part, copy_zeros}
+use Rattle.abstract_steps_laws_writes.specs.RisingRows.{RowsRise}
 use Rattle.abstract_steps_laws_writes.proofs.WrittenCells.{zero_rises}
 
 -- an array that is found is one of the parts

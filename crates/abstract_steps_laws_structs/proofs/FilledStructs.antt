@@ -20,11 +20,11 @@ use Rattle.store_domain.specs.NearValues.{near_value}
 use Rattle.store_domain.specs.RowPositions.{capped}
 use Rattle.store_domain.specs.Walks.{turns}
 use Rattle.store_domain_structs_leaves.specs.declared.leaf_copies.LeafAccess.{LeafAccess}
-use Rattle.store_domain_structs.specs.CopyZeros.{Exact, copied_window, copy_part_at, copy_part, copy_zeros}
-use Rattle.store_domain_structs.specs.LeafCopies.{any_place, write_leaf_at, write_own_leaf, write_class_cell, write_leaves, write_own, write_other_at, write_other_leaf, write_class_byte, write_class_bytes, write_bytes, write_other_leaves, write_others, write_base, write_base_if, write_to, write_all, write_leaf}
-use Rattle.store_domain_structs.specs.LeafNumbers.{struct_leaf}
-use Rattle.store_domain_structs.specs.PaddingWrites.{Padded, has_padding, pad_leaf_at, pad_leaf, pad_leaves, pad_class, pad_classes, pad_part_at, pad_part, pad_zeros, pad_cells, write_padding}
-use Rattle.store_domain_structs.specs.StructCopies.{Route, route_for, leaf_access, exact_copy, most_at_once, batch_first, batch_count, padded_of, write_target, copy_written, copy_read, read_source, copy_step, copy_leaves, copy_batch, copy_all, finish_base, finish_if, finish_at, finish_all, finish, finish_reached, copy_route, copy_between, copy_found, copy_struct}
+use Rattle.store_domain_laws_structs.specs.CopyZeros.{Exact, copied_window, copy_part_at, copy_part, copy_zeros}
+use Rattle.store_domain_laws_structs.specs.LeafCopies.{any_place, write_leaf_at, write_own_leaf, write_class_cell, write_leaves, write_own, write_other_at, write_other_leaf, write_class_byte, write_class_bytes, write_bytes, write_other_leaves, write_others, write_base, write_base_if, write_to, write_all, write_leaf}
+use Rattle.store_domain_laws_structs.specs.LeafNumbers.{struct_leaf}
+use Rattle.store_domain_laws_structs.specs.PaddingWrites.{Padded, has_padding, pad_leaf_at, pad_leaf, pad_leaves, pad_class, pad_classes, pad_part_at, pad_part, pad_zeros, pad_cells, write_padding}
+use Rattle.store_domain_laws_structs.specs.StructCopies.{Route, route_for, leaf_access, exact_copy, most_at_once, batch_first, batch_count, padded_of, write_target, copy_written, copy_read, read_source, copy_step, copy_leaves, copy_batch, copy_all, finish_base, finish_if, finish_at, finish_all, finish, finish_reached, copy_route, copy_between, copy_found, copy_struct}
 use Rattle.abstract_steps_laws_writes.specs.MemorySteps.{copy_touched}
 use Rattle.abstract_steps_laws_writes.specs.FilledRows.{AreFilled, IsLeftFilled, Fills, LeavesFilled}
 use Rattle.abstract_steps_laws_writes.proofs.FilledSteps.{fill_set, fill_if, fill_walk, fill_turns, fill_join, fill_write}

@@ -27,11 +27,11 @@ use Rattle.store_domain_laws.proofs.PairedSteps.{walk_pair, turns_pair, cond_pai
 use Rattle.store_domain_laws.proofs.Together.{both_each}
 use Rattle.store_domain_structs_leaves.specs.declared.copy_places.Span.{Span}
 use Rattle.store_domain_structs_leaves.specs.declared.leaf_copies.LeafAccess.{LeafAccess}
-use Rattle.store_domain_structs.specs.CopyPlaces.{is_reached, is_touched, span_has_stray}
-use Rattle.store_domain_structs.specs.LeafCopies.{span_meets_padding, reaches_class, own_leaf, read_own_leaf, read_class_cell, read_own, other_leaf, read_other_leaf, read_class_byte, read_class_bytes, read_padding, read_bytes, read_others, read_base, read_base_if, read_from, read_leaf}
+use Rattle.store_domain_laws_structs.specs.CopyPlaces.{is_reached, is_touched, span_has_stray}
+use Rattle.store_domain_laws_structs.specs.LeafCopies.{span_meets_padding, reaches_class, own_leaf, read_own_leaf, read_class_cell, read_own, other_leaf, read_other_leaf, read_class_byte, read_class_bytes, read_padding, read_bytes, read_others, read_base, read_base_if, read_from, read_leaf}
 use Rattle.store_domain_laws_structs.specs.LargerSpans.{SpanWithin, IsMetToo, ReachesMore}
-use Rattle.abstract_steps_laws_values.specs.RisingRows.{ValuesRise, RowsRise}
-use Rattle.abstract_steps_laws_values.proofs.RisingCells.{value_rises}
+use Rattle.abstract_steps_laws_writes.specs.RisingRows.{ValuesRise, RowsRise}
+use Rattle.abstract_steps_laws_writes.proofs.RisingCells.{value_rises}
 use Rattle.abstract_steps_laws_structs.proofs.CopiedValues.{ReadsRise, joined_both, joined_above, read_rises, byte_rises, whole_rises}
 
 abbrev pub access_of : Class → Bool → Span → LeafAccess

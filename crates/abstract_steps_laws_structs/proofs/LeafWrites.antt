@@ -34,11 +34,11 @@ use Rattle.store_domain_laws.proofs.PairedSteps.{Step, walk_pair, walk_step, tur
 use Rattle.store_domain_laws.proofs.Windows.{window_is}
 use Rattle.store_domain_structs_leaves.specs.declared.copy_places.Span.{Span}
 use Rattle.store_domain_structs_leaves.specs.declared.leaf_copies.LeafAccess.{LeafAccess}
-use Rattle.store_domain_structs.specs.CopyPlaces.{span_is_one, is_reached, is_touched, reached_count}
-use Rattle.store_domain_structs.specs.LeafCopies.{reaches_class, is_touched_or, any_touched, has_own_place, has_other_place, has_place, has_place_or, any_place, is_strong, with_flag, write_leaf_at, write_own_leaf, write_class_cell, write_leaves, write_own, write_other_at, write_other_leaf, write_class_byte, write_class_bytes, write_bytes, write_other_leaves, write_others, write_base, write_base_if, write_to, write_all, write_leaf}
+use Rattle.store_domain_laws_structs.specs.CopyPlaces.{span_is_one, is_reached, is_touched, reached_count}
+use Rattle.store_domain_laws_structs.specs.LeafCopies.{reaches_class, is_touched_or, any_touched, has_own_place, has_other_place, has_place, has_place_or, any_place, is_strong, with_flag, write_leaf_at, write_own_leaf, write_class_cell, write_leaves, write_own, write_other_at, write_other_leaf, write_class_byte, write_class_bytes, write_bytes, write_other_leaves, write_others, write_base, write_base_if, write_to, write_all, write_leaf}
 use Rattle.store_domain_laws_structs.specs.LargerSpans.{SpanWithin, IsMetToo, ReachesMore}
-use Rattle.abstract_steps_laws_values.specs.RisingRows.{ValuesRise, RowsRise, LeftRise}
-use Rattle.abstract_steps_laws_values.proofs.RisingCells.{left_if}
+use Rattle.abstract_steps_laws_writes.specs.RisingRows.{ValuesRise, RowsRise, LeftRise}
+use Rattle.abstract_steps_laws_writes.proofs.RisingCells.{left_if}
 use Rattle.abstract_steps_laws_writes.proofs.WrittenCells.{join_rises, write_rises}
 use Rattle.abstract_steps_laws_structs.proofs.CopiedValues.{even_of, stored_rises, written_rises}
 use Rattle.abstract_steps_laws_structs.proofs.LeafReads.{access_of, met_leaves, class_more, class_heap}

@@ -20,5 +20,5 @@ pub use Rattle.abstract_steps_laws_writes.proofs.Releases
 pub use Rattle.abstract_steps_laws_writes.proofs.ResultCalls
 pub use Rattle.abstract_steps_laws_writes.proofs.StringResults
 pub use Rattle.abstract_steps_laws_writes.proofs.Systems
-pub use Rattle.abstract_steps_laws_values.proofs.TempPlaces
-pub use Rattle.abstract_steps_laws_values.proofs.ViolationOrder
+pub use Rattle.abstract_steps_laws_writes.proofs.TempPlaces
+pub use Rattle.abstract_steps_laws_writes.proofs.ViolationOrder

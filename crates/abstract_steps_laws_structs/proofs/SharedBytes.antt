@@ -5,8 +5,8 @@ use Rattle.c_layout.specs.Types.{Int}
 use Rattle.c_layout.specs.Models.{lp64}
 use Rattle.c_layout.specs.StructViews.{FieldView, StructView}
 use Rattle.store_domain.specs.AccessWindows.{window_between}
-use Rattle.store_domain_structs.specs.LeafNumbers.{member_at, struct_leaf}
-use Rattle.store_domain_structs.specs.PaddingWrites.{Padded, leaf_bytes, has_padding_in}
+use Rattle.store_domain_laws_structs.specs.LeafNumbers.{member_at, struct_leaf}
+use Rattle.store_domain_laws_structs.specs.PaddingWrites.{Padded, leaf_bytes, has_padding_in}
 use Rattle.store_domain_laws_structs.specs.SpreadStructs.{padded_in}
 
 abbrev character : ℕ → FieldView

@@ -39,19 +39,19 @@ use Rattle.store_domain_laws.proofs.LiveSets.{has_monotone}
 use Rattle.store_domain_laws.proofs.PairedSteps.{Step, walk_pair, turns_pair, then_step, if_step}
 use Rattle.store_domain_laws.proofs.Together.{both_each}
 use Rattle.store_domain_laws.proofs.Windows.{WindowsBelow, window_is, within_monotone}
-use Rattle.store_domain_structs.specs.CopyPlaces.{span_of_leaf}
-use Rattle.store_domain_structs.specs.CopyZeros.{Exact, copied_window, copy_zeros}
-use Rattle.store_domain_structs.specs.LeafNumbers.{struct_leaf}
-use Rattle.store_domain_structs.specs.PaddingWrites.{Padded, has_padding_in, has_padding, leaf_bytes}
-use Rattle.store_domain_structs.specs.StructCopies.{Route, route_for, is_declared_in, first_declared, one_declared, is_exact, exact_from, exact_copy, most_at_once, batch_first, batch_count, padded_of, write_target, copy_written, copy_read, read_source, copy_step, copy_leaves, copy_batch, copy_all, pad_if, finish_base, finish_if, finish_at, finish_all, finish, finish_reached, copy_route, copy_between, copy_found, copy_struct}
+use Rattle.store_domain_laws_structs.specs.CopyPlaces.{span_of_leaf}
+use Rattle.store_domain_laws_structs.specs.CopyZeros.{Exact, copied_window, copy_zeros}
+use Rattle.store_domain_laws_structs.specs.LeafNumbers.{struct_leaf}
+use Rattle.store_domain_laws_structs.specs.PaddingWrites.{Padded, has_padding_in, has_padding, leaf_bytes}
+use Rattle.store_domain_laws_structs.specs.StructCopies.{Route, route_for, is_declared_in, first_declared, one_declared, is_exact, exact_from, exact_copy, most_at_once, batch_first, batch_count, padded_of, write_target, copy_written, copy_read, read_source, copy_step, copy_leaves, copy_batch, copy_all, pad_if, finish_base, finish_if, finish_at, finish_all, finish, finish_reached, copy_route, copy_between, copy_found, copy_struct}
 use Rattle.store_domain_laws_structs.specs.LargerSpans.{SpanWithin, ReachesMore}
 use Rattle.store_domain_laws_structs.specs.SpreadStructs.{IsSpread}
 use Rattle.store_domain_laws_structs.proofs.ShapedSpans.{shaped_reaches}
 use Rattle.abstract_steps_laws_writes.specs.MemorySteps.{copy_touched}
 use Rattle.abstract_steps_laws_writes.specs.CallLaws.{CopyRises}
-use Rattle.abstract_steps_laws_values.specs.LaidOut.{IsLaidOut}
-use Rattle.abstract_steps_laws_values.specs.RisingRows.{PointersRise, ValuesRise, RowsRise, LeftRise}
-use Rattle.abstract_steps_laws_values.proofs.Touches.{placed_bases}
+use Rattle.abstract_steps_laws_writes.specs.LaidOut.{IsLaidOut}
+use Rattle.abstract_steps_laws_writes.specs.RisingRows.{PointersRise, ValuesRise, RowsRise, LeftRise}
+use Rattle.abstract_steps_laws_writes.proofs.Touches.{placed_bases}
 use Rattle.abstract_steps_laws_structs.specs.SpreadStructs.{AreSpread}
 use Rattle.abstract_steps_laws_structs.proofs.CopiedValues.{ReadsRise}
 use Rattle.abstract_steps_laws_structs.proofs.LeafReads.{leaf_rises}

@@ -29,11 +29,11 @@ use Rattle.store_domain_laws.specs.Placements.{WindowWithin, IsPlaced}
 use Rattle.store_domain_laws.specs.TopCells.{top_number, top_value}
 use Rattle.store_domain_laws.proofs.CellReads.{labels_top}
 use Rattle.store_domain_laws.proofs.PairedSteps.{Step, walk_step, turns_step, then_step, same_step, numbers_below}
-use Rattle.store_domain_structs.specs.LeafNumbers.{struct_leaf}
-use Rattle.store_domain_structs.specs.PaddingWrites.{Padded, covered_by, covered_leaf, leaf_bytes, is_padded_in, padded_met, has_padding_in, padding_meets, place_of, place_padded, meets_leaf, unknown_pointer, unknown_value, pad_leaf_at, pad_leaf, pad_leaves, pad_class, pad_classes, pad_part_at, pad_part, pad_zeros, pad_cells, write_padding}
+use Rattle.store_domain_laws_structs.specs.LeafNumbers.{struct_leaf}
+use Rattle.store_domain_laws_structs.specs.PaddingWrites.{Padded, covered_by, covered_leaf, leaf_bytes, is_padded_in, padded_met, has_padding_in, padding_meets, place_of, place_padded, meets_leaf, unknown_pointer, unknown_value, pad_leaf_at, pad_leaf, pad_leaves, pad_class, pad_classes, pad_part_at, pad_part, pad_zeros, pad_cells, write_padding}
 use Rattle.store_domain_laws_structs.proofs.Places.{any_more}
-use Rattle.abstract_steps_laws_values.specs.RisingRows.{ValuesRise, RowsRise}
-use Rattle.abstract_steps_laws_values.proofs.Results.{null_rises}
+use Rattle.abstract_steps_laws_writes.specs.RisingRows.{ValuesRise, RowsRise}
+use Rattle.abstract_steps_laws_writes.proofs.Results.{null_rises}
 use Rattle.abstract_steps_laws_writes.proofs.WrittenCells.{join_rises, zero_rises}
 use Rattle.store_domain_laws_structs.specs.SpreadStructs.{padded_in, IsSpread}
 use Rattle.abstract_steps_laws_structs.proofs.CopiedValues.{even_of, whole_rises}

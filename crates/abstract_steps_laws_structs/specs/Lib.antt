@@ -8,5 +8,6 @@ pub use Rattle.abstract_steps_laws_writes.specs.Sites
 pub use Rattle.abstract_steps_laws_writes.specs.SystemLaws
 pub use Rattle.abstract_steps_laws_writes.specs.Effects
 pub use Rattle.abstract_steps_laws_writes.specs.Planning
-pub use Rattle.abstract_steps_laws_values.specs.LaidOut
-pub use Rattle.abstract_steps_laws_values.specs.RisingRows
+pub use Rattle.abstract_steps_laws_writes.specs.LaidOut
+pub use Rattle.abstract_steps_laws_writes.specs.RisingRows
+pub use Rattle.abstract_steps_laws_writes.specs.StartRows

@@ -4,7 +4,7 @@ ghost use Rattle.cc_base.specs.IntegerLaws.{MonotoneLaws};
 ghost use Rattle.flow_program.specs.WellFormed.{is_laid_out};
 ghost use Rattle.flow_program.specs.declared.programs.Flow.{Flow};
 ghost use Rattle.pointer_domain.specs.declared.base_sets.Bases.{Bases};
-ghost use Rattle.abstract_steps_laws_values.specs.LaidOut.{IsLaidOut};
+ghost use Rattle.abstract_steps_laws_writes.specs.LaidOut.{IsLaidOut};
 ghost use Rattle.abstract_steps_laws_writes.specs.CallLaws.{CopyRises};
 ghost use Rattle.abstract_steps_laws_structs.specs.SpreadStructs.{AreSpread};
 

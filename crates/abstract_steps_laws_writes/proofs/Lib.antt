@@ -40,3 +40,9 @@ pub use Rattle.abstract_steps_laws_library.proofs.Releases
 pub use Rattle.abstract_steps_laws_library.proofs.ResultCalls
 pub use Rattle.abstract_steps_laws_library.proofs.StringResults
 pub use Rattle.abstract_steps_laws_library.proofs.Systems
+pub use Rattle.abstract_steps_laws_values.proofs.OwnBases
+pub use Rattle.abstract_steps_laws_values.proofs.Results
+pub use Rattle.abstract_steps_laws_values.proofs.RisingCells
+pub use Rattle.abstract_steps_laws_values.proofs.TempPlaces
+pub use Rattle.abstract_steps_laws_values.proofs.Touches
+pub use Rattle.abstract_steps_laws_values.proofs.ViolationOrder

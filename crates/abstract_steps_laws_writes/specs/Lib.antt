@@ -12,3 +12,6 @@ pub use Rattle.abstract_steps_laws_library.specs.SystemLaws
 pub use Rattle.abstract_steps_laws_library.specs.MemorySteps
 pub use Rattle.abstract_steps_library.specs.Effects
 pub use Rattle.abstract_steps_library.specs.Planning
+pub use Rattle.abstract_steps_laws_library.specs.StartRows
+pub use Rattle.abstract_steps_laws_values.specs.LaidOut
+pub use Rattle.abstract_steps_laws_values.specs.RisingRows

@@ -22,7 +22,7 @@ use Rattle.store_domain_sound_programs.proofs.Sizes.{same_bytes}
 use Rattle.store_domain_sound_programs.proofs.WellFormedPremises.{well_formed_good}
 use Rattle.abstract_steps_sound_copied_leaves.specs.StructLeaves.{IsPlain, IsStruct}
 use Rattle.abstract_steps_single.specs.SingleRows.{IsPlainProgram}
-use Rattle.abstract_steps_single_store.specs.TypedAccesses.{HasObjects}
+use Rattle.abstract_steps_single_lives.specs.TypedAccesses.{HasObjects}
 
 module _ (m : Model) where
   record IsWithin (room : ℕ) (leaf : Leaf) : Type 0 where

@@ -58,15 +58,15 @@ use Rattle.abstract_steps_sound_entries.proofs.EntryRows.{entry_stands}
 use Rattle.abstract_steps_sound_checked_starts.proofs.CheckedStarts.{sound_structs, unit_starts}
 use Rattle.abstract_steps_sound_entries.proofs.RegularStarts.{regular_fits}
 use Rattle.abstract_steps_single.specs.SingleRows.{IsPlainProgram, TellsState}
-use Rattle.abstract_steps_single_store.specs.TypedAccesses.{HasObjects}
+use Rattle.abstract_steps_single_lives.specs.TypedAccesses.{HasObjects}
 use Rattle.abstract_steps_single.proofs.ExactIntervals.{intervals_exact}
 use Rattle.abstract_steps_single.proofs.ValueSteps.{value_step_told}
 use Rattle.abstract_steps_single_pointers.proofs.PointerSteps.{pointer_step_told}
 use Rattle.abstract_steps_single_calls.proofs.PlainCalls.{call_told}
-use Rattle.abstract_steps_single_store.proofs.ToldLoads.{load_step_told}
-use Rattle.abstract_steps_single_store.proofs.ToldStores.{store_step_told}
-use Rattle.abstract_steps_single_store.proofs.ToldForgets.{forget_step_told}
-use Rattle.abstract_steps_single_store.proofs.ToldClears.{clear_step_told}
+use Rattle.abstract_steps_single_lives.proofs.ToldLoads.{load_step_told}
+use Rattle.abstract_steps_single_lives.proofs.ToldStores.{store_step_told}
+use Rattle.abstract_steps_single_lives.proofs.ToldForgets.{forget_step_told}
+use Rattle.abstract_steps_single_lives.proofs.ToldClears.{clear_step_told}
 use Rattle.abstract_steps_single_lives.proofs.ToldEnters.{enter_step_told}
 use Rattle.abstract_steps_single_lives.proofs.ToldLeaves.{leave_step_told}
 use Rattle.abstract_steps_single_starts.proofs.ToldSpells.{spell_step_told}

@@ -9,3 +9,4 @@ pub use Rattle.abstract_steps_single_store.proofs.ToldClears
 pub use Rattle.abstract_steps_single_store.proofs.ToldStores
 pub use Rattle.abstract_steps_sound_starts.proofs.StartedRows
 pub use Rattle.abstract_steps_sound_starts.proofs.StaticSteps
+pub use Rattle.abstract_steps_single.proofs.Violated

@@ -1,0 +1,1 @@
+pub use Rattle.abstract_steps_single_store.specs.TypedAccesses

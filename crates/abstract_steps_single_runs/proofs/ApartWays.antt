@@ -13,7 +13,7 @@ use Rattle.flow_program.specs.declared.flow_edges.Edge.{Edge}
 use Rattle.flow_program.specs.declared.flow_edges.EdgeKind.{EdgeKind}
 use Rattle.flow_program.specs.declared.flow_edges.EdgeKind.TheVariants as kind
 use Rattle.flow_program.specs.declared.programs.Flow.{Flow}
-use Rattle.abstract_steps.specs.Edges.{has_label}
+use Rattle.abstract_steps_system.specs.Edges.{has_label}
 use Rattle.lib_models_memory.specs.Scalars.{Scalar, integer, pointer, is_false}
 use Rattle.flow_lower_tasks.specs.Pieces.{way}
 use Rattle.flow_program_machine.specs.FlowEdges.{same_truth, is_number, is_among, is_taken}

@@ -18,7 +18,7 @@ use Rattle.flow_program.specs.declared.machine_instructions.Instruction.{Instruc
 use Rattle.flow_program.specs.declared.programs.Flow.{Flow}
 use Rattle.value_domain.specs.declared.row_cells.Cell.{Cell}
 use Rattle.value_domain.specs.Cells.{cell_lattice, cell_order}
-use Rattle.abstract_steps.specs.Edges.{edge}
+use Rattle.abstract_steps_system.specs.Edges.{edge}
 use Rattle.abstract_steps_checks.specs.ViolationSets.{violates}
 use Rattle.abstract_steps_instructions.specs.Steps.{operate}
 use Rattle.abstract_steps_instructions.specs.StepViolations.{operation_violations}
@@ -33,12 +33,12 @@ use Rattle.flow_program_machine.specs.FlowStates.{Standing}
 use Rattle.store_domain_meaning.specs.Coverage.{state_of}
 use Rattle.store_domain_meaning.specs.RowMeaning.{StandsFor}
 use Rattle.store_domain_meaning.specs.ValueMeaning.{Naming}
-use Rattle.abstract_steps_sound.specs.SoundSteps.{AreShort, StandsBehind}
+use Rattle.abstract_steps_sound_programs.specs.SoundSteps.{AreShort, StandsBehind}
 use Rattle.abstract_steps_sound_maps.specs.Covering.{rows_behind}
 use Rattle.abstract_steps_sound_maps.proofs.AdmittedPairs.{none_behind}
 use Rattle.abstract_steps_sound_maps.proofs.EdgeEnds.{edge_there}
-use Rattle.abstract_steps_single.specs.SingleRows.{TellsState}
-use Rattle.abstract_steps_single.specs.SingleSteps.{TellsBehind}
+use Rattle.abstract_steps_single_copies.specs.SingleRows.{TellsState}
+use Rattle.abstract_steps_single_copies.specs.SingleSteps.{TellsBehind}
 use Rattle.abstract_steps_single_runs.proofs.Tables.{put_here, put_else}
 
 get_below : {X : Type 0} (xs : List X) (k : ℕ) (x : X) → slice_get xs k ≡ Some x → k < length xs

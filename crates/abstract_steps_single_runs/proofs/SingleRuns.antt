@@ -23,7 +23,7 @@ use Rattle.flow_program.specs.declared.machine_instructions.Operation.TheVariant
 use Rattle.flow_program.specs.declared.programs.Flow.{Flow}
 use Rattle.value_domain.specs.declared.row_cells.Cell.{Cell}
 use Rattle.value_domain.specs.Cells.{cell_lattice}
-use Rattle.abstract_steps.specs.Edges.{last_of, last_instruction, edge}
+use Rattle.abstract_steps_system.specs.Edges.{last_of, last_instruction, edge}
 use Rattle.abstract_steps_checks.specs.ViolationSets.{violates}
 use Rattle.abstract_steps_instructions.specs.Steps.{operate}
 use Rattle.abstract_steps_instructions.specs.StepViolations.{operation_violations}
@@ -43,8 +43,8 @@ use Rattle.flow_program_machine.specs.FlowStarts.{first_standing, begun_by, flow
 use Rattle.store_domain_meaning.specs.Coverage.{state_of}
 use Rattle.store_domain_sound_programs.specs.Premises.{HasPremises}
 use Rattle.store_domain_sound_programs.proofs.ShapedBases.{all_at}
-use Rattle.abstract_steps_sound.specs.OperandTypes.{HasOperands}
-use Rattle.abstract_steps_sound.specs.SoundSteps.{IsReached, StandsBehind}
+use Rattle.abstract_steps_sound_programs.specs.OperandTypes.{HasOperands}
+use Rattle.abstract_steps_sound_programs.specs.SoundSteps.{IsReached, StandsBehind}
 use Rattle.abstract_steps_sound_maps.specs.SoundEnds.{IsDoneIn, StepsGoOnSoundly, EndsGoOnSoundly}
 use Rattle.abstract_steps_sound_maps.specs.Covering.{HasTypedRuns, rows_behind, Admits}
 use Rattle.abstract_steps_sound_maps.proofs.Blocks.{IsAt, is_at, block_facts, goes_or_ends, last_is, get_last}
@@ -52,10 +52,10 @@ use Rattle.abstract_steps_sound_maps.proofs.GoingOn.{go_on}
 use Rattle.abstract_steps_sound_programs.specs.StructTables.{HasStructs}
 use Rattle.abstract_steps_sound_programs.specs.OpenSteps.{SpellsOverCharacters}
 use Rattle.abstract_steps_sound_programs.specs.EdgeSteps.{TestsAreSound}
-use Rattle.abstract_steps_single.specs.SingleSteps.{IsDefined}
+use Rattle.abstract_steps_single_copies.specs.SingleSteps.{IsDefined}
 use Rattle.abstract_steps_single_copies.specs.TypedAccesses.{HasObjects}
 use Rattle.abstract_steps_single_ways.specs.WayLaws.{FitsWay, IsWay, TestsAreTold}
-use Rattle.abstract_steps_single.specs.SingleLaws.{HasRight}
+use Rattle.abstract_steps_single_copies.specs.SingleLaws.{HasRight}
 use Rattle.abstract_steps_single_runs.specs.SingleRuns.{SwitchesAreApart, IsTypedStep, HasRightOperands, IsNeverStuckAlone, IsSingleProgram, IsSingleRun, IsViolatedAlone, SingleLaws, AdmitOnlyRun, MapsAdmitOnlyRun}
 use Rattle.abstract_steps_single_runs.proofs.ApartWays.{ways_apart}
 use Rattle.abstract_steps_single_runs.proofs.BlockEdges.{edge_leads}

@@ -16,14 +16,14 @@ use Rattle.flow_program_machine.specs.FlowSteps.{begun, act_step}
 use Rattle.store_domain_meaning.specs.Coverage.{state_of}
 use Rattle.store_domain_meaning.specs.ValueMeaning.{Naming}
 use Rattle.store_domain_sound_programs.specs.Premises.{HasPremises}
-use Rattle.abstract_steps_sound.specs.OperandTypes.{HasOperands}
-use Rattle.abstract_steps_sound.specs.SoundSteps.{IsReached}
+use Rattle.abstract_steps_sound_programs.specs.OperandTypes.{HasOperands}
+use Rattle.abstract_steps_sound_programs.specs.SoundSteps.{IsReached}
 use Rattle.abstract_steps_sound_programs.specs.StructTables.{HasStructs}
 use Rattle.abstract_steps_sound_maps.specs.SoundEnds.{IsDoneIn}
 use Rattle.abstract_steps_sound_programs.specs.OpenSteps.{SpellsOverCharacters}
-use Rattle.abstract_steps_single.specs.SingleLaws.{HasRight}
-use Rattle.abstract_steps_single.specs.SingleRows.{IsPlainProgram, TellsState}
-use Rattle.abstract_steps_single.specs.SingleSteps.{IsDefined, StepIsTold}
+use Rattle.abstract_steps_single_copies.specs.SingleLaws.{HasRight}
+use Rattle.abstract_steps_single_copies.specs.SingleRows.{IsPlainProgram, TellsState}
+use Rattle.abstract_steps_single_copies.specs.SingleSteps.{IsDefined, StepIsTold}
 use Rattle.abstract_steps_single_copies.specs.TypedAccesses.{HasObjects}
 use Rattle.abstract_steps_single_ways.specs.WayLaws.{IsWay}
 use Rattle.abstract_steps_single_runs.specs.SingleRuns.{IsPlainOperation, IsTypedStep, SingleLaws}

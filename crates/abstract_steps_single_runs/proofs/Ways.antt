@@ -27,7 +27,7 @@ use Rattle.flow_program_machine.specs.FlowStates.{Standing, if_some}
 use Rattle.flow_program_machine.specs.FlowEdges.{edge_taken, edges_of, with_side, in_world, testing, matching, on_way, along}
 use Rattle.flow_program_machine.specs.FlowSteps.{block_of, on_edge, switching, act_step}
 use Rattle.abstract_steps_sound_programs.proofs.TakenEdges.{FitsLead}
-use Rattle.abstract_steps_single.proofs.Violated.{none_violated}
+use Rattle.abstract_steps_single_copies.proofs.Violated.{none_violated}
 use Rattle.abstract_steps_single_ways.specs.WayLaws.{FitsWay, IsWay}
 use Rattle.abstract_steps_single_ways.proofs.WaysTold.{lead_jump, lead_branch, lead_switch}
 

@@ -19,7 +19,7 @@ use Rattle.flow_program.specs.declared.machine_instructions.Operation.TheVariant
 use Rattle.flow_program.specs.declared.programs.Flow.{Flow}
 use Rattle.value_domain.specs.declared.row_cells.Cell.{Cell}
 use Rattle.value_domain.specs.Cells.{cell_lattice}
-use Rattle.abstract_steps.specs.Edges.{has_label}
+use Rattle.abstract_steps_system.specs.Edges.{has_label}
 use Rattle.rule_checks.specs.AdmittedRules.{instructions_of}
 use Rattle.lib_models_effects.specs.Worlds.{World, Stuck, Violation}
 use Rattle.flow_program_views.specs.ProgramViews.{flow_view}
@@ -31,14 +31,14 @@ use Rattle.abstract_steps_system.specs.BlockPasses.{edge_end}
 use Rattle.abstract_steps_system.specs.FlowMachines.{edge_at, is_head_at, start_of, through, flow_machine}
 use Rattle.store_domain_meaning.specs.Coverage.{state_of}
 use Rattle.store_domain_sound_programs.specs.Premises.{HasPremises}
-use Rattle.abstract_steps_sound.specs.SoundSteps.{StandsBehind}
+use Rattle.abstract_steps_sound_programs.specs.SoundSteps.{StandsBehind}
 use Rattle.abstract_steps_sound_programs.specs.StructTables.{HasStructs}
 use Rattle.abstract_steps_sound_programs.specs.EdgeSteps.{TestsAreSound}
 use Rattle.abstract_steps_sound_programs.specs.OpenSteps.{SpellsOverCharacters}
 use Rattle.abstract_steps_sound_maps.specs.SoundEnds.{IsDoneIn, StepsGoOnSoundly, EndsGoOnSoundly}
 use Rattle.abstract_steps_sound_maps.specs.Covering.{HasTypedRuns, Admits}
-use Rattle.abstract_steps_single.specs.SingleLaws.{HasRight, IsPlainCall, ValueStepsAreTold, PointerStepsAreTold, CallsAreTold}
-use Rattle.abstract_steps_single.specs.SingleRows.{IsPlainProgram, TellsState}
+use Rattle.abstract_steps_single_copies.specs.SingleLaws.{HasRight, IsPlainCall, ValueStepsAreTold, PointerStepsAreTold, CallsAreTold}
+use Rattle.abstract_steps_single_copies.specs.SingleRows.{IsPlainProgram, TellsState}
 use Rattle.abstract_steps_single_copies.specs.TypedAccesses.{HasObjects, IsTyped}
 use Rattle.abstract_steps_single_copies.specs.StoreLaws.{LoadsAreTold, StoresAreTold, EntersAreTold, LeavesAreTold, ForgetsAreTold, ClearsAreTold}
 use Rattle.abstract_steps_single_copies.specs.TypedCopies.{IsTypedCopy}

@@ -20,7 +20,7 @@ use Rattle.template_runs_ends.specs.UnitRuns.{IsProgramOf, Agree}
 use Rattle.template_runs_looked.specs.LookedRuns.{PassesLooks, LookedUnitsAreNeverStuck, LookedRunsAreProgramRuns}
 use Rattle.abstract_steps_single_analyses.specs.Analyses.{IsAnalysis}
 use Rattle.abstract_steps_single_analyses.specs.SingleRuns.{IsNeverStuckAlone, IsSingleProgram, IsViolatedAlone}
-use Rattle.abstract_steps_single_runs.proofs.SingleRuns.{run_of}
+use Rattle.abstract_steps_single_analyses.proofs.SingleRuns.{run_of}
 use Rattle.abstract_steps_single_switches.specs.UnitSwitches.{UnitSwitchesAreApart}
 use Rattle.abstract_steps_single_analyses.proofs.SingleAnalyses.{finds_checked_run}
 use Rattle.template_runs_ends.specs.EndedRuns.{HasStopped, UnitsWithoutLoopsEnd}

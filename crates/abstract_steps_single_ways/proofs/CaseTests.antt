@@ -33,7 +33,7 @@ use Rattle.store_domain_meaning.specs.ValueMeaning.{Naming}
 use Rattle.store_domain_meaning.specs.Coverage.{state_of}
 use Rattle.store_domain_sound.proofs.LoadSound.{instance_there}
 use Rattle.store_domain_sound_programs.specs.Premises.{HasPremises}
-use Rattle.abstract_steps_sound.specs.SoundSteps.{IsReached}
+use Rattle.abstract_steps_sound_tests.specs.SoundSteps.{IsReached}
 use Rattle.abstract_steps_sound_tests.specs.ScalarObjects.{IsScalarObject, IsCaseObject}
 use Rattle.abstract_steps_sound_tests.proofs.Relabelling.{IsRelabelling, set_relabels}
 use Rattle.abstract_steps_sound_tests.proofs.ScalarCells.{size_is}

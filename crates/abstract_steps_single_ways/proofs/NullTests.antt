@@ -48,8 +48,8 @@ use Rattle.store_domain_sound.proofs.Only.{cell_put}
 use Rattle.store_domain_sound.proofs.Slices.{get_set_other}
 use Rattle.store_domain_sound.proofs.StoreRows.{leaf_is}
 use Rattle.store_domain_sound_programs.specs.Premises.{HasPremises}
-use Rattle.abstract_steps_sound.specs.SoundSteps.{IsReached}
-use Rattle.abstract_steps_sound.proofs.NearScalars.{IsNearNumber}
+use Rattle.abstract_steps_sound_tests.specs.SoundSteps.{IsReached}
+use Rattle.abstract_steps_sound_tests.proofs.NearScalars.{IsNearNumber}
 use Rattle.abstract_steps_sound_tests.specs.ScalarObjects.{IsScalarObject, IsNullTest}
 use Rattle.abstract_steps_single.specs.SingleNumbers.{IsOne}
 use Rattle.abstract_steps_single.specs.SingleValues.{IsNowhere, TellsByLife, TellsPointer, TellsHeld}

@@ -40,8 +40,8 @@ use Rattle.store_domain_meaning.specs.ValueMeaning.{Naming}
 use Rattle.store_domain_meaning.specs.Coverage.{state_of}
 use Rattle.store_domain_sound_programs.specs.Premises.{HasPremises}
 use Rattle.store_domain_sound_programs.proofs.ShapedBases.{all_at}
-use Rattle.abstract_steps_sound.specs.SoundSteps.{IsReached, StandsBehind, IsStoodFor}
-use Rattle.abstract_steps_sound.proofs.Admitted.{none_admitted, same_admitted}
+use Rattle.abstract_steps_sound_tests.specs.SoundSteps.{IsReached, StandsBehind, IsStoodFor}
+use Rattle.abstract_steps_sound_tests.proofs.Admitted.{none_admitted, same_admitted}
 use Rattle.abstract_steps_sound_tests.proofs.Blocks.{IsBlock, block_facts}
 use Rattle.abstract_steps_sound_tests.specs.EdgeSteps.{TestIsSound, KindIsSound, TestsAreSound}
 use Rattle.abstract_steps_sound_tests.proofs.EdgeSteps.{is_near}

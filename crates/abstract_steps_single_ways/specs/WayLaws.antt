@@ -28,7 +28,7 @@ use Rattle.flow_program_machine.specs.FlowSteps.{act_step}
 use Rattle.store_domain_meaning.specs.Coverage.{state_of}
 use Rattle.store_domain_meaning.specs.ValueMeaning.{Naming}
 use Rattle.store_domain_sound_programs.specs.Premises.{HasPremises}
-use Rattle.abstract_steps_sound.specs.SoundSteps.{IsReached}
+use Rattle.abstract_steps_sound_tests.specs.SoundSteps.{IsReached}
 use Rattle.abstract_steps_sound_tests.specs.EdgeSteps.{TestsAreSound}
 use Rattle.abstract_steps_single.specs.SingleRows.{TellsState}
 use Rattle.abstract_steps_single.specs.SingleSteps.{IsDefined, TellsBehind, IsTold}

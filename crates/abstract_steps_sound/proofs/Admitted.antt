@@ -3,8 +3,8 @@ use Rattle.std.proofs.Common.{◌≡◌, true, List, [], ◌∷◌, ◌++◌, ar
 use Rattle.std.specs.List.{Contains}
 use Rattle.std.proofs.lemmas.List.Elements.{Contains-push_cases, Contains-append_cases, at_from_Contains}
 use Rattle.cc_base.specs.declared.diagnostics.Rule.{Rule}
-use Rattle.abstract_steps_checks.specs.declared.violation_sets.Violations.{Violations}
-use Rattle.abstract_steps_checks.specs.ViolationSets.{violates}
+use Rattle.abstract_steps_instructions.specs.Violations.{Violations}
+use Rattle.abstract_steps_instructions.specs.ViolationSets.{violates}
 
 abbrev pub AreAdmitted : Violations → List Rule → Type 0
 AreAdmitted v rules = (r : Rule) → Contains rules r → violates v r ≡ true

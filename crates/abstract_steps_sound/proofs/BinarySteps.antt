@@ -25,8 +25,8 @@ use Rattle.value_domain_laws.proofs.Flags.{or_left, or_right}
 use Rattle.value_domain_laws.proofs.LabelStands.{label_meaning}
 use Rattle.value_domain_laws.proofs.Numbers.{RangeHas, bounds_have}
 use Rattle.value_domain_laws.proofs.ValueStands.{value_meaning}
-use Rattle.abstract_steps_checks.specs.IntegerChecks.{has_number, divides_least, division_violations, shifts_negative, leaves_signed, overflow_violations, binary_violations}
-use Rattle.abstract_steps_checks.specs.declared.violation_sets.Violations.{Violations}
+use Rattle.abstract_steps_instructions.specs.IntegerChecks.{has_number, divides_least, division_violations, shifts_negative, leaves_signed, overflow_violations, binary_violations}
+use Rattle.abstract_steps_instructions.specs.Violations.{Violations}
 use Rattle.lib_models_memory.specs.Labels.{Labels, operated_labels}
 use Rattle.lib_models_effects.specs.IntegerEffects.{result_of, is_outside, fault_if, division_faults, shift_faults, overflow_faults, binary_faults}
 use Rattle.store_domain_sound_programs.specs.SeenLabels.{as_set}

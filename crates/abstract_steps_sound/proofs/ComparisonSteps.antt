@@ -36,12 +36,12 @@ use Rattle.value_domain.specs.declared.values.Value.{Value}
 use Rattle.value_domain_laws.specs.Meaning.{IsInto}
 use Rattle.value_domain_laws.proofs.EqualityStands.{has_some, common_base, equality_meaning}
 use Rattle.value_domain_laws.proofs.PointerStands.{compared_holds, compared_fails, difference_stands}
-use Rattle.abstract_steps_checks.specs.LiveBases.{is_single_kind, single_bases}
-use Rattle.abstract_steps_checks.specs.ScalarTypes.{kind_of}
-use Rattle.abstract_steps_checks.specs.PointerChecks.{are_alike, check_same_instance}
-use Rattle.abstract_steps_checks.specs.Temporaries.{temp_value, put_temp}
-use Rattle.abstract_steps_checks.specs.ViolationSets.{no_violations}
-use Rattle.abstract_steps_checks.specs.declared.violation_sets.Violations.{Violations}
+use Rattle.abstract_steps_instructions.specs.LiveBases.{is_single_kind, single_bases}
+use Rattle.abstract_steps_instructions.specs.ScalarTypes.{kind_of}
+use Rattle.abstract_steps_instructions.specs.PointerChecks.{are_alike, check_same_instance}
+use Rattle.abstract_steps_instructions.specs.Temporaries.{temp_value, put_temp}
+use Rattle.abstract_steps_instructions.specs.ViolationSets.{no_violations}
+use Rattle.abstract_steps_instructions.specs.Violations.{Violations}
 use Rattle.abstract_steps_instructions.specs.PointerSteps.{has_difference, difference_of, difference_between, difference_step, equality, ordered, relation, relation_step}
 use Rattle.abstract_steps_instructions.specs.ResultTemps.{negated, put_truth}
 use Rattle.abstract_steps_instructions.specs.Steps.{operate}

@@ -25,12 +25,12 @@ use Rattle.value_domain.specs.declared.row_cells.Cell.{Cell}
 use Rattle.value_domain_laws.proofs.EqualityStands.{has_some}
 use Rattle.value_domain_laws.proofs.Numbers.{RangeHas, sum_has, times_has, difference_has, bounds_have, of_range_stands}
 use Rattle.value_domain_laws.proofs.PointerStands.{shift_stands}
-use Rattle.abstract_steps_checks.specs.NearValues.{is_near, near_part, part_near, near_number}
-use Rattle.abstract_steps_checks.specs.RowPositions.{value_at}
-use Rattle.abstract_steps_checks.specs.PointerChecks.{shift_violations}
-use Rattle.abstract_steps_checks.specs.Temporaries.{temp_value, amount_value}
-use Rattle.abstract_steps_checks.specs.Touches.{leaves_bounds_at}
-use Rattle.abstract_steps_checks.specs.declared.violation_sets.Violations.{Violations}
+use Rattle.abstract_steps_instructions.specs.NearValues.{is_near, near_part, part_near, near_number}
+use Rattle.abstract_steps_instructions.specs.RowPositions.{value_at}
+use Rattle.abstract_steps_instructions.specs.PointerChecks.{shift_violations}
+use Rattle.abstract_steps_instructions.specs.Temporaries.{temp_value, amount_value}
+use Rattle.abstract_steps_instructions.specs.Touches.{leaves_bounds_at}
+use Rattle.abstract_steps_instructions.specs.Violations.{Violations}
 use Rattle.abstract_steps_instructions.specs.PointerSteps.{is_short, signed_amount, put_moved, shift_by, shift_step}
 use Rattle.abstract_steps_instructions.specs.ResultTemps.{put_pointer}
 use Rattle.abstract_steps_instructions.specs.Steps.{operate}

@@ -10,8 +10,8 @@ use Rattle.c_layout.specs.declared.shapes.BaseInfo.{BaseInfo}
 use Rattle.pointer_domain.specs.declared.pointer_sets.Pointers.{Pointers}
 use Rattle.value_domain.specs.declared.values.Value.{Value}
 use Rattle.value_domain_laws.proofs.Numbers.{met_has, bounds_have, of_range_stands}
-use Rattle.abstract_steps_checks.specs.AccessWindows.{last_offset}
-use Rattle.abstract_steps_checks.specs.NearValues.{is_near, near_number, near_pointer, near_value}
+use Rattle.abstract_steps_instructions.specs.AccessWindows.{last_offset}
+use Rattle.abstract_steps_instructions.specs.NearValues.{is_near, near_number, near_pointer, near_value}
 use Rattle.lib_models_memory.specs.Bytes.{MachinePointer, null, into}
 use Rattle.lib_models_memory.specs.Instances.{Memory, Life, live, ended, freed, bytes_at, life_at}
 use Rattle.lib_models_memory.specs.Scalars.{Scalar, integer, pointer}

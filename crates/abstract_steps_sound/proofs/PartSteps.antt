@@ -21,11 +21,11 @@ use Rattle.pointer_domain.specs.PointerTables.{part_starts, part_at, narrowed}
 use Rattle.pointer_domain.specs.declared.pointer_sets.Pointers.{Pointers}
 use Rattle.value_domain.specs.declared.row_cells.Cell.{Cell}
 use Rattle.value_domain_laws.proofs.PointerStands.{narrow_stands}
-use Rattle.abstract_steps_checks.specs.LiveBases.{most_bases, only_base, any_freed}
-use Rattle.abstract_steps_checks.specs.Temporaries.{temp_value}
-use Rattle.abstract_steps_checks.specs.Touches.{touch, touch_violations}
-use Rattle.abstract_steps_checks.specs.ViolationSets.{no_violations}
-use Rattle.abstract_steps_checks.specs.declared.violation_sets.Violations.{Violations}
+use Rattle.abstract_steps_instructions.specs.LiveBases.{most_bases, only_base, any_freed}
+use Rattle.abstract_steps_instructions.specs.Temporaries.{temp_value}
+use Rattle.abstract_steps_instructions.specs.Touches.{touch, touch_violations}
+use Rattle.abstract_steps_instructions.specs.ViolationSets.{no_violations}
+use Rattle.abstract_steps_instructions.specs.Violations.{Violations}
 use Rattle.abstract_steps_instructions.specs.PointerSteps.{is_short, address_of, address_in, address_step, narrow_touched, narrow_step}
 use Rattle.abstract_steps_instructions.specs.ResultTemps.{put_pointer}
 use Rattle.abstract_steps_instructions.specs.Steps.{operate}

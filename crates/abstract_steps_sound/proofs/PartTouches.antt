@@ -15,9 +15,9 @@ use Rattle.pointer_domain.specs.declared.pointer_sets.Pointers.{Pointers}
 use Rattle.pointer_domain.specs.BaseSets.{bases_has}
 use Rattle.pointer_domain.specs.PointerTables.{length_above}
 use Rattle.value_domain.specs.declared.row_cells.Cell.{Cell}
-use Rattle.abstract_steps_checks.specs.RowPositions.{state_at, state_position}
-use Rattle.abstract_steps_checks.specs.LiveBases.{most_bases, may_be_live, is_live_in, live_of}
-use Rattle.abstract_steps_checks.specs.Touches.{leaves_bounds_at, span_of, is_nowhere, places_within, touch_violations, touch}
+use Rattle.abstract_steps_instructions.specs.RowPositions.{state_at, state_position}
+use Rattle.abstract_steps_instructions.specs.LiveBases.{most_bases, may_be_live, is_live_in, live_of}
+use Rattle.abstract_steps_instructions.specs.Touches.{leaves_bounds_at, span_of, is_nowhere, places_within, touch_violations, touch}
 use Rattle.lib_models_memory.specs.Instances.{live, bytes_at, life_at}
 use Rattle.store_domain_sound_programs.specs.ValueMeaning.{Naming, StandsInto, StandsState}
 use Rattle.store_domain_sound_programs.specs.SoundMemory.{IsWithin}

@@ -9,8 +9,8 @@ use Rattle.pointer_domain.specs.declared.pointer_sets.Pointers.{Pointers}
 use Rattle.value_domain.specs.declared.row_cells.Cell.{Cell}
 use Rattle.value_domain.specs.ValueTables.{pointer_value}
 use Rattle.value_domain_laws.specs.Meaning.{IsInto}
-use Rattle.abstract_steps_checks.specs.declared.violation_sets.Violations.{Violations}
-use Rattle.abstract_steps_checks.specs.ViolationSets.{violates}
+use Rattle.abstract_steps_instructions.specs.Violations.{Violations}
+use Rattle.abstract_steps_instructions.specs.ViolationSets.{violates}
 use Rattle.abstract_steps_instructions.specs.ResultTemps.{put_pointer}
 use Rattle.lib_models_memory.specs.Bytes.{MachinePointer}
 use Rattle.lib_models_memory.specs.Instances.{Memory, Life, live, ended, freed}

@@ -14,10 +14,10 @@ use Rattle.flow_program.specs.declared.programs.Flow.{Flow}
 use Rattle.value_domain.specs.declared.values.Value as values
 use Rattle.value_domain.specs.declared.row_cells.Cell.{Cell}
 use Rattle.value_domain.specs.declared.row_cells.Cell.TheVariants.{Nothing, Value}
-use Rattle.abstract_steps_checks.specs.ClassNumbers.{class_at}
-use Rattle.abstract_steps_checks.specs.NearValues.{near_value}
-use Rattle.abstract_steps_checks.specs.RowPositions.{leaf_position, class_position, zero_position, state_position, cell_at, value_in, value_at}
-use Rattle.abstract_steps_checks.specs.Temporaries.{temp_position, temp_value, put_temp}
+use Rattle.abstract_steps_instructions.specs.ClassNumbers.{class_at}
+use Rattle.abstract_steps_instructions.specs.NearValues.{near_value}
+use Rattle.abstract_steps_instructions.specs.RowPositions.{leaf_position, class_position, zero_position, state_position, cell_at, value_in, value_at}
+use Rattle.abstract_steps_instructions.specs.Temporaries.{temp_position, temp_value, put_temp}
 use Rattle.lib_models_memory.specs.Instances.{Memory, bytes_at, life_at}
 use Rattle.lib_models_memory.specs.Scalars.{Scalar, pointer}
 use Rattle.lib_models_memory.specs.Bytes.{MachinePointer}

@@ -18,7 +18,7 @@ use Rattle.value_domain.specs.ValueTables.{pointer_value, truth_value}
 use Rattle.value_domain_laws.proofs.EqualityStands.{has_some}
 use Rattle.value_domain_laws.proofs.Flags.{or_left, or_right}
 use Rattle.value_domain_laws.proofs.Numbers.{of_range_stands}
-use Rattle.abstract_steps_checks.specs.Temporaries.{put_temp}
+use Rattle.abstract_steps_instructions.specs.Temporaries.{put_temp}
 use Rattle.abstract_steps_instructions.specs.ResultTemps.{put_number, put_truth, put_pointer}
 use Rattle.lib_models_memory.specs.Bytes.{MachinePointer, null, into}
 use Rattle.lib_models_memory.specs.Instances.{Memory, Life, live, ended, freed, life_at}

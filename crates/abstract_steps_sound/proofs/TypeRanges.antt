@@ -11,7 +11,7 @@ use Rattle.cc_base.specs.NumberRanges.{Range}
 use Rattle.cc_base.specs.IntegerTypes.{is_size, least_of, greatest_of}
 use Rattle.cc_base.specs.IntegerDomains.{IntegersOf, BoundLaws}
 use Rattle.cc_base.specs.declared.int_types.IntType.{IntType}
-use Rattle.abstract_steps_checks.specs.IntegerChecks.{has_number}
+use Rattle.abstract_steps_instructions.specs.IntegerChecks.{has_number}
 use Rattle.value_domain_laws.proofs.Numbers.{RangeHas, bounds_have}
 use Rattle.abstract_steps_sound.proofs.NearScalars.{IsNearNumber}
 

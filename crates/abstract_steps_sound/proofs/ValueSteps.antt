@@ -36,11 +36,11 @@ use Rattle.value_domain.specs.ValueTables.{number_value, pointer_value, value_ar
 use Rattle.value_domain_laws.proofs.LabelStands.{label_meaning}
 use Rattle.value_domain_laws.proofs.ValueStands.{single}
 use Rattle.value_domain_laws.proofs.Leaving.{negated_more}
-use Rattle.abstract_steps_checks.specs.ByteWrites.{null_pointer}
-use Rattle.abstract_steps_checks.specs.IntegerChecks.{unary_violations, binary_violations}
-use Rattle.abstract_steps_checks.specs.Temporaries.{temp_value, amount_value, put_temp}
-use Rattle.abstract_steps_checks.specs.ViolationSets.{no_violations}
-use Rattle.abstract_steps_checks.specs.declared.violation_sets.Violations.{Violations}
+use Rattle.abstract_steps_instructions.specs.ByteWrites.{null_pointer}
+use Rattle.abstract_steps_instructions.specs.IntegerChecks.{unary_violations, binary_violations}
+use Rattle.abstract_steps_instructions.specs.Temporaries.{temp_value, amount_value, put_temp}
+use Rattle.abstract_steps_instructions.specs.ViolationSets.{no_violations}
+use Rattle.abstract_steps_instructions.specs.Violations.{Violations}
 use Rattle.abstract_steps_instructions.specs.IntegerSteps.{constant_step, binary_step, unary_step, compare_step, not_step, put_converted, converted_pointer, convert_value, convert_step}
 use Rattle.abstract_steps_instructions.specs.ResultTemps.{negated, put_number, put_pointer}
 use Rattle.abstract_steps_instructions.specs.OperationGroups.{is_on_values}

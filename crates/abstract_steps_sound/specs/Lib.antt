@@ -9,3 +9,12 @@ pub use Rattle.abstract_steps_instructions.specs.MemorySteps
 pub use Rattle.abstract_steps_instructions.specs.Scalars
 pub use Rattle.abstract_steps_instructions.specs.IntegerSteps
 pub use Rattle.abstract_steps_instructions.specs.ResultTemps
+pub use Rattle.abstract_steps_instructions.specs.Temporaries
+pub use Rattle.abstract_steps_instructions.specs.ViolationSets
+pub use Rattle.abstract_steps_instructions.specs.Arguments
+pub use Rattle.abstract_steps_instructions.specs.Calls
+pub use Rattle.abstract_steps_instructions.specs.Characters
+pub use Rattle.abstract_steps_instructions.specs.Effects
+pub use Rattle.abstract_steps_instructions.specs.Outputs
+pub use Rattle.abstract_steps_instructions.specs.Planning
+pub use Rattle.abstract_steps_instructions.specs.Plans

@@ -12,9 +12,9 @@ use Rattle.flow_program.specs.WellFormed.{names_of, fits_operation}
 use Rattle.flow_program.specs.declared.machine_instructions.Operation.{Operation}
 use Rattle.flow_program.specs.declared.programs.Flow.{Flow}
 use Rattle.value_domain.specs.declared.row_cells.Cell.{Cell}
-use Rattle.abstract_steps_checks.specs.ScalarTypes.{kind_of}
-use Rattle.abstract_steps_checks.specs.declared.violation_sets.Violations.{Violations}
-use Rattle.abstract_steps_checks.specs.ViolationSets.{violates}
+use Rattle.abstract_steps_instructions.specs.ScalarTypes.{kind_of}
+use Rattle.abstract_steps_instructions.specs.Violations.{Violations}
+use Rattle.abstract_steps_instructions.specs.ViolationSets.{violates}
 use Rattle.abstract_steps_instructions.specs.OperationGroups.{is_on_values, is_on_pointers}
 use Rattle.abstract_steps_instructions.specs.Steps.{operate}
 use Rattle.abstract_steps_instructions.specs.StepViolations.{operation_violations}

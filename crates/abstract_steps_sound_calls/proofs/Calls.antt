@@ -13,7 +13,7 @@ use Rattle.value_domain.specs.ValueTables.{number_value}
 use Rattle.value_domain.specs.declared.values.Value.{Value}
 use Rattle.value_domain.specs.declared.row_cells.Cell.{Cell}
 use Rattle.abstract_steps_checks.specs.declared.violation_sets.Violations.{Violations}
-use Rattle.abstract_steps_library.specs.Effects.{put_result, apply}
+use Rattle.abstract_steps_sound.specs.Effects.{put_result, apply}
 use Rattle.abstract_steps_library_plans.specs.declared.call_plans.Effect.TheVariants as effect
 use Rattle.abstract_steps_library_plans.specs.declared.call_plans.Plan.{Plan}
 use Rattle.lib_models_memory.specs.Labels.{Labels}

@@ -13,7 +13,7 @@ use Rattle.cc_base.specs.NumberRanges.{Range, range_met}
 use Rattle.c_layout.specs.declared.library_functions.LibFn.{LibFn}
 use Rattle.c_layout.specs.declared.library_functions.LibFn.TheVariants as f
 use Rattle.abstract_steps_checks.specs.IntegerChecks.{is_no_character}
-use Rattle.abstract_steps_library.specs.Characters as abstract
+use Rattle.abstract_steps_sound.specs.Characters as abstract
 use Rattle.lib_models_effects.specs.Characters as machine
 use Rattle.value_domain_laws.proofs.Numbers.{RangeHas, met_has}
 

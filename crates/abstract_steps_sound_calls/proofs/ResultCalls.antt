@@ -29,14 +29,14 @@ use Rattle.abstract_steps_checks.specs.IntegerChecks.{character_violations, is_n
 use Rattle.abstract_steps_checks.specs.Temporaries.{temp_value}
 use Rattle.abstract_steps_checks.specs.ViolationSets.{no_violations, violates}
 use Rattle.abstract_steps_checks.specs.declared.violation_sets.Violations.{Violations}
-use Rattle.abstract_steps_library.specs.Arguments.{argument_value, value_of_argument}
-use Rattle.abstract_steps_library.specs.Calls.{Call}
-use Rattle.abstract_steps_library.specs.Characters as characters
-use Rattle.abstract_steps_library.specs.Characters.{plan_character, plan_in}
-use Rattle.abstract_steps_library.specs.Effects.{apply}
-use Rattle.abstract_steps_library.specs.Outputs.{putchar_of, plan_getchar, plan_putchar}
-use Rattle.abstract_steps_library.specs.Planning.{plan_call}
-use Rattle.abstract_steps_library.specs.Plans.{planned, trail_of, harmless}
+use Rattle.abstract_steps_sound.specs.Arguments.{argument_value, value_of_argument}
+use Rattle.abstract_steps_sound.specs.Calls.{Call}
+use Rattle.abstract_steps_sound.specs.Characters as characters
+use Rattle.abstract_steps_sound.specs.Characters.{plan_character, plan_in}
+use Rattle.abstract_steps_sound.specs.Effects.{apply}
+use Rattle.abstract_steps_sound.specs.Outputs.{putchar_of, plan_getchar, plan_putchar}
+use Rattle.abstract_steps_sound.specs.Planning.{plan_call}
+use Rattle.abstract_steps_sound.specs.Plans.{planned, trail_of, harmless}
 use Rattle.abstract_steps_library_plans.specs.declared.call_plans.Effect.TheVariants as effect
 use Rattle.abstract_steps_library_plans.specs.declared.call_plans.Plan.{Plan}
 use Rattle.abstract_steps_sound.specs.CallSteps.{call_of, call_step}

@@ -4,8 +4,9 @@ pub use Rattle.abstract_steps_sound.specs.Premises
 pub use Rattle.abstract_steps_sound.specs.CallSteps
 pub use Rattle.abstract_steps_sound.specs.StepViolations
 pub use Rattle.abstract_steps_sound.specs.Steps
-pub use Rattle.abstract_steps_library.specs.Arguments
-pub use Rattle.abstract_steps_library.specs.Calls
-pub use Rattle.abstract_steps_library.specs.Outputs
-pub use Rattle.abstract_steps_library.specs.Planning
-pub use Rattle.abstract_steps_library.specs.Plans
+pub use Rattle.abstract_steps_sound.specs.Arguments
+pub use Rattle.abstract_steps_sound.specs.Calls
+pub use Rattle.abstract_steps_sound.specs.Outputs
+pub use Rattle.abstract_steps_sound.specs.Planning
+pub use Rattle.abstract_steps_sound.specs.Plans
+pub use Rattle.abstract_steps_sound.specs.OperandTypes

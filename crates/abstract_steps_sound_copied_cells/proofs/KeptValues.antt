@@ -13,9 +13,9 @@ use Rattle.value_domain.specs.declared.row_cells.Cell.TheVariants.{Value}
 use Rattle.store_domain.specs.NearValues.{near_value}
 use Rattle.store_domain.specs.RowPositions.{value_in, value_at, join_value, write_value}
 use Rattle.store_domain.specs.Walks.{walk}
-use Rattle.store_domain_sound.proofs.Near.{IsNearValue, near_is, value_at_near, join_near}
-use Rattle.store_domain_sound.proofs.Only.{only_put, cell_put}
-use Rattle.store_domain_sound.proofs.StoreValues.{same_value, join_is}
+use Rattle.store_domain_sound_chars.proofs.Near.{IsNearValue, near_is, value_at_near, join_near}
+use Rattle.store_domain_sound_chars.proofs.Only.{only_put, cell_put}
+use Rattle.store_domain_sound_chars.proofs.StoreValues.{same_value, join_is}
 
 -- ---- walks whose turns have their place in the list
 

@@ -7,8 +7,8 @@ use Rattle.c_layout.specs.declared.leaf_lists.Leaf.{Leaf}
 use Rattle.c_layout.specs.declared.shapes.BaseInfo.{BaseInfo}
 use Rattle.value_domain.specs.Values.{value_lattice}
 use Rattle.value_domain.specs.declared.values.Value.{Value}
-use Rattle.store_domain_sound.proofs.Larger.{value_below, content_larger}
-use Rattle.store_domain_sound.proofs.NearParts.{near_parts}
+use Rattle.store_domain_sound_chars.proofs.Larger.{value_below, content_larger}
+use Rattle.store_domain_sound_chars.proofs.NearParts.{near_parts}
 use Rattle.abstract_steps_sound_copied_cells.specs.LeafWrites.{IsReplacedAt, Fact, of_number, of_content, IsTold, LeafWritesStand}
 use Rattle.abstract_steps_sound_copied_cells.proofs.LeafWritten.{BringsNear, IsHit, all_keeps}
 use Rattle.abstract_steps_sound_copied_cells.proofs.LeafMade.{own_makes, class_makes, other_makes, byte_makes}

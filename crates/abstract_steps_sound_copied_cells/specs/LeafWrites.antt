@@ -18,7 +18,7 @@ use Rattle.store_domain.specs.NearValues.{near_value}
 use Rattle.store_domain.specs.RowPositions.{leaf_position, class_position, value_at}
 use Rattle.lib_models_memory.specs.Bytes.{Content}
 use Rattle.lib_models_memory.specs.Instances.{Memory}
-use Rattle.store_domain_sound.specs.ValueMeaning.{Naming, StandsContent}
+use Rattle.store_domain_sound_chars.specs.ValueMeaning.{Naming, StandsContent}
 use Rattle.store_domain_structs.specs.CopyPlaces.{is_reached, is_touched}
 use Rattle.store_domain_structs.specs.LeafCopies.{reaches_class, is_strong, with_flag, write_all}
 use Rattle.store_domain_structs.specs.LeafAccess.{LeafAccess}

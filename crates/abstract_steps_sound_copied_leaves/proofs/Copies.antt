@@ -32,9 +32,9 @@ use Rattle.store_domain_sound.proofs.StoreLeaves.{live_ended, not_older}
 use Rattle.store_domain_sound.proofs.StoreRows.{Fits, leaf_is, class_is}
 use Rattle.store_domain_sound_regions.specs.RegionWrites.{IsRegion}
 use Rattle.store_domain_sound_spans.specs.SpanBytes.{IsInSpan, IsShortSpan}
-use Rattle.store_domain_structs.specs.CopyPlaces.{span_of_leaf, span_is_one, is_apart, all_in_one, joined_meet, meets, is_reached}
-use Rattle.store_domain_structs.specs.LeafNumbers.{struct_leaf}
-use Rattle.store_domain_structs.specs.StructCopies.{Route, route_for, leaf_access}
+use Rattle.store_domain_laws_structs.specs.CopyPlaces.{span_of_leaf, span_is_one, is_apart, all_in_one, joined_meet, meets, is_reached}
+use Rattle.store_domain_laws_structs.specs.LeafNumbers.{struct_leaf}
+use Rattle.store_domain_laws_structs.specs.StructCopies.{Route, route_for, leaf_access}
 use Rattle.store_domain_structs_leaves.specs.declared.copy_places.Span.{Span}
 use Rattle.store_domain_structs_leaves.specs.declared.leaf_copies.LeafAccess.{LeafAccess}
 use Rattle.abstract_steps_sound_copied_cells.specs.LeafWrites.{IsReplacedAt}

@@ -34,8 +34,8 @@ use Rattle.store_domain_sound.proofs.CharValues.{byte_stands, padding_stands}
 use Rattle.store_domain_sound.proofs.Classes.{same_class_is, class_above}
 use Rattle.store_domain_sound.proofs.Larger.{value_below, content_larger}
 use Rattle.store_domain_sound.proofs.Slices.{get_there}
-use Rattle.store_domain_structs.specs.LeafCopies.{read_base, read_leaf}
-use Rattle.store_domain_structs.specs.StructCopies.{leaf_access, read_source}
+use Rattle.store_domain_laws_structs.specs.LeafCopies.{read_base, read_leaf}
+use Rattle.store_domain_laws_structs.specs.StructCopies.{leaf_access, read_source}
 use Rattle.store_domain_structs_leaves.specs.declared.leaf_copies.LeafAccess.{LeafAccess}
 use Rattle.abstract_steps_sound_copied_leaves.proofs.Cells.{CellName, IsThere, position, class_of, signed_of, Place, Owns}
 use Rattle.abstract_steps_sound_copied_leaves.proofs.Copies.{Copied, route, source_spot, few_cells}

@@ -32,9 +32,9 @@ use Rattle.store_domain_sound.proofs.Walks.{walk_keeps, walk_meets, turns_meet}
 use Rattle.store_domain_sound_spans.specs.SpanBytes.{IsInSpan, IsShortSpan, SpanSees}
 use Rattle.store_domain_sound_spans.proofs.SpanBytes.{spans_see, joined_has}
 use Rattle.store_domain_laws_structs.proofs.LeafBytes.{few_bytes}
-use Rattle.store_domain_structs.proofs.Somewhere.{somewhere}
-use Rattle.store_domain_structs.specs.CopyPlaces.{span_joined, span_window, is_reached, is_touched, span_has_stray}
-use Rattle.store_domain_structs.specs.LeafCopies.{window_padded, any_padded, span_meets_padding, reaches_class, own_leaf, read_own_leaf, read_class_cell, read_own, other_leaf, read_other_leaf, read_class_byte, read_class_bytes, read_padding, read_bytes, read_others, read_base, read_base_if, read_from, read_leaf}
+use Rattle.store_domain_laws_structs.proofs.Somewhere.{somewhere}
+use Rattle.store_domain_laws_structs.specs.CopyPlaces.{span_joined, span_window, is_reached, is_touched, span_has_stray}
+use Rattle.store_domain_laws_structs.specs.LeafCopies.{window_padded, any_padded, span_meets_padding, reaches_class, own_leaf, read_own_leaf, read_class_cell, read_own, other_leaf, read_other_leaf, read_class_byte, read_class_bytes, read_padding, read_bytes, read_others, read_base, read_base_if, read_from, read_leaf}
 use Rattle.store_domain_structs_leaves.specs.declared.copy_places.Span.{Span}
 use Rattle.store_domain_structs_leaves.specs.declared.leaf_copies.LeafAccess.{LeafAccess}
 use Rattle.abstract_steps_sound_copied_leaves.specs.StructLeaves.{IsFew}

@@ -34,7 +34,7 @@ use Rattle.store_domain_sound.proofs.Classes.{same_class_is, class_small, class_
 use Rattle.store_domain_sound.proofs.LoadSound.{instance_there}
 use Rattle.store_domain_sound.proofs.Selected.{counted_place, uncounted_place}
 use Rattle.store_domain_sound.proofs.TagPlaces.{is_tagged}
-use Rattle.store_domain_structs.specs.LeafCopies.{read_base}
+use Rattle.store_domain_laws_structs.specs.LeafCopies.{read_base}
 use Rattle.store_domain_structs_leaves.specs.declared.leaf_copies.LeafAccess.{LeafAccess}
 use Rattle.abstract_steps_sound_copied_leaves.proofs.OwnPlaces.{OwnPlace, own_place}
 use Rattle.abstract_steps_sound_copied_leaves.proofs.ReadCells.{IsSpot, spot_stray, spot_padding, own_leaf_gives, own_class_gives, other_leaf_gives, other_class_gives, padding_gives}

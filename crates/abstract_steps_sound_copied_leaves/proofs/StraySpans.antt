@@ -16,7 +16,7 @@ use Rattle.store_domain_sound.specs.Shapes.{at_offset}
 use Rattle.store_domain_sound.proofs.Classes.{count_some, count_either}
 use Rattle.store_domain_sound_spans.specs.SpanBytes.{IsInSpan, IsShortSpan}
 use Rattle.store_domain_sound_spans.proofs.SpanBytes.{joined_has}
-use Rattle.store_domain_structs.specs.CopyPlaces.{any_below, span_width, span_size, span_joined, one_place_meets, alike_meets, each_meets, several_meet, joined_meet, meets, is_reached, reached_count, span_has_stray}
+use Rattle.store_domain_laws_structs.specs.CopyPlaces.{any_below, span_width, span_size, span_joined, one_place_meets, alike_meets, each_meets, several_meet, joined_meet, meets, is_reached, reached_count, span_has_stray}
 use Rattle.store_domain_structs_leaves.specs.declared.copy_places.Span.{Span}
 
 -- ---- leaves of a class that begin among so many offsets

@@ -37,7 +37,7 @@ use Rattle.abstract_steps_library_plans.specs.declared.call_plans.Plan.{Plan}
 use Rattle.abstract_steps_library_plans.specs.declared.call_plans.Trail.{Trail}
 use Rattle.abstract_steps_library_writes.specs.declared.fill_writes.FillWrite.{FillWrite}
 use Rattle.abstract_steps_library.specs.declared.memory_calls.Target.{Target}
-use Rattle.abstract_steps_sound.specs.CallSteps.{call_of}
+use Rattle.abstract_steps_sound_strings.specs.CallSteps.{call_of}
 use Rattle.lib_models_memory.specs.Labels.{Labels, is_unlabelled}
 use Rattle.lib_models_memory.specs.Bytes.{MachinePointer, into, Content, number, Byte}
 use Rattle.lib_models_memory.specs.Instances.{Memory, live, bytes_at, byte_at, life_at}
@@ -60,14 +60,14 @@ use Rattle.store_domain_sound.proofs.Slices.{get_there}
 use Rattle.store_domain_sound.proofs.StoreLeaves.{live_ended, not_older}
 use Rattle.store_domain_sound.proofs.StorePlaces.{not_empty}
 use Rattle.store_domain_sound.proofs.Windows.{WindowHas}
-use Rattle.abstract_steps_sound.specs.Premises.{HasPremises}
+use Rattle.abstract_steps_sound_strings.specs.Premises.{HasPremises}
 use Rattle.store_domain_sound_regions.specs.RegionWrites.{IsRegion}
 use Rattle.store_domain_sound_regions.proofs.BaseRows.{none_stands}
 use Rattle.store_domain_sound_regions.proofs.ContentRegions.{IsWritten, contents_written, contents_sane, region_content}
 use Rattle.store_domain_sound_regions.proofs.Regions.{alike_region}
-use Rattle.abstract_steps_sound.specs.SoundSteps.{IsReached}
-use Rattle.abstract_steps_sound.proofs.Admitted.{AreAdmitted, both_admitted}
-use Rattle.abstract_steps_sound.proofs.PutTemps.{IsResult}
+use Rattle.abstract_steps_sound_strings.specs.SoundSteps.{IsReached}
+use Rattle.abstract_steps_sound_strings.proofs.Admitted.{AreAdmitted, both_admitted}
+use Rattle.abstract_steps_sound_strings.proofs.PutTemps.{IsResult}
 use Rattle.abstract_steps_sound_strings.proofs.Calls.{clean}
 use Rattle.abstract_steps_sound_strings.proofs.GivenPointers.{reach_of}
 use Rattle.abstract_steps_sound_strings.proofs.Trails.{still_told, told_here, goes_further}

@@ -13,19 +13,19 @@ use Rattle.flow_program.specs.declared.machine_instructions.Operation.TheVariant
 use Rattle.flow_program.specs.declared.programs.Flow.{Flow}
 use Rattle.value_domain.specs.declared.row_cells.Cell.{Cell}
 use Rattle.abstract_steps_library.specs.Planning.{plan_call}
-use Rattle.abstract_steps_sound.specs.CallSteps.{call_of, call_step}
-use Rattle.abstract_steps_sound.specs.StepViolations.{operation_violations}
-use Rattle.abstract_steps_sound.specs.Steps.{operate}
+use Rattle.abstract_steps_sound_strings.specs.CallSteps.{call_of, call_step}
+use Rattle.abstract_steps_sound_strings.specs.StepViolations.{operation_violations}
+use Rattle.abstract_steps_sound_strings.specs.Steps.{operate}
 use Rattle.lib_models_memory.specs.Scalars.{Scalar, integer, pointer}
 use Rattle.lib_models_effects.specs.LibraryCalls.{library}
 use Rattle.lib_models_effects.specs.Worlds.{stops, Stuck}
 use Rattle.flow_program_machine.specs.FlowStates.{Standing, values_of}
 use Rattle.store_domain_meaning.specs.ValueMeaning.{Naming}
-use Rattle.abstract_steps_sound.specs.Premises.{HasPremises}
-use Rattle.abstract_steps_sound.specs.SoundSteps.{IsReached, StepIsSound}
-use Rattle.abstract_steps_sound.proofs.Replies.{if_some_good}
+use Rattle.abstract_steps_sound_strings.specs.Premises.{HasPremises}
+use Rattle.abstract_steps_sound_strings.specs.SoundSteps.{IsReached, StepIsSound}
+use Rattle.abstract_steps_sound_strings.proofs.Replies.{if_some_good}
 use Rattle.abstract_steps_sound_strings.proofs.Calls.{clean}
-use Rattle.abstract_steps_sound.specs.OperandTypes.{TakesSize, HasOperands}
+use Rattle.abstract_steps_sound_strings.specs.OperandTypes.{TakesSize, HasOperands}
 use Rattle.abstract_steps_sound_fills.specs.FillCalls.{SetsBytes, IsFillCall}
 use Rattle.abstract_steps_sound_fills.proofs.WriteCalls.{Good, plain_stop, three_sized}
 use Rattle.abstract_steps_sound_fills.proofs.FillCalls.{fill_call_good}

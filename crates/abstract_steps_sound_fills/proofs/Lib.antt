@@ -12,7 +12,7 @@ pub use Rattle.abstract_steps_sound_strings.proofs.Trails
 pub use Rattle.abstract_steps_sound_strings.proofs.Scans
 pub use Rattle.abstract_steps_sound_strings.proofs.StringCalls
 pub use Rattle.abstract_steps_sound_strings.proofs.ScannedTexts
-pub use Rattle.abstract_steps_sound.proofs.Admitted
-pub use Rattle.abstract_steps_sound.proofs.PutTemps
-pub use Rattle.abstract_steps_sound.proofs.Replies
-pub use Rattle.abstract_steps_sound.proofs.NearScalars
+pub use Rattle.abstract_steps_sound_strings.proofs.Admitted
+pub use Rattle.abstract_steps_sound_strings.proofs.PutTemps
+pub use Rattle.abstract_steps_sound_strings.proofs.Replies
+pub use Rattle.abstract_steps_sound_strings.proofs.NearScalars

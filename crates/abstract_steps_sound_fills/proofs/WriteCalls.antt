@@ -25,7 +25,7 @@ use Rattle.abstract_steps_library.specs.Calls.{Call}
 use Rattle.abstract_steps_library.specs.Effects.{put_result, apply}
 use Rattle.abstract_steps_library.specs.Outputs.{argument_at}
 use Rattle.abstract_steps_library_plans.specs.declared.call_plans.Plan.{Plan}
-use Rattle.abstract_steps_sound.specs.CallSteps.{call_of}
+use Rattle.abstract_steps_sound_strings.specs.CallSteps.{call_of}
 use Rattle.lib_models_memory.specs.Labels.{Labels, is_unlabelled}
 use Rattle.lib_models_memory.specs.Bytes.{MachinePointer, into}
 use Rattle.lib_models_memory.specs.Instances.{Memory, live, bytes_at, life_at}
@@ -40,12 +40,12 @@ use Rattle.store_domain_meaning.specs.SoundMemory.{IsPointerIn, IsWithin}
 use Rattle.store_domain_meaning.specs.ValueMeaning.{Naming, StandsInto, StandsPointer, StandsScalar}
 use Rattle.store_domain_meaning.specs.RowMeaning.{StandsFor}
 use Rattle.store_domain_meaning.specs.Coverage.{state_of}
-use Rattle.abstract_steps_sound.specs.Premises.{HasPremises}
-use Rattle.abstract_steps_sound.specs.OperandTypes.{HasThirdSize}
-use Rattle.abstract_steps_sound.specs.SoundSteps.{AreShort, IsReached, StandsBehind, IsStoodFor}
-use Rattle.abstract_steps_sound.proofs.Admitted.{AreAdmitted, none_admitted, one_admitted, both_admitted}
-use Rattle.abstract_steps_sound.proofs.PutTemps.{IsResult, put_stands, put_long}
-use Rattle.abstract_steps_sound.proofs.Replies.{stop_good}
+use Rattle.abstract_steps_sound_strings.specs.Premises.{HasPremises}
+use Rattle.abstract_steps_sound_strings.specs.OperandTypes.{HasThirdSize}
+use Rattle.abstract_steps_sound_strings.specs.SoundSteps.{AreShort, IsReached, StandsBehind, IsStoodFor}
+use Rattle.abstract_steps_sound_strings.proofs.Admitted.{AreAdmitted, none_admitted, one_admitted, both_admitted}
+use Rattle.abstract_steps_sound_strings.proofs.PutTemps.{IsResult, put_stands, put_long}
+use Rattle.abstract_steps_sound_strings.proofs.Replies.{stop_good}
 use Rattle.abstract_steps_sound_strings.proofs.Calls.{clean, GoodPlan, plan_stops}
 use Rattle.abstract_steps_sound_strings.proofs.GivenPointers.{ReachEnd, into_live, into_nothing, into_ended, into_freed, reach_end, reach_of, null_told, ended_told, freed_told, given_stands, given_some}
 

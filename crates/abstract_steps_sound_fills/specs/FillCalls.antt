@@ -7,8 +7,8 @@ use Rattle.c_layout.specs.declared.library_functions.LibFn.TheVariants as f
 use Rattle.flow_program.specs.declared.machine_instructions.Operation.{Operation}
 use Rattle.flow_program.specs.declared.machine_instructions.Operation.TheVariants as op
 use Rattle.flow_program.specs.declared.programs.Flow.{Flow}
-use Rattle.abstract_steps_sound.specs.Premises.{HasPremises}
-use Rattle.abstract_steps_sound.specs.SoundSteps.{AreSound}
+use Rattle.abstract_steps_sound_strings.specs.Premises.{HasPremises}
+use Rattle.abstract_steps_sound_strings.specs.SoundSteps.{AreSound}
 
 abbrev pub SetsBytes : LibFn → Type 0
 SetsBytes f.Memset = Unit {0}

@@ -1,6 +1,6 @@
 pub mod FillCalls
-pub use Rattle.abstract_steps_sound.specs.CallSteps
-pub use Rattle.abstract_steps_sound.specs.OperandTypes
-pub use Rattle.abstract_steps_sound.specs.SoundSteps
-pub use Rattle.abstract_steps_sound.specs.StepViolations
-pub use Rattle.abstract_steps_sound.specs.Steps
+pub use Rattle.abstract_steps_sound_strings.specs.CallSteps
+pub use Rattle.abstract_steps_sound_strings.specs.OperandTypes
+pub use Rattle.abstract_steps_sound_strings.specs.SoundSteps
+pub use Rattle.abstract_steps_sound_strings.specs.StepViolations
+pub use Rattle.abstract_steps_sound_strings.specs.Steps

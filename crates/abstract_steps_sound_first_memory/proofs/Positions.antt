@@ -13,7 +13,7 @@ use Rattle.flow_program.specs.StaticStarts.{same_static}
 use Rattle.flow_program_views.specs.ProgramViews.{InitialView, initial}
 use Rattle.flow_lower.specs.BaseTables.{TableView}
 use Rattle.flow_lower.specs.InitialBytes.{initial_object, initial_literal, objects_from, literals_from, initial_objects}
-use Rattle.abstract_steps.specs.StartRows.{same_object, with_size, base_in}
+use Rattle.abstract_steps_laws_programs.specs.StartRows.{same_object, with_size, base_in}
 use Rattle.lib_models_effects.specs.UnitStarts.{base_instance}
 use Rattle.store_domain_sound.proofs.Slices.{get_left, get_right, get_there}
 

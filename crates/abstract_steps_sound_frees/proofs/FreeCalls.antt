@@ -30,9 +30,9 @@ use Rattle.abstract_steps_library.specs.Arguments.{argument_value, value_of_argu
 use Rattle.abstract_steps_library.specs.Effects.{apply}
 use Rattle.abstract_steps_library.specs.Planning.{plan_call}
 use Rattle.abstract_steps_library_plans.specs.declared.call_plans.Plan.{Plan}
-use Rattle.abstract_steps_sound.specs.CallSteps.{call_of, call_step}
-use Rattle.abstract_steps_sound.specs.StepViolations.{operation_violations}
-use Rattle.abstract_steps_sound.specs.Steps.{operate}
+use Rattle.abstract_steps_sound_calls.specs.CallSteps.{call_of, call_step}
+use Rattle.abstract_steps_sound_calls.specs.StepViolations.{operation_violations}
+use Rattle.abstract_steps_sound_calls.specs.Steps.{operate}
 use Rattle.lib_models_memory.specs.Bytes.{MachinePointer, null, into}
 use Rattle.lib_models_memory.specs.Instances.{Memory, Instance, Storage, static, automatic, allocated, literal, Life, live, ended, freed, life_of, life_at}
 use Rattle.lib_models_memory.specs.Scalars.{Scalar, integer, pointer}
@@ -52,9 +52,9 @@ use Rattle.store_domain_sound.proofs.Sets.{is_single}
 use Rattle.store_domain_sound.proofs.Slices.{get_there}
 use Rattle.store_domain_sound.proofs.StoreLeaves.{not_older}
 use Rattle.store_domain_sound_programs.specs.Premises.{HasPremises}
-use Rattle.abstract_steps_sound.specs.SoundSteps.{IsReached, StandsBehind, IsStoodFor, StepIsSound}
-use Rattle.abstract_steps_sound.proofs.Admitted.{one_admitted, both_admitted}
-use Rattle.abstract_steps_sound.proofs.Replies.{if_some_good}
+use Rattle.abstract_steps_sound_calls.specs.SoundSteps.{IsReached, StandsBehind, IsStoodFor, StepIsSound}
+use Rattle.abstract_steps_sound_calls.proofs.Admitted.{one_admitted, both_admitted}
+use Rattle.abstract_steps_sound_calls.proofs.Replies.{if_some_good}
 use Rattle.abstract_steps_sound_calls.proofs.Calls.{first_argument, clean, GoodPlan, plan_stops}
 use Rattle.abstract_steps_sound_memory.proofs.LoadSteps.{union_right}
 use Rattle.abstract_steps_sound_frees.specs.FreeCalls.{Frees, IsFreeCall}

@@ -32,8 +32,8 @@ use Rattle.store_domain_meaning.specs.RowMeaning.{IsLiveOf, StandsCell, StandsLe
 use Rattle.store_domain_sound.proofs.Slices.{get_there}
 use Rattle.store_domain_sound.proofs.StoreRows.{leaf_is, class_is, zero_is}
 use Rattle.store_domain_sound_programs.specs.Premises.{HasPremises}
-use Rattle.abstract_steps_sound.specs.SoundSteps.{AreShort, IsReached}
-use Rattle.abstract_steps_sound.proofs.NearScalars.{IsNearNumber, near_offset, near_number_stands}
+use Rattle.abstract_steps_sound_calls.specs.SoundSteps.{AreShort, IsReached}
+use Rattle.abstract_steps_sound_calls.proofs.NearScalars.{IsNearNumber, near_offset, near_number_stands}
 use Rattle.abstract_steps_sound_frees.proofs.ReleasedMemory.{IsFreed, IsReleased, live_of_base, matched_was, scalar_released, named_released, released_sane, scalar_stays, content_stays}
 use Rattle.abstract_steps_sound_frees.proofs.FreedCells.{free_keeps_cell, free_frees}
 

@@ -8,7 +8,7 @@ use Rattle.flow_program.specs.declared.machine_instructions.Operation.{Operation
 use Rattle.flow_program.specs.declared.machine_instructions.Operation.TheVariants as op
 use Rattle.flow_program.specs.declared.programs.Flow.{Flow}
 use Rattle.store_domain_sound_programs.specs.Premises.{HasPremises}
-use Rattle.abstract_steps_sound.specs.SoundSteps.{AreSound}
+use Rattle.abstract_steps_sound_calls.specs.SoundSteps.{AreSound}
 
 abbrev pub Frees : LibFn → Type 0
 Frees f.Free = Unit {0}

@@ -43,7 +43,7 @@ use Rattle.abstract_steps_library_plans.specs.declared.call_plans.Trail.{Trail}
 use Rattle.abstract_steps_library.specs.declared.memory_calls.Target.{Target}
 use Rattle.abstract_steps_library_writes.specs.declared.source_bytes.Characters.{Characters}
 use Rattle.abstract_steps_library_writes.specs.declared.text_writes.TextWrite.{TextWrite}
-use Rattle.abstract_steps_sound.specs.CallSteps.{line_call, goes_on}
+use Rattle.abstract_steps_sound_calls.specs.CallSteps.{line_call, goes_on}
 use Rattle.lib_models_memory.specs.Labels.{Labels, no_labels, input_labels, is_unlabelled}
 use Rattle.lib_models_memory.specs.Bytes.{MachinePointer, null, into, Content, number, Byte}
 use Rattle.lib_models_memory.specs.Instances.{Memory, live, bytes_at, byte_at, life_at}
@@ -76,11 +76,11 @@ use Rattle.store_domain_sound_regions.specs.RegionWrites.{IsRegion}
 use Rattle.store_domain_sound_regions.proofs.ContentRegions.{IsWritten, contents_written, contents_sane, region_content}
 use Rattle.store_domain_sound_regions.proofs.Regions.{alike_region}
 use Rattle.value_domain_laws.specs.ZeroLaws.{IsCount}
-use Rattle.abstract_steps_sound.specs.SoundSteps.{IsReached}
-use Rattle.abstract_steps_sound.proofs.Admitted.{AreAdmitted, one_admitted, both_admitted}
-use Rattle.abstract_steps_sound.proofs.MoveSteps.{near_has}
-use Rattle.abstract_steps_sound.proofs.NearScalars.{IsNearNumber}
-use Rattle.abstract_steps_sound.proofs.PutTemps.{IsResult}
+use Rattle.abstract_steps_sound_calls.specs.SoundSteps.{IsReached}
+use Rattle.abstract_steps_sound_calls.proofs.Admitted.{AreAdmitted, one_admitted, both_admitted}
+use Rattle.abstract_steps_sound_calls.proofs.MoveSteps.{near_has}
+use Rattle.abstract_steps_sound_calls.proofs.NearScalars.{IsNearNumber}
+use Rattle.abstract_steps_sound_calls.proofs.PutTemps.{IsResult}
 use Rattle.abstract_steps_sound_calls.proofs.Calls.{DrawnEnd, gave, ran_out, drawn_end, clean}
 use Rattle.abstract_steps_sound_calls.proofs.CharacterNumbers.{number_between}
 use Rattle.abstract_steps_sound_appends.proofs.GivenPointers.{ReachEnd, into_live, into_nothing, into_ended, into_freed, reach_end, reach_of, null_told, ended_told, freed_told}

@@ -22,11 +22,11 @@ use Rattle.store_domain.specs.ScalarTypes.{kind_of}
 use Rattle.store_domain.specs.ByteWrites.{null_pointer}
 use Rattle.abstract_steps_sound_edges.specs.Edges.{last_instruction, line_call_of, put_null, no_line_edge, line_edge, follow, follow_if, edge}
 use Rattle.abstract_steps_sound_edges.specs.Edges as edges
-use Rattle.abstract_steps_sound.specs.CallSteps.{planned_line, goes_on, write_line}
+use Rattle.abstract_steps_sound_calls.specs.CallSteps.{planned_line, goes_on, write_line}
 use Rattle.abstract_steps_library.specs.StringCalls.{plan_fgets}
 use Rattle.abstract_steps_library_plans.specs.declared.call_plans.Plan.{Plan}
-use Rattle.abstract_steps_sound.specs.StepViolations.{operation_violations}
-use Rattle.abstract_steps_sound.specs.Steps.{operate}
+use Rattle.abstract_steps_sound_calls.specs.StepViolations.{operation_violations}
+use Rattle.abstract_steps_sound_calls.specs.Steps.{operate}
 use Rattle.abstract_steps_library.specs.Effects.{put_result, apply}
 use Rattle.lib_models_memory.specs.Labels.{Labels}
 use Rattle.lib_models_memory.specs.Bytes.{MachinePointer, null}
@@ -44,9 +44,9 @@ use Rattle.store_domain_meaning.specs.ValueMeaning.{Naming}
 use Rattle.store_domain_meaning.specs.RowMeaning.{StandsFor}
 use Rattle.store_domain_sound_programs.specs.Premises.{HasPremises}
 use Rattle.store_domain_sound_programs.proofs.ShapedBases.{all_at}
-use Rattle.abstract_steps_sound.specs.SoundSteps.{AreShort, IsReached, StandsBehind}
-use Rattle.abstract_steps_sound.proofs.Admitted.{AreAdmitted}
-use Rattle.abstract_steps_sound.proofs.PutTemps.{IsResult, put_stands, put_long}
+use Rattle.abstract_steps_sound_calls.specs.SoundSteps.{AreShort, IsReached, StandsBehind}
+use Rattle.abstract_steps_sound_calls.proofs.Admitted.{AreAdmitted}
+use Rattle.abstract_steps_sound_calls.proofs.PutTemps.{IsResult, put_stands, put_long}
 use Rattle.abstract_steps_sound_edges.specs.SoundEnds.{EdgeBehind, EndIsSound}
 use Rattle.abstract_steps_sound_edges.proofs.Blocks.{IsBlock, block_facts}
 use Rattle.abstract_steps_sound_edges.proofs.TakenEdges.{FitsLead, body_led, HasLast, has_last, IsTakenEdge, taken_edge}

@@ -21,7 +21,7 @@ use Rattle.store_domain.specs.NearValues.{near_value}
 use Rattle.store_domain.specs.ObjectLives.{blank_object, at_base, forget}
 use Rattle.store_domain.specs.ObjectLengths.{forget_keeps}
 use Rattle.store_domain.specs.RowPositions.{leaf_position, zero_position, cell_at, value_at, zero_at}
-use Rattle.abstract_steps_checks.specs.ViolationSets.{no_violations}
+use Rattle.abstract_steps_sound.specs.ViolationSets.{no_violations}
 use Rattle.abstract_steps_sound.specs.Steps.{operate}
 use Rattle.abstract_steps_sound.specs.StepViolations.{operation_violations}
 use Rattle.lib_models_memory.specs.Bytes.{indeterminate, Byte}

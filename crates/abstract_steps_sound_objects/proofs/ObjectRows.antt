@@ -17,7 +17,7 @@ use Rattle.value_domain.specs.declared.values.Value.{Value}
 use Rattle.value_domain.specs.declared.row_cells.Cell.{Cell}
 use Rattle.store_domain.specs.ClassNumbers.{class_at}
 use Rattle.store_domain.specs.RowPositions.{leaf_position, class_position, zero_position, state_position, cell_at, value_at, zero_at, state_at}
-use Rattle.abstract_steps_checks.specs.Temporaries.{temp_position, temp_value}
+use Rattle.abstract_steps_sound.specs.Temporaries.{temp_position, temp_value}
 use Rattle.lib_models_memory.specs.Bytes.{MachinePointer, null, into}
 use Rattle.lib_models_memory.specs.Instances.{Memory, Life, live, ended, freed, bytes_at, byte_at, life_at}
 use Rattle.lib_models_memory.specs.Scalars.{Scalar}

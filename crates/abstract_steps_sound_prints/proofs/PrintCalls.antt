@@ -35,9 +35,9 @@ use Rattle.abstract_steps_library.specs.Plans.{planned, trail_of}
 use Rattle.abstract_steps_library_plans.specs.declared.call_plans.Effect.TheVariants as effect
 use Rattle.abstract_steps_library_plans.specs.declared.call_plans.Plan.{Plan}
 use Rattle.abstract_steps_library_plans.specs.declared.call_plans.Trail.{Trail}
-use Rattle.abstract_steps_sound.specs.CallSteps.{call_of, call_step}
-use Rattle.abstract_steps_sound.specs.StepViolations.{operation_violations}
-use Rattle.abstract_steps_sound.specs.Steps.{operate}
+use Rattle.abstract_steps_sound_strings.specs.CallSteps.{call_of, call_step}
+use Rattle.abstract_steps_sound_strings.specs.StepViolations.{operation_violations}
+use Rattle.abstract_steps_sound_strings.specs.Steps.{operate}
 use Rattle.lib_models_memory.specs.Labels.{no_labels}
 use Rattle.lib_models_memory.specs.Bytes.{MachinePointer, into}
 use Rattle.lib_models_memory.specs.Instances.{live, life_at}
@@ -50,9 +50,9 @@ use Rattle.flow_program_machine.specs.FlowStates.{Standing, and_value, values_of
 use Rattle.store_domain_meaning.specs.ValueMeaning.{Naming}
 use Rattle.store_domain_sound_programs.specs.Premises.{HasPremises}
 use Rattle.store_domain_sound_programs.proofs.Sizes.{same_bytes}
-use Rattle.abstract_steps_sound.specs.SoundSteps.{IsReached, StepIsSound}
-use Rattle.abstract_steps_sound.proofs.NearScalars.{IsNearNumber}
-use Rattle.abstract_steps_sound.proofs.Replies.{if_some_good}
+use Rattle.abstract_steps_sound_strings.specs.SoundSteps.{IsReached, StepIsSound}
+use Rattle.abstract_steps_sound_strings.proofs.NearScalars.{IsNearNumber}
+use Rattle.abstract_steps_sound_strings.proofs.Replies.{if_some_good}
 use Rattle.abstract_steps_sound_strings.proofs.Calls.{DrawnEnd, gave, ran_out, drawn_end, clean, GoodPlan, plan_stops, plan_gives, plan_is, number_result}
 use Rattle.abstract_steps_sound_strings.proofs.CharacterNumbers.{number_between}
 use Rattle.abstract_steps_sound_strings.proofs.GivenPointers.{reach_of}

@@ -15,10 +15,10 @@ use Rattle.flow_program.specs.declared.machine_instructions.Operation.{Operation
 use Rattle.flow_program.specs.declared.machine_instructions.Operation.TheVariants as op
 use Rattle.flow_program.specs.declared.programs.Flow.{Flow}
 use Rattle.store_domain_sound_programs.specs.Premises.{HasPremises}
-use Rattle.abstract_steps_sound.specs.OperandTypes.{HasOperands}
-use Rattle.abstract_steps_sound.specs.SoundSteps.{StepIsSound, AreSound}
-use Rattle.abstract_steps_sound.proofs.ValueSteps.{value_step_sound}
-use Rattle.abstract_steps_sound.proofs.PointerSteps.{pointer_step_sound}
+use Rattle.abstract_steps_sound_copies.specs.OperandTypes.{HasOperands}
+use Rattle.abstract_steps_sound_copies.specs.SoundSteps.{StepIsSound, AreSound}
+use Rattle.abstract_steps_sound_copies.proofs.ValueSteps.{value_step_sound}
+use Rattle.abstract_steps_sound_copies.proofs.PointerSteps.{pointer_step_sound}
 use Rattle.abstract_steps_sound_copies.proofs.LoadSteps.{load_sound}
 use Rattle.abstract_steps_sound_copies.proofs.StoreSteps.{store_sound}
 use Rattle.abstract_steps_sound_leave.proofs.Forgetting.{forget_sound}

@@ -17,7 +17,7 @@ use Rattle.flow_program.specs.declared.programs.Flow.{Flow}
 use Rattle.value_domain.specs.declared.row_cells.Cell.{Cell}
 use Rattle.store_domain_meaning.specs.Coverage.{EachRunIsCovered}
 use Rattle.store_domain_sound_programs.specs.Premises.{AreHeld}
-use Rattle.abstract_steps_sound.specs.SoundSteps.{AreSound}
+use Rattle.abstract_steps_sound_copies.specs.SoundSteps.{AreSound}
 use Rattle.abstract_steps_sound_reallocations.specs.AllocationCalls.{Allocates}
 use Rattle.abstract_steps_sound_reallocations.specs.ReallocationCalls.{Reallocates}
 use Rattle.abstract_steps_sound_spelling.specs.SpellSteps.{SpellsBytes}

@@ -18,7 +18,7 @@ use Rattle.store_domain_meaning.specs.SoundMemory.{IsMemoryOf}
 use Rattle.store_domain_meaning.specs.ValueMeaning.{Naming, StandsZero}
 use Rattle.store_domain_meaning.specs.RowMeaning.{IsLiveOf, array_of, array_bytes}
 use Rattle.store_domain_sound.proofs.Slices.{get_take, get_drop}
-use Rattle.store_domain_sound_chars.proofs.ByteArrays.{IsIn}
+use Rattle.store_domain_sound_regions.proofs.ByteArrays.{IsIn}
 use Rattle.store_domain_sound_regions.specs.RegionWrites.{IsRegion}
 use Rattle.store_domain_sound_regions.proofs.RegionArrays.{array_short, array_apart, put_zero_stands}
 use Rattle.abstract_steps_sound_spelling.proofs.Texts.{AreOf, first_zero_stands}

@@ -5,3 +5,7 @@ pub mod Trails
 pub mod StringCalls
 pub use Rattle.abstract_steps_sound_calls.proofs.Calls
 pub use Rattle.abstract_steps_sound_calls.proofs.CharacterNumbers
+pub use Rattle.abstract_steps_sound_calls.proofs.Admitted
+pub use Rattle.abstract_steps_sound_calls.proofs.NearScalars
+pub use Rattle.abstract_steps_sound_calls.proofs.PutTemps
+pub use Rattle.abstract_steps_sound_calls.proofs.Replies

@@ -11,3 +11,5 @@ pub use Rattle.abstract_steps_sound_edges.proofs.EdgeSteps
 pub use Rattle.abstract_steps_sound_edges.proofs.TakenEdges
 pub use Rattle.abstract_steps_sound_edges.proofs.Blocks
 pub use Rattle.abstract_steps_sound_edges.proofs.Covering
+pub use Rattle.abstract_steps_sound_objects.proofs.Admitted
+pub use Rattle.abstract_steps_sound_objects.proofs.NearScalars

@@ -8,3 +8,8 @@ pub use Rattle.abstract_steps_instructions.specs.CallSteps
 pub use Rattle.abstract_steps_instructions.specs.MemorySteps
 pub use Rattle.abstract_steps_instructions.specs.StepViolations
 pub use Rattle.abstract_steps_instructions.specs.Steps
+pub use Rattle.abstract_steps.specs.StartRows
+pub use Rattle.abstract_steps_instructions.specs.IntegerSteps
+pub use Rattle.abstract_steps_instructions.specs.PointerSteps
+pub use Rattle.abstract_steps_instructions.specs.ResultTemps
+pub use Rattle.abstract_steps_instructions.specs.Scalars

@@ -6,3 +6,4 @@ pub mod Units
 pub use Rattle.c_types_laws_stores.proofs.Expressing
 pub use Rattle.c_types_laws_stores.proofs.Growing
 pub use Rattle.c_types_laws_stores.proofs.Leading
+pub use Rattle.c_types_laws_stores.proofs.Initials

@@ -27,8 +27,8 @@ use Rattle.c_types_objects.specs.LocalObjects.{PartsView, with_object, may_be_lo
 use Rattle.c_types_statements.specs.LocalDeclarations as locals
 use Rattle.c_types_statements.specs.StaticInitializers as statics
 use Rattle.c_types_statements.specs.StaticInitializers.{has_size}
-use Rattle.c_types_laws_stores.specs.PlacedStores.{IsInitialized}
-use Rattle.c_types_laws_stores.proofs.Initials.{stores_placed}
+use Rattle.c_types_marks_layouts.specs.PlacedStores.{IsInitialized}
+use Rattle.c_types_marks_layouts.proofs.Initials.{stores_placed}
 use Rattle.flow_lower_tasks.specs.TermKinds.{term_type}
 use Rattle.lib_models_effects.specs.LibraryChecks.{most_size}
 use Rattle.ref_machine_looks.specs.LookedTypes.{is_scalar_type}

@@ -6,3 +6,4 @@ pub mod Specifying
 pub mod NearStores
 pub use Rattle.c_types_laws_units.proofs.Kept
 pub use Rattle.c_types_laws_units.proofs.Bodies
+pub use Rattle.c_types_laws_units.proofs.Initials

@@ -1,1 +1,2 @@
 pub mod LaidStructs
+pub use Rattle.c_types_laws_units.specs.PlacedStores

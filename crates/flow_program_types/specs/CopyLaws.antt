@@ -5,7 +5,7 @@ use Rattle.c_layout.specs.StructViews.{StructView, structs_view}
 use Rattle.c_layout.specs.Types.{Ty, Struct}
 use Rattle.c_layout.specs.declared.shapes.BaseInfo.{BaseInfo}
 use Rattle.flow_program.specs.declared.programs.Flow.{Flow}
-use Rattle.abstract_steps_single_copies.specs.TypedCopies.{IsAtStruct}
+use Rattle.abstract_steps_single_runs.specs.TypedCopies.{IsAtStruct}
 use Rattle.flow_program_types.specs.StandingTypes.{AreLaidOut, Stands}
 use Rattle.flow_program_types.specs.TypedPrograms.{structs_of, IsObjectOf}
 

@@ -10,7 +10,7 @@ use Rattle.c_layout.specs.Types.{Ty, Int, Pointer, Array, Struct, Void}
 use Rattle.store_domain_structs.specs.LeafCounts.{bytes_in}
 use Rattle.store_domain_laws_layouts.specs.LaidApart.{is_member_in, are_members_in, are_laid_apart}
 use Rattle.store_domain_laws_tags.proofs.TypeTags.{member_is}
-use Rattle.flow_program_types.specs.TypeBytes.{behind, member_bytes, bytes_with, struct_bytes, ScalarByte, own_scalar, scalar_byte}
+use Rattle.flow_program_types_layouts.specs.TypeBytes.{behind, member_bytes, bytes_with, struct_bytes, ScalarByte, own_scalar, scalar_byte}
 use Rattle.flow_program_types_layouts.proofs.RepeatedBytes.{Ends, behind_before}
 use Rattle.flow_program_types_layouts.proofs.TypeEnds.{EndsAlone, nested_ends, type_ends}
 

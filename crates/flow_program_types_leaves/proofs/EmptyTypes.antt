@@ -12,7 +12,7 @@ use Rattle.flow_program.specs.ModelKinds as flow
 use Rattle.store_domain_structs.specs.LeafCounts.{bytes_in}
 use Rattle.store_domain_laws_layouts.specs.LaidApart.{has_class_bytes, is_member_in, are_members_in}
 use Rattle.store_domain_laws_tags.proofs.TypeTags.{model_bytes, some_bytes, full_size, long_size, short_size, member_is, laid_out}
-use Rattle.flow_program_types.specs.StandingTypes.{AreLaidOut}
+use Rattle.flow_program_types_layouts.specs.StandingTypes.{AreLaidOut}
 
 -- of so many of a size, none or each of them has no bytes
 no_product : (n size : ℕ) → suc n * size ≡ 0 → size ≡ 0

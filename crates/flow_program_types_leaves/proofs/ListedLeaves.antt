@@ -8,8 +8,8 @@ use Rattle.c_layout.specs.declared.leaf_lists.Leaf.{Leaf}
 use Rattle.c_layout.specs.Leaves.{repeated}
 use Rattle.c_layout.specs.Types.{Ty}
 use Rattle.lib_models_memory.specs.ScalarSizes.{class_bytes}
-use Rattle.flow_program_types.specs.TypeBytes.{behind, repeated_bytes, ScalarByte}
-use Rattle.flow_program_types.specs.LeafTypes.{IsLeafOf, HasLeaf}
+use Rattle.flow_program_types_layouts.specs.TypeBytes.{behind, repeated_bytes, ScalarByte}
+use Rattle.flow_program_types_layouts.specs.LeafTypes.{IsLeafOf, HasLeaf}
 use Rattle.flow_program_types_layouts.proofs.RepeatedBytes.{Ends, behind_on}
 use Rattle.flow_program_types_leaves.proofs.ByteEnds.{or_is, behind_is, own_byte}
 

@@ -16,9 +16,9 @@ use Rattle.lib_models_memory.specs.ScalarSizes.{class_bytes}
 use Rattle.store_domain_structs.specs.LeafCounts.{bytes_in}
 use Rattle.store_domain_laws_layouts.specs.LaidApart.{has_class_bytes, is_member_in, are_members_in}
 use Rattle.store_domain_laws_tags.proofs.TypeTags.{model_bytes, short_size, member_is, laid_out}
-use Rattle.flow_program_types.specs.TypeBytes.{behind, repeated_bytes, member_bytes, struct_bytes, ScalarByte, own_scalar, scalar_byte}
-use Rattle.flow_program_types.specs.StandingTypes.{AreLaidOut}
-use Rattle.flow_program_types.specs.LeafTypes.{ScalarsAreLeaves, LeavesAreScalars}
+use Rattle.flow_program_types_layouts.specs.TypeBytes.{behind, repeated_bytes, member_bytes, struct_bytes, ScalarByte, own_scalar, scalar_byte}
+use Rattle.flow_program_types_layouts.specs.StandingTypes.{AreLaidOut}
+use Rattle.flow_program_types_layouts.specs.LeafTypes.{ScalarsAreLeaves, LeavesAreScalars}
 use Rattle.flow_program_types_layouts.proofs.RepeatedBytes.{Ends, behind_ends}
 use Rattle.flow_program_types_leaves.proofs.ByteEnds.{none_before, bytes_at, ends_at}
 use Rattle.flow_program_types_leaves.proofs.ListedLeaves.{AreLeaves, no_leaves, one_leaf, leaves_as, leaves_behind, leaves_joined, leaves_repeated}

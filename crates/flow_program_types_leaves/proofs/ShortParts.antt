@@ -7,7 +7,7 @@ use Rattle.c_layout.specs.Leaves.{is_short, behind_all}
 use Rattle.c_layout.specs.StructViews.{FieldView, StructView, struct_at}
 use Rattle.c_layout.specs.Types.{Ty, Int, Pointer, Array, Struct, Void}
 use Rattle.flow_lower_plain.specs.ShortArrays.{are_short, have_short_arrays, has_short_members, has_short_arrays_within, has_short_arrays}
-use Rattle.flow_program_types.specs.TypeBytes.{behind, repeated_bytes, member_bytes, bytes_with, struct_bytes, own_struct, struct_byte}
+use Rattle.flow_program_types_layouts.specs.TypeBytes.{behind, repeated_bytes, member_bytes, bytes_with, struct_bytes, own_struct, struct_byte}
 use Rattle.flow_program_types_leaves.proofs.ByteEnds.{or_is, behind_is}
 
 -- ---- structures may nest less deep

@@ -12,11 +12,11 @@ use Rattle.flow_lower_plain.specs.ShortArrays.{has_short_arrays}
 use Rattle.store_domain_meaning.specs.Places.{OwnedByLeaf}
 use Rattle.store_domain_laws_tags.proofs.TypeTags.{some_bytes}
 use Rattle.abstract_steps_single_copies.specs.TypedCopies.{IsSameLeaf, HasOwnLeaf, HasStructLeaf}
-use Rattle.flow_program_types.specs.TypeBytes.{ScalarByte, own_struct, member_bytes, bytes_with, struct_bytes, scalar_byte, struct_byte}
-use Rattle.flow_program_types.specs.StandingTypes.{AreLaidOut, Stands}
-use Rattle.flow_program_types.specs.LeafTypes.{IsLeafOf, HasScalar}
-use Rattle.flow_program_types.specs.TypedPrograms.{structs_of}
-use Rattle.flow_program_types.specs.CopyLaws.{StructuresHaveLeaves}
+use Rattle.flow_program_types_layouts.specs.TypeBytes.{ScalarByte, own_struct, member_bytes, bytes_with, struct_bytes, scalar_byte, struct_byte}
+use Rattle.flow_program_types_layouts.specs.StandingTypes.{AreLaidOut, Stands}
+use Rattle.flow_program_types_layouts.specs.LeafTypes.{IsLeafOf, HasScalar}
+use Rattle.flow_program_types_layouts.specs.TypedPrograms.{structs_of}
+use Rattle.flow_program_types_layouts.specs.CopyLaws.{StructuresHaveLeaves}
 use Rattle.flow_program_types_leaves.proofs.ByteEnds.{scalar_ends}
 use Rattle.flow_program_types_leaves.proofs.ScalarLeaves.{scalars_are_leaves, leaves_are_scalars}
 use Rattle.flow_program_types_leaves.proofs.EmptyTypes.{no_bytes}

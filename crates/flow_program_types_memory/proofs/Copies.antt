@@ -18,10 +18,10 @@ use Rattle.lib_models_effects.specs.StructCopies.{copied, may_copy, copy_made, c
 use Rattle.lib_models_effects.specs.Touches.{Spot, touched, is_allocated, storage_at}
 use Rattle.store_domain_sound.proofs.Reading.{behind_goes, IsTouched, touched_goes, region_at}
 use Rattle.store_domain_sound.proofs.Slices.{get_take, get_drop, get_left, get_right}
-use Rattle.flow_program_types.specs.TypeBytes.{scalar_byte}
-use Rattle.flow_program_types.specs.PointedTypes.{Target, Element, target_type, Points}
-use Rattle.flow_program_types.specs.TypedStates.{IsTypedMemory}
-use Rattle.flow_program_types.specs.EffectLaws.{KeepsTypes, CopiesKeepTypes}
+use Rattle.flow_program_types_layouts.specs.TypeBytes.{scalar_byte}
+use Rattle.flow_program_types_layouts.specs.PointedTypes.{Target, Element, target_type, Points}
+use Rattle.flow_program_types_layouts.specs.TypedStates.{IsTypedMemory}
+use Rattle.flow_program_types_layouts.specs.EffectLaws.{KeepsTypes, CopiesKeepTypes}
 use Rattle.flow_program_types_memory.proofs.PointedPlaces.{IsAt, points_at}
 use Rattle.flow_program_types_memory.proofs.TypedBytes.{AreTypedBytes, set_keeps}
 

@@ -20,10 +20,10 @@ use Rattle.store_domain_sound.proofs.Classes.{class_above}
 use Rattle.store_domain_sound.proofs.MachineLoads.{load_goes, load_same}
 use Rattle.store_domain_sound.proofs.Reading.{region_at}
 use Rattle.store_domain_sound.proofs.Slices.{get_map}
-use Rattle.flow_program_types.specs.PointedTypes.{Target, Element, target_type, Known, Pointing, Points, Has, IsOfKind, number_kind, pointer_kind}
-use Rattle.flow_program_types.specs.StandingTypes.{Stands}
-use Rattle.flow_program_types.specs.TypedStates.{IsTypedMemory}
-use Rattle.flow_program_types.specs.EffectLaws.{HasIf, LoadsAreTyped}
+use Rattle.flow_program_types_layouts.specs.PointedTypes.{Target, Element, target_type, Known, Pointing, Points, Has, IsOfKind, number_kind, pointer_kind}
+use Rattle.flow_program_types_layouts.specs.StandingTypes.{Stands}
+use Rattle.flow_program_types_layouts.specs.TypedStates.{IsTypedMemory}
+use Rattle.flow_program_types_layouts.specs.EffectLaws.{HasIf, LoadsAreTyped}
 use Rattle.flow_program_types_memory.proofs.PointedPlaces.{points_at, pointer_there, pointer_wide}
 
 -- what contents are as a pointer: null, or the pointer whose first part is the first of them

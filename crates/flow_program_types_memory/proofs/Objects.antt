@@ -17,9 +17,9 @@ use Rattle.lib_models_effects.specs.ObjectEffects.{blank_bytes, fresh, next_inst
 use Rattle.lib_models_effects.specs.ScalarBytes.{refilled}
 use Rattle.lib_models_effects.specs.Touches.{storage_of, is_allocated, storage_at}
 use Rattle.store_domain_sound.proofs.Slices.{get_left, get_right, get_set_same, get_set_other, get_map}
-use Rattle.flow_program_types.specs.PointedTypes.{Element, Points}
-use Rattle.flow_program_types.specs.TypedStates.{AreDeclared, IsTypedMemory}
-use Rattle.flow_program_types.specs.EffectLaws.{EntersKeepTypes, LeavesKeepTypes, ForgetsKeepTypes, ClearsKeepTypes, SpellsKeepTypes}
+use Rattle.flow_program_types_layouts.specs.PointedTypes.{Element, Points}
+use Rattle.flow_program_types_layouts.specs.TypedStates.{AreDeclared, IsTypedMemory}
+use Rattle.flow_program_types_layouts.specs.EffectLaws.{EntersKeepTypes, LeavesKeepTypes, ForgetsKeepTypes, ClearsKeepTypes, SpellsKeepTypes}
 use Rattle.flow_program_types_memory.proofs.TypedBytes.{IsNoPart, no_part, AreTypedBytes, typed_at, typed_refilled, text_typed, set_keeps}
 
 -- ---- an object more

@@ -8,9 +8,9 @@ use Rattle.c_layout.specs.StructViews.{StructView}
 use Rattle.c_layout.specs.Types.{Ty, Pointer, Void}
 use Rattle.c_layout.specs.declared.data_model.Model.{Model}
 use Rattle.lib_models_memory.specs.Bytes.{into}
-use Rattle.flow_program_types.specs.TypeBytes.{ScalarByte, scalar_byte}
-use Rattle.flow_program_types.specs.StandingTypes.{Stands}
-use Rattle.flow_program_types.specs.PointedTypes.{Target, Element, Place, target_type, IsElement, Points}
+use Rattle.flow_program_types_layouts.specs.TypeBytes.{ScalarByte, scalar_byte}
+use Rattle.flow_program_types_layouts.specs.StandingTypes.{Stands}
+use Rattle.flow_program_types_layouts.specs.PointedTypes.{Target, Element, Place, target_type, IsElement, Points}
 
 -- what a pointer points to whose byte it is
 abbrev pointed : Ty → Ty

@@ -14,9 +14,9 @@ use Rattle.lib_models_effects.specs.Worlds.{World, Reply, goes, stops, world_of,
 use Rattle.lib_models_effects.specs.PointerEffects.{is_ended, narrowed_by, narrow_pointer, narrow, distance_of, moved_into, moved, shift}
 use Rattle.lib_models_effects.specs.Touches.{touched}
 use Rattle.store_domain_sound.proofs.Reading.{behind_goes, touched_goes}
-use Rattle.flow_program_types.specs.StandingTypes.{Stands}
-use Rattle.flow_program_types.specs.PointedTypes.{Target, Element, target_type, Pointing, IsElement, Points, Has}
-use Rattle.flow_program_types.specs.EffectLaws.{GivesKnown, NarrowsAreTyped, ShiftsAreTyped}
+use Rattle.flow_program_types_layouts.specs.StandingTypes.{Stands}
+use Rattle.flow_program_types_layouts.specs.PointedTypes.{Target, Element, target_type, Pointing, IsElement, Points, Has}
+use Rattle.flow_program_types_layouts.specs.EffectLaws.{GivesKnown, NarrowsAreTyped, ShiftsAreTyped}
 use Rattle.flow_program_types_layouts.proofs.StandingTypes.{stands_through}
 use Rattle.flow_program_types_memory.proofs.PointedPlaces.{points_at}
 

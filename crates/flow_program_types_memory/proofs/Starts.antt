@@ -22,9 +22,9 @@ use Rattle.store_domain_sound.proofs.Reading.{behind_goes}
 use Rattle.store_domain_sound.proofs.Slices.{get_left, get_right, get_map}
 use Rattle.abstract_steps_sound_first_memory.specs.FirstStates.{input_bytes}
 use Rattle.abstract_steps_sound_first_memory.proofs.FirstMemory.{get_mapped}
-use Rattle.flow_program_types.specs.TypedStates.{AreDeclared, IsTypedMemory}
-use Rattle.flow_program_types.specs.TypedPrograms.{object_type, text_type, first_types, IsTypedStore, HasTypedObjects}
-use Rattle.flow_program_types.specs.EffectLaws.{StartsAreTyped}
+use Rattle.flow_program_types_layouts.specs.TypedStates.{AreDeclared, IsTypedMemory}
+use Rattle.flow_program_types_layouts.specs.TypedPrograms.{object_type, text_type, first_types, IsTypedStore, HasTypedObjects}
+use Rattle.flow_program_types_layouts.specs.EffectLaws.{StartsAreTyped}
 use Rattle.flow_program_types_memory.proofs.Objects.{all_typed}
 use Rattle.flow_program_types_memory.proofs.TypedBytes.{AreTypedBytes, typed_refilled, numbers_typed, pointer_typed, text_typed, text_plain}
 

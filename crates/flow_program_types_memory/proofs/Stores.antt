@@ -22,10 +22,10 @@ use Rattle.lib_models_effects.specs.ScalarBytes.{bits_in, scalar_bytes}
 use Rattle.lib_models_effects.specs.Touches.{Spot, touched, is_allocated, storage_at}
 use Rattle.store_domain_sound.proofs.Classes.{class_above}
 use Rattle.store_domain_sound.proofs.Reading.{behind_goes, IsTouched, touched_goes}
-use Rattle.flow_program_types.specs.PointedTypes.{Target, Element, target_type, Known, Points, IsOfKind, number_kind, pointer_kind}
-use Rattle.flow_program_types.specs.StandingTypes.{Stands}
-use Rattle.flow_program_types.specs.TypedStates.{AreDeclared, IsTypedMemory}
-use Rattle.flow_program_types.specs.EffectLaws.{HasIf, KeepsTypes, StoresKeepTypes}
+use Rattle.flow_program_types_layouts.specs.PointedTypes.{Target, Element, target_type, Known, Points, IsOfKind, number_kind, pointer_kind}
+use Rattle.flow_program_types_layouts.specs.StandingTypes.{Stands}
+use Rattle.flow_program_types_layouts.specs.TypedStates.{AreDeclared, IsTypedMemory}
+use Rattle.flow_program_types_layouts.specs.EffectLaws.{HasIf, KeepsTypes, StoresKeepTypes}
 use Rattle.flow_program_types_memory.proofs.PointedPlaces.{points_at, pointer_there, same_pointed, pointer_wide}
 use Rattle.flow_program_types_memory.proofs.TypedBytes.{AreTypedBytes, AreTypedContents, typed_at, typed_refilled, numbers_typed, pointer_typed, set_keeps}
 

@@ -14,8 +14,8 @@ use Rattle.lib_models_memory.specs.Bytes.{MachinePointer, Content, indeterminate
 use Rattle.lib_models_memory.specs.Instances.{bytes_at}
 use Rattle.lib_models_effects.specs.Worlds.{World, goes, world_of, with_memory}
 use Rattle.lib_models_effects.specs.Tests.{TestedSide, object, constant, nothing, SideTest, scalar_size, side_scalar, side_labels, turned, test_holds, relabelled, byte_relabelled, all_relabelled, object_relabelled, with_labels, bounded, after_test, passing, is_number}
-use Rattle.flow_program_types.specs.TypedStates.{IsTypedMemory}
-use Rattle.flow_program_types.specs.EffectLaws.{KeepsTypes, TestsKeepTypes, CasesKeepTypes}
+use Rattle.flow_program_types_layouts.specs.TypedStates.{IsTypedMemory}
+use Rattle.flow_program_types_layouts.specs.EffectLaws.{KeepsTypes, TestsKeepTypes, CasesKeepTypes}
 use Rattle.flow_program_types_memory.proofs.TypedBytes.{set_keeps}
 
 -- ---- contents with other labels

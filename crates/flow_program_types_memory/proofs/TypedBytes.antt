@@ -15,10 +15,10 @@ use Rattle.lib_models_effects.specs.ScalarBytes.{number_bytes, pointer_bytes, re
 use Rattle.lib_models_effects.specs.Touches.{storage_of, storage_at, with_bytes, set_bytes}
 use Rattle.store_domain_sound.proofs.Slices.{get_take, get_set_same, get_set_other}
 use Rattle.abstract_steps_sound_first_memory.proofs.StartBytes.{numbers_at, parts_at, refilled_at}
-use Rattle.flow_program_types.specs.TypeBytes.{scalar_byte}
-use Rattle.flow_program_types.specs.PointedTypes.{Element, Points}
-use Rattle.flow_program_types.specs.TypedStates.{IsTypedMemory}
-use Rattle.flow_program_types.specs.EffectLaws.{KeepsTypes}
+use Rattle.flow_program_types_layouts.specs.TypeBytes.{scalar_byte}
+use Rattle.flow_program_types_layouts.specs.PointedTypes.{Element, Points}
+use Rattle.flow_program_types_layouts.specs.TypedStates.{IsTypedMemory}
+use Rattle.flow_program_types_layouts.specs.EffectLaws.{KeepsTypes}
 
 -- ---- contents that are no pointers
 

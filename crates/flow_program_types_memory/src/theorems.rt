@@ -1,5 +1,5 @@
 //! Effects on memory keep to the types of pointers, where they go on.
-ghost use Rattle.flow_program_types.specs.EffectLaws.{NarrowsAreTyped, ShiftsAreTyped, LoadsAreTyped, StoresKeepTypes, CopiesKeepTypes, EntersKeepTypes, LeavesKeepTypes, ForgetsKeepTypes, ClearsKeepTypes, SpellsKeepTypes, TestsKeepTypes, CasesKeepTypes, StartsAreTyped};
+ghost use Rattle.flow_program_types_layouts.specs.EffectLaws.{NarrowsAreTyped, ShiftsAreTyped, LoadsAreTyped, StoresKeepTypes, CopiesKeepTypes, EntersKeepTypes, LeavesKeepTypes, ForgetsKeepTypes, ClearsKeepTypes, SpellsKeepTypes, TestsKeepTypes, CasesKeepTypes, StartsAreTyped};
 
 /// A pointer that is narrowed to a part of what it points to points to the type of the part.
 pub fn narrows_are_typed()

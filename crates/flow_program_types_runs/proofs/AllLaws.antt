@@ -1,6 +1,6 @@
 -- The laws of types and of effects hold.
-use Rattle.flow_program_types_layouts.proofs.StandingTypes.{stands_itself, stands_through, element_stands}
-use Rattle.flow_program_types_layouts.proofs.StructuresApart.{apart}
+use Rattle.flow_program_types_leaves.proofs.StandingTypes.{stands_itself, stands_through, element_stands}
+use Rattle.flow_program_types_leaves.proofs.StructuresApart.{apart}
 use Rattle.flow_program_types_leaves.proofs.ScalarLeaves.{scalars_are_leaves}
 use Rattle.flow_program_types_leaves.proofs.StructLeaves.{structures_have_leaves}
 use Rattle.flow_program_types_memory.proofs.Copies.{copies}

@@ -22,7 +22,7 @@ use Rattle.flow_program_machine.specs.FlowStates.{Standing}
 use Rattle.store_domain_sound.specs.Scalars.{signed_in}
 use Rattle.abstract_steps_single_copies.specs.TypedAccesses.{IsAtLeaf, PointsToKind}
 use Rattle.abstract_steps_single_copies.specs.TypedCopies.{PointsToStruct, AreOneOrApart}
-use Rattle.abstract_steps_single_runs.specs.SingleRuns.{IsTypedStep}
+use Rattle.flow_program_types.specs.SingleRuns.{IsTypedStep}
 use Rattle.flow_program_types.specs.TypeBytes.{scalar_byte}
 use Rattle.flow_program_types.specs.StandingTypes.{AreLaidOut, Stands}
 use Rattle.flow_program_types.specs.LeafTypes.{IsLeafOf, HasLeaf}
@@ -136,17 +136,18 @@ module _ (laws : TypeLaws) (flow : Flow) (laid : AreLaidOut flow.model (structs_
           let q = points_at structs m.pointer types from j at below above view.size points_q (omega (arith, size, some)) high' in
           let outer : q.outer ≡ p.outer = same_Some q.outer p.outer (sym q.is ∙ (ap types (sym same) ∙ p.is)) in
           laws.apart structs m.pointer p.outer index offset at x
-              (subst (λ z. Stands structs m.pointer p.outer z offset) is_to p.stands)
-              (subst (λ z. Stands structs m.pointer p.outer z at) is_from (subst (λ z. Stands structs m.pointer z (target_type from) at) outer q.stands))
-              (slice_get_within structs index view seen) one (subst (λ z. x < offset + z) size two) three (subst (λ z. x < at + z) size four)
+          (subst (λ z. Stands structs m.pointer p.outer z offset) is_to p.stands)
+          (subst (λ z. Stands structs m.pointer p.outer z at) is_from (subst (λ z. Stands structs m.pointer z (target_type from) at) outer q.stands))
+          (slice_get_within structs index view seen) one (subst (λ z. x < offset + z) size two) three (subst (λ z. x < at + z) size four)
 
     -- ---- instructions
 
     pub access_typed : (o : Operation) → IsTypedOperation flow objects before after o → IsTypedStep flow o s
     access_typed _ (loads to from kind t known q of_kind gives) = λ p e. kind_there q.target kind t q.is (scalar_kind t kind known of_kind) p (points_of from t q p e)
     access_typed _ (stores_in to from kind kept t known q of_kind storable keeps) = λ p e. kind_there q.target kind t q.is (scalar_kind t kind known of_kind) p (points_of to t q p e)
-    access_typed _ (copies to from index q r some kept) =
-        (λ p e. points_struct index some q.target q.is p (points_of to (Struct index) q p e),
-        λ p e. points_struct index some r.target r.is p (points_of from (Struct index) r p e),
-        λ p o e there. one_or_apart index some q.target r.target q.is r.is p o (points_of to (Struct index) q p e) (points_of from (Struct index) r o there))
+    access_typed _ (copies to from index q r some kept) = (
+      λ p e. points_struct index some q.target q.is p (points_of to (Struct index) q p e),
+      λ p e. points_struct index some r.target r.is p (points_of from (Struct index) r p e),
+      λ p o e there. one_or_apart index some q.target r.target q.is r.is p o (points_of to (Struct index) q p e) (points_of from (Struct index) r o there),
+    )
     access_typed _ _ = tt

@@ -10,7 +10,7 @@ use Rattle.flow_program_views.specs.ProgramViews.{flow_view}
 use Rattle.flow_program_machine.specs.FlowStates.{Standing, running}
 use Rattle.flow_program_machine.specs.FlowStarts.{flow_begin}
 use Rattle.flow_program_machine.specs.FlowSteps.{flow_steps}
-use Rattle.abstract_steps_single_runs.specs.SingleRuns.{IsTypedStep}
+use Rattle.flow_program_types.specs.SingleRuns.{IsTypedStep}
 use Rattle.flow_program_types.specs.TypedStates.{IsTyped}
 use Rattle.flow_program_types.specs.TypedPrograms.{structs_of, Typing, IsTypedProgram, TypedProgramsHaveTypedAccesses}
 use Rattle.flow_program_types_runs.proofs.TypeLaws.{TypeLaws}

@@ -15,3 +15,4 @@ pub mod SourceRuns
 pub mod RunFacts
 pub use Rattle.flow_lower_functions.specs.Functions
 pub use Rattle.flow_lower_functions.specs.NamedObject
+pub use Rattle.flow_lower_functions.specs.Calls

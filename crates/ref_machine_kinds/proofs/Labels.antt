@@ -3,11 +3,11 @@ use Rattle.std.proofs.Common.{◌≡◌, ℕ, Bool, true, false, List, [], ◌�
 use Rattle.c_layout.specs.CheckedTrees as tree
 use Rattle.c_layout.specs.CheckedTrees.{StatementTree, StatementTrees, statement_trees}
 use Rattle.c_layout.specs.CheckedUnits.{UnitView, FunctionView}
-use Rattle.ref_machine.specs.Items as item
-use Rattle.ref_machine.specs.Items.{Item}
-use Rattle.ref_machine.specs.StatementItems.{statements, do_test, for_step, body}
-use Rattle.ref_machine.specs.LabelSearch as sought
-use Rattle.ref_machine.specs.LabelSearch.{Sought, is_label, is_case, is_other, inside_switch, first, here_or, found, found_in, found_among, from_label}
+use Rattle.ref_machine_operations.specs.Items as item
+use Rattle.ref_machine_operations.specs.Items.{Item}
+use Rattle.ref_machine_operations.specs.StatementItems.{statements, do_test, for_step, body}
+use Rattle.ref_machine_operations.specs.LabelSearch as sought
+use Rattle.ref_machine_operations.specs.LabelSearch.{Sought, is_label, is_case, is_other, inside_switch, first, here_or, found, found_in, found_among, from_label}
 use Rattle.ref_machine_operations.specs.Kinds.{Kind}
 use Rattle.ref_machine_returns.specs.StandingJumps.{JumpsStand, AllJumpsStand}
 use Rattle.ref_machine_kinds.specs.KindedStatements.{KindedStatement, KindedStatements, KindedFunction}

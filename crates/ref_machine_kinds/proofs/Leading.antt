@@ -2,9 +2,9 @@
 use Rattle.std.proofs.Common.{◌≡◌, Bool, true, false, List, [], ◌∷◌, ◌++◌, Option, append_assoc, refl, ap, sym, subst}
 use Rattle.c_layout.specs.CheckedTrees.{TermTree}
 use Rattle.c_layout.specs.CheckedUnits.{UnitView, FunctionView}
-use Rattle.ref_machine.specs.Items as item
-use Rattle.ref_machine.specs.Items.{Item, Items, items_of, listed}
-use Rattle.ref_machine.specs.TermItems.{if_used}
+use Rattle.ref_machine_operations.specs.Items as item
+use Rattle.ref_machine_operations.specs.Items.{Item, Items, items_of, listed}
+use Rattle.ref_machine_operations.specs.TermItems.{if_used}
 use Rattle.ref_machine_operations.specs.Kinds.{Kind}
 use Rattle.ref_machine_kinds.specs.KindedTerms.{term_kind, KindedTerm}
 use Rattle.ref_machine_kinds.specs.KindedItems.{Effect, AllDo, Does}

@@ -4,7 +4,7 @@ use Rattle.std.proofs.lemmas.List.{reverse-append}
 use Rattle.c_layout.specs.CheckedTrees as tree
 use Rattle.c_layout.specs.CheckedTrees.{TermTrees}
 use Rattle.c_layout.specs.CheckedUnits.{UnitView, FunctionView}
-use Rattle.ref_machine.specs.TermItems.{arguments, argument_count}
+use Rattle.ref_machine_operations.specs.TermItems.{arguments, argument_count}
 use Rattle.ref_machine_operations.specs.Kinds.{Kind}
 use Rattle.ref_machine_kinds.specs.KindedTerms.{term_kind, argument_kinds, HaveParameters, KindedTerms}
 use Rattle.ref_machine_kinds.specs.KindedItems.{parameter_kinds}

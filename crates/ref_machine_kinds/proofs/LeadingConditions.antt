@@ -13,10 +13,10 @@ use Rattle.c_layout.specs.declared.syntax_tree.expressions.BinaryOp.TheVariants.
 use Rattle.c_layout.specs.declared.syntax_tree.expressions.LogicalOp.TheVariants.{And, Or}
 use Rattle.flow_lower_tasks.specs.TermKinds.{peeled, is_null_constant}
 use Rattle.flow_lower_conditions.specs.Conditions.{LineCallView, line_call_of, line_call_in, line_call, line_call_beside, ReadView, read_test, compared_read, read_by}
-use Rattle.ref_machine.specs.Items as item
-use Rattle.ref_machine.specs.Items.{Item, items_of}
-use Rattle.ref_machine.specs.TermItems.{arguments}
-use Rattle.ref_machine.specs.ConditionItems.{line_items, leaf_by, leaf, condition}
+use Rattle.ref_machine_operations.specs.Items as item
+use Rattle.ref_machine_operations.specs.Items.{Item, items_of}
+use Rattle.ref_machine_operations.specs.TermItems.{arguments}
+use Rattle.ref_machine_operations.specs.ConditionItems.{line_items, leaf_by, leaf, condition}
 use Rattle.ref_machine_operations.specs.Kinds.{Kind, Number, Address}
 use Rattle.ref_machine_kinds.specs.KindedTerms.{term_kind, argument_kinds, CallsLibrary, KindedTerm, KindedTerms}
 use Rattle.ref_machine_kinds.proofs.Leading.{Through, all_through, through_both}

@@ -6,9 +6,9 @@ use Rattle.c_layout.specs.CheckedTrees.{TermTree, StatementTree, StatementTrees,
 use Rattle.c_layout.specs.CheckedUnits.{UnitView, FunctionView}
 use Rattle.c_layout.specs.declared.checked_tree.checked_statements.CaseLabel.{CaseLabel}
 use Rattle.flow_lower_conditions.specs.Tests.{named}
-use Rattle.ref_machine.specs.Items as item
-use Rattle.ref_machine.specs.Items.{Item}
-use Rattle.ref_machine.specs.StatementItems.{statements, start_scalar, stored, all_stored, while_turn, do_test, do_turn, clause, for_step, for_body, for_turn, returned, of_statement, list_statements}
+use Rattle.ref_machine_operations.specs.Items as item
+use Rattle.ref_machine_operations.specs.Items.{Item}
+use Rattle.ref_machine_operations.specs.StatementItems.{statements, start_scalar, stored, all_stored, while_turn, do_test, do_turn, clause, for_step, for_body, for_turn, returned, of_statement, list_statements}
 use Rattle.ref_machine_operations.specs.Kinds.{Kind, Number, Address}
 use Rattle.ref_machine_returns.specs.StandingJumps.{JumpsStand, AllJumpsStand}
 use Rattle.ref_machine_kinds.specs.KindedTerms.{term_kind, KindedTerm}

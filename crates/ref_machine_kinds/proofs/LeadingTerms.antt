@@ -17,12 +17,12 @@ use Rattle.flow_lower_tasks.specs.declared.term_kinds.OperatorMeaning.{OperatorM
 use Rattle.flow_lower_tasks.specs.declared.term_kinds.OperatorMeaning.TheVariants as meant
 use Rattle.flow_lower_expressions.specs.Assignments.{keeps_old, number_operator}
 use Rattle.flow_lower_expressions.specs.Calls.{gives}
-use Rattle.ref_machine.specs.Operations as op
-use Rattle.ref_machine.specs.Operations.{RightFirst, Operation}
-use Rattle.ref_machine.specs.Items as item
-use Rattle.ref_machine.specs.Items.{Item}
-use Rattle.ref_machine.specs.TermItems.{address_items, if_used, left_if, operating, order_of, integer_kind, converted, assignment, compound, compound_shift, kept, store_step, step, pointer_step, arguments, argument_count, library_items}
-use Rattle.ref_machine.specs.ConditionItems.{choice_of, truth_of, logical, arm, conditional, term_items}
+use Rattle.ref_machine_operations.specs.Operations as op
+use Rattle.ref_machine_operations.specs.Operations.{RightFirst, Operation}
+use Rattle.ref_machine_operations.specs.Items as item
+use Rattle.ref_machine_operations.specs.Items.{Item}
+use Rattle.ref_machine_operations.specs.TermItems.{address_items, if_used, left_if, operating, order_of, integer_kind, converted, assignment, compound, compound_shift, kept, store_step, step, pointer_step, arguments, argument_count, library_items}
+use Rattle.ref_machine_operations.specs.ConditionItems.{choice_of, truth_of, logical, arm, conditional, term_items}
 use Rattle.ref_machine_operations.specs.Kinds.{Kind, Number, Address, kind_of_type}
 use Rattle.ref_machine_operations.specs.TakenKinds.{Operates, result_kind}
 use Rattle.ref_machine_operations.specs.TakenKinds as taken

@@ -1,9 +1,9 @@
 -- Where loops and turns end.
 use Rattle.std.proofs.Common.{◌≡◌, Bool, true, false, List, [], ◌∷◌, ◌++◌, Option, refl, subst}
 use Rattle.c_layout.specs.CheckedUnits.{UnitView, FunctionView}
-use Rattle.ref_machine.specs.Items as item
-use Rattle.ref_machine.specs.Items.{Item}
-use Rattle.ref_machine.specs.Scopes.{behind_loop, behind_turn}
+use Rattle.ref_machine_operations.specs.Items as item
+use Rattle.ref_machine_operations.specs.Items.{Item}
+use Rattle.ref_machine_operations.specs.Scopes.{behind_loop, behind_turn}
 use Rattle.ref_machine_operations.specs.Kinds.{Kind}
 use Rattle.ref_machine_kinds.specs.KindedItems.{ends_loop, ends_turn, Encloses, Does}
 

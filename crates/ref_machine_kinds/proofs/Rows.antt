@@ -8,7 +8,7 @@ use Rattle.c_layout.specs.CheckedUnits.{FunctionView, UnitView}
 use Rattle.c_layout.specs.declared.checked_tree.checked_terms.ObjectRef.TheVariants.{Local}
 use Rattle.c_layout.specs.declared.syntax_tree.expressions.BinaryOp.TheVariants.{Add}
 use Rattle.flow_lower_tasks.specs.TermKinds.{rank_of_int}
-use Rattle.ref_machine.specs.LabelSearch.{found}
+use Rattle.ref_machine_operations.specs.LabelSearch.{found}
 use Rattle.ref_machine_operations.specs.Kinds.{Number, Address}
 use Rattle.ref_machine_kinds.specs.KindedTerms.{KindedTerm}
 use Rattle.ref_machine_kinds.specs.KindedStatements.{KindedFunction}

@@ -4,10 +4,10 @@ use Rattle.c_layout.specs.CheckedTrees.{TermTree, StatementTree}
 use Rattle.c_layout.specs.CheckedUnits.{FunctionView, UnitView}
 use Rattle.c_layout.specs.declared.checked_tree.checked_statements.CaseLabel.{CaseLabel}
 use Rattle.flow_lower_tasks.specs.TermKinds.{is_void}
-use Rattle.ref_machine.specs.Items as item
-use Rattle.ref_machine.specs.Items.{Item, Items, listed}
-use Rattle.ref_machine.specs.LabelSearch.{from_label}
-use Rattle.ref_machine.specs.SourceStates.{Frame, function_at}
+use Rattle.ref_machine_operations.specs.Items as item
+use Rattle.ref_machine_operations.specs.Items.{Item, Items, listed}
+use Rattle.ref_machine_operations.specs.LabelSearch.{from_label}
+use Rattle.ref_machine_operations.specs.SourceStates.{Frame, function_at}
 use Rattle.ref_machine_operations.specs.Kinds.{Kind, Number, Address, kind_of_type}
 use Rattle.ref_machine_operations.specs.TakenKinds.{Operates}
 use Rattle.ref_machine_returns.specs.StandingJumps.{JumpsStand}

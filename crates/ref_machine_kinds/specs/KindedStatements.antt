@@ -5,10 +5,10 @@ use Rattle.c_layout.specs.CheckedTrees.{TermTree, StatementTree, StatementTrees,
 use Rattle.c_layout.specs.CheckedUnits.{FunctionView, UnitView}
 use Rattle.c_layout.specs.declared.checked_tree.checked_statements.CaseLabel.{CaseLabel}
 use Rattle.flow_lower_tasks.specs.TermKinds.{is_void}
-use Rattle.ref_machine.specs.Items.{Item}
-use Rattle.ref_machine.specs.LabelSearch as sought
-use Rattle.ref_machine.specs.LabelSearch.{found, from_label}
-use Rattle.ref_machine.specs.SourceStates.{function_at}
+use Rattle.ref_machine_operations.specs.Items.{Item}
+use Rattle.ref_machine_operations.specs.LabelSearch as sought
+use Rattle.ref_machine_operations.specs.LabelSearch.{found, from_label}
+use Rattle.ref_machine_operations.specs.SourceStates.{function_at}
 use Rattle.ref_machine_operations.specs.Kinds.{Number}
 use Rattle.ref_machine_kinds.specs.KindedTerms.{IsThere, term_kind, KindedTerm, KindedPlace}
 

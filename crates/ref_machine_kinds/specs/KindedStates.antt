@@ -2,8 +2,8 @@
 use Rattle.std.specs.Prelude.{◌≡◌, ℕ, Bool, List, [], ◌∷◌, ◌++◌, Option, Some}
 use Rattle.c_layout.specs.CheckedUnits.{FunctionView, UnitView}
 use Rattle.lib_models_memory.specs.Scalars.{Scalar}
-use Rattle.ref_machine.specs.Items.{Item}
-use Rattle.ref_machine.specs.SourceStates.{Frame, State, function_at}
+use Rattle.ref_machine_operations.specs.Items.{Item}
+use Rattle.ref_machine_operations.specs.SourceStates.{Frame, State, function_at}
 use Rattle.ref_machine_operations.specs.Kinds.{Kind, AreOf}
 use Rattle.ref_machine_kinds.specs.KindedItems.{called_by, left_kinds, Does}
 

@@ -9,9 +9,9 @@ use Rattle.c_layout.specs.declared.checked_tree.checked_terms.ObjectRef.TheVaria
 use Rattle.c_layout.specs.declared.library_functions.LibFn.{LibFn}
 use Rattle.flow_lower_tasks.specs.TermKinds.{is_void, scalar_of, term_type, lvalue_type}
 use Rattle.flow_lower_expressions.specs.Calls.{gives}
-use Rattle.ref_machine.specs.Functions.{local_type}
-use Rattle.ref_machine.specs.TermItems.{order_of}
-use Rattle.ref_machine.specs.SourceStates.{function_at}
+use Rattle.ref_machine_operations.specs.Functions.{local_type}
+use Rattle.ref_machine_operations.specs.TermItems.{order_of}
+use Rattle.ref_machine_operations.specs.SourceStates.{function_at}
 use Rattle.ref_machine_operations.specs.Kinds.{Kind, Number, Address, kind_of_type}
 use Rattle.ref_machine_operations.specs.TakenKinds.{Accepts, result_kind, pointer_and_number, convertible}
 

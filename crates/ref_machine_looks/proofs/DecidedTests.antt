@@ -16,8 +16,8 @@ use Rattle.flow_lower_conditions.specs.declared.branch_tests.NamedObject.{NamedO
 use Rattle.flow_program.specs.declared.machine_instructions.Scalar.{Scalar}
 use Rattle.flow_program.specs.declared.machine_instructions.Scalar.TheVariants as of
 use Rattle.lib_models_effects.specs.Tests.{turned}
-use Rattle.ref_machine.specs.Items as side
-use Rattle.ref_machine.specs.Items.{NamedSide, NamedTest}
+use Rattle.ref_machine_marked.specs.Items as side
+use Rattle.ref_machine_marked.specs.Items.{NamedSide, NamedTest}
 use Rattle.ref_machine_marked.specs.Marks.{Mark, Ranged, Exactly, Pointing, Naming, Null, Loaded, Converted, Tested}
 use Rattle.ref_machine_marked.specs.MarkOperations.{IsSideOf, ComparesAs, AreWithNull, null_test_of, ConvertsTo}
 use Rattle.ref_machine_marked.specs.MarkedTerms.{DecidesAlone, Decides}

@@ -13,8 +13,8 @@ use Rattle.flow_lower_tasks.specs.declared.term_kinds.OperatorMeaning.{OperatorM
 use Rattle.flow_lower_tasks.specs.declared.term_kinds.OperatorMeaning.TheVariants as meant
 use Rattle.flow_lower_conditions.specs.declared.branch_tests.NamedObject.{NamedObject}
 use Rattle.flow_program.specs.declared.machine_instructions.Scalar.TheVariants as of
-use Rattle.ref_machine.specs.Items.{NamedTest}
-use Rattle.ref_machine.specs.TermTests.{test_if}
+use Rattle.ref_machine_marked.specs.Items.{NamedTest}
+use Rattle.ref_machine_marked.specs.TermTests.{test_if}
 use Rattle.ref_machine_marked.specs.KindedTerms.{HasObject}
 use Rattle.ref_machine_marked.specs.Marks.{Mark, Exactly, Null}
 use Rattle.ref_machine_marked.specs.MarkOperations.{ComparesAs, AreWithNull, null_test_of, ConvertsTo}

@@ -11,11 +11,11 @@ use Rattle.c_layout.specs.declared.library_functions.LibFn.{LibFn}
 use Rattle.c_layout.specs.declared.library_functions.LibFn.TheVariants as f
 use Rattle.flow_lower_expressions.specs.Assignments.{number_operator}
 use Rattle.flow_lower_expressions.specs.Calls.{gives}
-use Rattle.ref_machine.specs.Functions.{local_type}
+use Rattle.ref_machine_marked.specs.Functions.{local_type}
 use Rattle.flow_lower_tasks.specs.TermKinds.{meaning, is_void, scalar_of, integer_type, term_type, lvalue_type}
 use Rattle.flow_program.specs.declared.machine_instructions.Scalar.{Scalar}
 use Rattle.flow_program.specs.declared.machine_instructions.Scalar.TheVariants as of
-use Rattle.ref_machine.specs.SourceStates.{function_at}
+use Rattle.ref_machine_marked.specs.SourceStates.{function_at}
 use Rattle.ref_machine_marked.specs.Kinds.{Kind, Number, Address, kind_of}
 use Rattle.ref_machine_marked.specs.TakenKinds.{Accepts, result_kind}
 use Rattle.ref_machine_marked.specs.KindedTerms.{argument_kinds}

@@ -18,15 +18,15 @@ use Rattle.c_layout.specs.declared.syntax_tree.expressions.LogicalOp.{LogicalOp}
 use Rattle.c_layout.specs.declared.syntax_tree.expressions.LogicalOp.TheVariants.{And, Or}
 use Rattle.flow_lower_expressions.specs.Assignments.{number_operator}
 use Rattle.flow_lower_expressions.specs.Calls.{gives}
-use Rattle.ref_machine.specs.Functions.{local_type}
+use Rattle.ref_machine_marked.specs.Functions.{local_type}
 use Rattle.flow_lower_tasks.specs.TermKinds.{meaning, relation, is_void, is_zero, scalar_of, integer_type, term_type, lvalue_type}
 use Rattle.flow_lower_tasks.specs.declared.term_kinds.OperatorMeaning.{OperatorMeaning}
 use Rattle.flow_lower_tasks.specs.declared.term_kinds.OperatorMeaning.TheVariants as meant
 use Rattle.flow_program.specs.declared.machine_instructions.Scalar.{Scalar}
 use Rattle.flow_program.specs.declared.machine_instructions.Scalar.TheVariants as of
-use Rattle.ref_machine.specs.Items.{NamedTest}
-use Rattle.ref_machine.specs.SourceStates.{function_at}
-use Rattle.ref_machine.specs.TermTests.{test_if}
+use Rattle.ref_machine_marked.specs.Items.{NamedTest}
+use Rattle.ref_machine_marked.specs.SourceStates.{function_at}
+use Rattle.ref_machine_marked.specs.TermTests.{test_if}
 use Rattle.ref_machine_marked.specs.Kinds.{Kind, Number, Address}
 use Rattle.ref_machine_marked.specs.TakenKinds.{result_kind}
 use Rattle.ref_machine_marked.specs.KindedTerms.{argument_kinds}

@@ -16,8 +16,8 @@ use Rattle.flow_lower_tasks.specs.declared.term_kinds.OperatorMeaning.TheVariant
 use Rattle.flow_program.specs.declared.machine_instructions.Scalar.{Scalar}
 use Rattle.flow_program.specs.declared.machine_instructions.Scalar.TheVariants as of
 use Rattle.lib_models_effects.specs.Tests.{turned}
-use Rattle.ref_machine.specs.Items as side
-use Rattle.ref_machine.specs.Items.{NamedSide, NamedTest}
+use Rattle.ref_machine_marked.specs.Items as side
+use Rattle.ref_machine_marked.specs.Items.{NamedSide, NamedTest}
 use Rattle.ref_machine_marked.specs.Marks.{Mark, Exactly, Null, Loaded, Converted}
 use Rattle.ref_machine_marked.specs.MarkOperations.{null_test_of}
 use Rattle.ref_machine_looks.specs.LookedTypes.{is_kind, is_wider, is_pointer, same_scalar}

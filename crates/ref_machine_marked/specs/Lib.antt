@@ -10,3 +10,7 @@ pub use Rattle.ref_machine_kinds.specs.Kinds
 pub use Rattle.ref_machine_kinds.specs.TakenKinds
 pub use Rattle.ref_machine_kinds.specs.KindedStatements
 pub use Rattle.ref_machine_kinds.specs.StandingJumps
+pub use Rattle.ref_machine.specs.Functions
+pub use Rattle.ref_machine.specs.Items
+pub use Rattle.ref_machine.specs.SourceStates
+pub use Rattle.ref_machine.specs.TermTests

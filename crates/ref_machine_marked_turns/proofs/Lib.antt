@@ -6,3 +6,4 @@ mod Objects
 mod Conditions
 mod Switches
 mod Turns
+pub use Rattle.ref_machine_marked_items.proofs.Labels

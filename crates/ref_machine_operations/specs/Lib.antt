@@ -6,3 +6,9 @@ pub use Rattle.ref_machine.specs.BranchSteps
 pub use Rattle.ref_machine.specs.Items
 pub use Rattle.ref_machine.specs.Operations
 pub use Rattle.ref_machine.specs.SourceStates
+pub use Rattle.ref_machine.specs.ConditionItems
+pub use Rattle.ref_machine.specs.Functions
+pub use Rattle.ref_machine.specs.LabelSearch
+pub use Rattle.ref_machine.specs.Scopes
+pub use Rattle.ref_machine.specs.StatementItems
+pub use Rattle.ref_machine.specs.TermItems

@@ -12,7 +12,7 @@ use Rattle.ref_machine_lives_turns.specs.NamedObjects.{ObjectsLiveWhereNamed}
 use Rattle.ref_machine_marks.specs.MarkLaws.{Comes}
 use Rattle.ref_machine_marked.specs.MarkedItems.{Does}
 use Rattle.ref_machine_marked.specs.MarkedStates.{none, Runs}
-use Rattle.ref_machine_marked_items.proofs.Labels.{body_does}
+use Rattle.ref_machine_marked_turns.proofs.Labels.{body_does}
 use Rattle.ref_machine_start.specs.StartedWorlds.{IsStarted}
 use Rattle.ref_machine_start.proofs.Started.{start_comes}
 use Rattle.ref_machine_marked_turns.specs.KeptMarks.{RunsOn, TurnsKeepMarks}

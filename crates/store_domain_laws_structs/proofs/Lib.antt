@@ -10,3 +10,4 @@ pub mod SpreadStructs
 pub use Rattle.store_domain_laws_shapes.proofs.LeafBytes
 pub use Rattle.store_domain_laws_shapes.proofs.Loads
 pub use Rattle.store_domain_laws_shapes.proofs.PlacesOfLeaves
+pub use Rattle.store_domain_structs.proofs.Somewhere

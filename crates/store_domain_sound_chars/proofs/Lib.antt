@@ -8,3 +8,9 @@ pub mod ByteZeros
 pub mod WrittenCells
 pub mod WrittenRows
 pub mod CharStoreSound
+pub use Rattle.store_domain_sound.proofs.Larger
+pub use Rattle.store_domain_sound.proofs.Near
+pub use Rattle.store_domain_sound.proofs.NearParts
+pub use Rattle.store_domain_sound.proofs.Only
+pub use Rattle.store_domain_sound.proofs.StoreValues
+pub use Rattle.store_domain_sound.proofs.Walks

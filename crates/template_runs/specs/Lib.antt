@@ -10,3 +10,13 @@ pub use Rattle.ref_machine.specs.Items
 pub use Rattle.ref_machine.specs.ObjectSteps
 pub use Rattle.ref_machine.specs.SourceRuns
 pub use Rattle.ref_machine.specs.SourceStates
+pub use Rattle.ref_machine.specs.BranchSteps
+pub use Rattle.ref_machine.specs.CallSteps
+pub use Rattle.ref_machine.specs.ConditionItems
+pub use Rattle.ref_machine.specs.LabelSearch
+pub use Rattle.ref_machine.specs.NamedObject
+pub use Rattle.ref_machine.specs.Scopes
+pub use Rattle.ref_machine.specs.SourceSteps
+pub use Rattle.ref_machine.specs.StatementItems
+pub use Rattle.ref_machine.specs.TermItems
+pub use Rattle.ref_machine.specs.Calls

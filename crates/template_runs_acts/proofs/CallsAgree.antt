@@ -9,7 +9,7 @@ use Rattle.lib_models_memory.specs.Scalars.{Scalar}
 use Rattle.lib_models_effects.specs.NumberedTables.{put_at}
 use Rattle.lib_models_effects.specs.Worlds.{World, Why, Reply, goes, stops, behind}
 use Rattle.lib_models_effects.specs.LibraryCalls.{library, with_result}
-use Rattle.flow_lower_expressions.specs.Calls.{gives, result_temp}
+use Rattle.template_runs.specs.Calls.{gives, result_temp}
 use Rattle.flow_lower_tasks.specs.Acts as act
 use Rattle.template_runs.specs.FlowStates as flow
 use Rattle.template_runs.specs.FlowStates.{and_value, values_of}

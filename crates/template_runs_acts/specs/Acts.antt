@@ -14,7 +14,7 @@ use Rattle.lib_models_effects.specs.Worlds.{World, Why, Reply, goes, stops}
 use Rattle.flow_lower_tasks.specs.Acts as act
 use Rattle.flow_lower_tasks.specs.Acts.{Act}
 use Rattle.template_runs.specs.Operations as op
-use Rattle.flow_lower_expressions.specs.Calls.{gives, result_temp}
+use Rattle.template_runs.specs.Calls.{gives, result_temp}
 use Rattle.template_runs.specs.FlowStates.{values_of}
 use Rattle.template_runs.specs.Operations.{Operation, LeftFirst, RightFirst, newest, target_size}
 use Rattle.template_runs.specs.TemplateStates.{Templates, Standing}

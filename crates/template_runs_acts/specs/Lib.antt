@@ -1,3 +1,16 @@
 pub mod Acts
 pub use Rattle.template_runs.specs.TemplateExits
 pub use Rattle.template_runs.specs.TemplateStates
+pub use Rattle.template_runs.specs.BranchSteps
+pub use Rattle.template_runs.specs.CallSteps
+pub use Rattle.template_runs.specs.ConditionItems
+pub use Rattle.template_runs.specs.Functions
+pub use Rattle.template_runs.specs.Items
+pub use Rattle.template_runs.specs.LabelSearch
+pub use Rattle.template_runs.specs.NamedObject
+pub use Rattle.template_runs.specs.Operations
+pub use Rattle.template_runs.specs.Scopes
+pub use Rattle.template_runs.specs.SourceStates
+pub use Rattle.template_runs.specs.SourceSteps
+pub use Rattle.template_runs.specs.StatementItems
+pub use Rattle.template_runs.specs.TermItems

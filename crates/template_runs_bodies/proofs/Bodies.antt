@@ -27,7 +27,7 @@ use Rattle.template_runs_scopes.specs.SuitedStatements.{not_enclosed, AllSuitIn}
 use Rattle.template_runs_scopes.proofs.Objects.{object_jobs, objects_are_terms, NamedFrom, enters, leaves}
 use Rattle.template_runs_scopes.proofs.Positions.{position, numbers}
 use Rattle.template_runs_scopes.proofs.ScopeTrees.{of_function}
-use Rattle.template_runs_labels.proofs.FoundLabels.{found_there}
+use Rattle.template_runs_dispatches.proofs.FoundLabels.{found_there}
 use Rattle.template_runs_noted.proofs.NotedChoices.{noted}
 use Rattle.template_runs_dispatches.specs.Gotos.{HasLabels}
 use Rattle.template_runs_statements.proofs.Sequences.{statement_jobs}

@@ -46,9 +46,9 @@ use Rattle.template_runs_scopes.proofs.Objects.{named_from, locals}
 use Rattle.template_runs_scopes.proofs.Positions as positions
 use Rattle.template_runs_scopes.proofs.Positions.{Position, position, past}
 use Rattle.template_runs_scopes.proofs.Ways.{chain_there}
-use Rattle.template_runs_labels.specs.LabelScopes as labels
-use Rattle.template_runs_labels.specs.LabelScopes.{stands_in, IsFound}
-use Rattle.template_runs_labels.proofs.LabelScopes.{in_scopes}
+use Rattle.template_runs_dispatches.specs.LabelScopes as labels
+use Rattle.template_runs_dispatches.specs.LabelScopes.{stands_in, IsFound}
+use Rattle.template_runs_dispatches.proofs.LabelScopes.{in_scopes}
 use Rattle.template_runs_noted.specs.Choices.{IsChoice}
 use Rattle.template_runs_dispatches.specs.Gotos.{HasLabels}
 use Rattle.template_runs_dispatches.specs.SwitchTargets.{IsTarget, HasTargets}

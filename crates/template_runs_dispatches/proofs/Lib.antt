@@ -6,3 +6,5 @@ pub mod SwitchPlans
 pub use Rattle.template_runs_jumps.proofs.Jumps
 pub use Rattle.template_runs_jumps.proofs.Returns
 pub use Rattle.template_runs_switches.proofs.SwitchTargets
+pub use Rattle.template_runs_labels.proofs.FoundLabels
+pub use Rattle.template_runs_labels.proofs.LabelScopes

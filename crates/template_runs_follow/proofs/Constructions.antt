@@ -17,18 +17,18 @@ use Rattle.flow_lower_tasks.specs.Acts.{Act}
 use Rattle.flow_lower_tasks.specs.Pieces.{Local, Literal, Outcome, PieceView, ExitView, DoIfUsed, End, Call, When, Always, NoLine, Line}
 use Rattle.flow_lower_tasks.specs.Plans.{name_of_object}
 use Rattle.flow_lower_tasks.specs.TermKinds.{scalar_of}
-use Rattle.ref_machine.specs.Functions.{local_type}
-use Rattle.ref_machine.specs.NamedObject.{NamedObject}
-use Rattle.ref_machine.specs.Items as item
-use Rattle.ref_machine.specs.Items.{Item, Items, listed, NamedTest, Change}
-use Rattle.ref_machine.specs.Operations as op
-use Rattle.ref_machine.specs.Operations.{Operation}
-use Rattle.ref_machine.specs.Scopes.{leap_in, all_of, open_scopes}
-use Rattle.ref_machine.specs.TermItems.{address_items}
-use Rattle.ref_machine.specs.ConditionItems.{term_items}
-use Rattle.ref_machine.specs.StatementItems.{of_statement}
-use Rattle.ref_machine.specs.CallSteps.{behind_body}
-use Rattle.ref_machine.specs.SourceStates.{Frame, function_at, result_object}
+use Rattle.template_runs_acts.specs.Functions.{local_type}
+use Rattle.template_runs_acts.specs.NamedObject.{NamedObject}
+use Rattle.template_runs_acts.specs.Items as item
+use Rattle.template_runs_acts.specs.Items.{Item, Items, listed, NamedTest, Change}
+use Rattle.template_runs_acts.specs.Operations as op
+use Rattle.template_runs_acts.specs.Operations.{Operation}
+use Rattle.template_runs_acts.specs.Scopes.{leap_in, all_of, open_scopes}
+use Rattle.template_runs_acts.specs.TermItems.{address_items}
+use Rattle.template_runs_acts.specs.ConditionItems.{term_items}
+use Rattle.template_runs_acts.specs.StatementItems.{of_statement}
+use Rattle.template_runs_acts.specs.CallSteps.{behind_body}
+use Rattle.template_runs_acts.specs.SourceStates.{Frame, function_at, result_object}
 use Rattle.template_runs_follow.specs.Activations.{Activation, of_entry}
 use Rattle.template_runs_acts.specs.Acts.{IsAct, IsActBehind, temps_from, behind_call}
 use Rattle.template_runs_follow.specs.Follows as follows

@@ -1,7 +1,7 @@
 -- What follows for so many turns follows for fewer.
 use Rattle.std.specs.Prelude.{ℕ, zero, suc, List}
 use Rattle.flow_lower_tasks.specs.Pieces.{PieceView}
-use Rattle.ref_machine.specs.Items.{Item}
+use Rattle.template_runs_acts.specs.Items.{Item}
 use Rattle.template_runs_follow.specs.Activations.{Activation}
 use Rattle.template_runs_follow.specs.Follows as follows
 use Rattle.template_runs_follow.specs.Follows.{Follows}

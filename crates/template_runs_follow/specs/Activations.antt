@@ -2,8 +2,8 @@
 use Rattle.std.specs.Prelude.{ℕ, Bool, List, []}
 use Rattle.c_layout.specs.CheckedUnits.{UnitView}
 use Rattle.flow_lower_tasks.specs.Pieces.{TemplateView}
-use Rattle.ref_machine.specs.SourceStates.{Frame}
-use Rattle.ref_machine.specs.SourceSteps.{is_entry}
+use Rattle.template_runs_acts.specs.SourceStates.{Frame}
+use Rattle.template_runs_acts.specs.SourceSteps.{is_entry}
 use Rattle.template_runs_acts.specs.TemplateStates.{Templates}
 
 -- a unit, the template of each of its functions, the function that runs, and those that wait for it in the source

@@ -17,7 +17,7 @@ use Rattle.flow_program.specs.declared.flow_edges.Side.TheVariants as side
 use Rattle.flow_program.specs.declared.flow_edges.Test.{Test}
 use Rattle.flow_program.specs.declared.machine_instructions.Scalar as declared
 use Rattle.flow_program.specs.declared.machine_instructions.Scalar.TheVariants as scalar
-use Rattle.ref_machine.specs.NamedObject.{NamedObject}
+use Rattle.template_runs_acts.specs.NamedObject.{NamedObject}
 use Rattle.flow_lower_expressions.specs.Calls.{result_temp}
 use Rattle.flow_lower_tasks.specs.Acts as act
 use Rattle.flow_lower_tasks.specs.Acts.{Act, Step}
@@ -25,22 +25,22 @@ use Rattle.flow_lower_tasks.specs.Pieces.{NameView, Local, Outcome, Literal, Pie
 use Rattle.flow_lower_tasks.specs.declared.template_pieces.OwnCall.{OwnCall}
 use Rattle.flow_lower_tasks.specs.Plans.{name_of_object}
 use Rattle.flow_lower_tasks.specs.TermKinds.{integer_type, is_void, scalar_of}
-use Rattle.ref_machine.specs.Functions.{local_type}
+use Rattle.template_runs_acts.specs.Functions.{local_type}
 use Rattle.lib_models_memory.specs.Labels.{Labels}
 use Rattle.lib_models_memory.specs.Scalars.{integer}
-use Rattle.ref_machine.specs.Items as item
-use Rattle.ref_machine.specs.Items.{Item, Items, listed, NamedSide, NamedTest, Change, Forget, Clear, Spell}
-use Rattle.ref_machine.specs.Operations as op
-use Rattle.ref_machine.specs.Operations.{Operation}
-use Rattle.ref_machine.specs.Scopes.{jump, leap_in, behind_loop, behind_turn, all_of, open_scopes}
-use Rattle.ref_machine.specs.LabelSearch.{Sought, case, other, found, case_of, from_label}
-use Rattle.ref_machine.specs.BranchSteps.{landing}
-use Rattle.ref_machine.specs.TermItems.{address_items}
-use Rattle.ref_machine.specs.ConditionItems.{term_items}
-use Rattle.ref_machine.specs.StatementItems.{of_statement, while_turn, do_turn, for_turn, body}
-use Rattle.ref_machine.specs.CallSteps.{prologue, behind_body}
-use Rattle.ref_machine.specs.SourceStates.{Frame, function_at, static_type, local_of, result_object}
-use Rattle.ref_machine.specs.SourceSteps.{place_of}
+use Rattle.template_runs_acts.specs.Items as item
+use Rattle.template_runs_acts.specs.Items.{Item, Items, listed, NamedSide, NamedTest, Change, Forget, Clear, Spell}
+use Rattle.template_runs_acts.specs.Operations as op
+use Rattle.template_runs_acts.specs.Operations.{Operation}
+use Rattle.template_runs_acts.specs.Scopes.{jump, leap_in, behind_loop, behind_turn, all_of, open_scopes}
+use Rattle.template_runs_acts.specs.LabelSearch.{Sought, case, other, found, case_of, from_label}
+use Rattle.template_runs_acts.specs.BranchSteps.{landing}
+use Rattle.template_runs_acts.specs.TermItems.{address_items}
+use Rattle.template_runs_acts.specs.ConditionItems.{term_items}
+use Rattle.template_runs_acts.specs.StatementItems.{of_statement, while_turn, do_turn, for_turn, body}
+use Rattle.template_runs_acts.specs.CallSteps.{prologue, behind_body}
+use Rattle.template_runs_acts.specs.SourceStates.{Frame, function_at, static_type, local_of, result_object}
+use Rattle.template_runs_acts.specs.SourceSteps.{place_of}
 use Rattle.lib_models_effects.specs.Tests.{opposite}
 use Rattle.template_runs_acts.specs.TemplateStates.{Templates}
 use Rattle.template_runs_acts.specs.TemplateExits.{behind_mark, exit_taken}

@@ -16,7 +16,7 @@ use Rattle.flow_program_views.specs.ProgramViews.{BlockView, EdgeView, FlowView,
 use Rattle.abstract_steps_system.specs.BlockPasses.{instructions_in}
 use Rattle.abstract_steps_system.specs.FlowMachines.{head_in, is_head_at, edge_at}
 use Rattle.rule_checks.specs.AdmittedRules.{instructions_of}
-use Rattle.abstract_steps_single_runs.proofs.BlockEdges.{in_block}
+use Rattle.abstract_steps_single_switches.proofs.BlockEdges.{in_block}
 use Rattle.turn_split.specs.Turns.{copies, last_copy, number_in, block_copy, split}
 use Rattle.turn_split_runs.proofs.CopiedLists.{number_below, placed, copy_at}
 use Rattle.turn_split_laws.proofs.TurnedPrograms.{size, edge_size, block_count, steps_same, edge_count, edge_of}
@@ -73,9 +73,9 @@ module _ (turns : ℕ) (f g : Flow) (h : flow_view g ≡ split turns (flow_view 
   pub own_instruction : (k j at : ℕ) (i : Instruction) → k < copies turns → j < many → slice_get (instructions_of g (number_in many k j)) at ≡ Some i → OwnInstruction j at i
   own_instruction k j at i p q e =
       let o = of_step (slice_get (instructions_of f j) at) i
-          (sym (slice_get-map step (instructions_of f j) at)
-          ∙ (ap (λ ss. slice_get ss at) (steps_same turns f g h k j p q)
-          ∙ (slice_get-map step (instructions_of g (number_in many k j)) at ∙ ap (option_map step) e))) in
+      (sym (slice_get-map step (instructions_of f j) at)
+      ∙ (ap (λ ss. slice_get ss at) (steps_same turns f g h k j p q)
+      ∙ (slice_get-map step (instructions_of g (number_in many k j)) at ∙ ap (option_map step) e))) in
       record { own = o.own; there = o.there; alike = o.alike }
 
   -- in some block

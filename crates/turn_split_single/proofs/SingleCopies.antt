@@ -28,7 +28,7 @@ use Rattle.abstract_steps_system.specs.FlowMachines.{head_in, is_head_at}
 use Rattle.abstract_steps_covered.specs.SoundEnds.{IsDoneIn}
 use Rattle.rule_checks.specs.AdmittedRules.{instructions_of}
 use Rattle.abstract_steps_sound_units.proofs.TurnedSound.{found_same}
-use Rattle.abstract_steps_single_runs.specs.SingleRuns.{IsPlainOperation, IsTypedStep, SwitchesAreApart, HasTypedAccesses, EntersNoHead, IsSingleProgram, IsSingleRun, IsNeverStuckAlone}
+use Rattle.abstract_steps_single_switches.specs.SingleRuns.{IsPlainOperation, IsTypedStep, SwitchesAreApart, HasTypedAccesses, EntersNoHead, IsSingleProgram, IsSingleRun, IsNeverStuckAlone}
 use Rattle.turn_split.specs.Turns.{copies, last_copy, number_in, split}
 use Rattle.turn_split_runs.specs.SameRuns.{in_copy, IsCopied, SameRun}
 use Rattle.turn_split_runs.proofs.CopiedLists.{placed}

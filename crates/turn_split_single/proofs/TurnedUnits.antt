@@ -15,7 +15,7 @@ use Rattle.template_runs_looked.specs.LookedRuns.{LookedUnitsAreNeverStuck, Look
 use Rattle.abstract_steps_sound_units.proofs.CheckedStarts.{unit_starts}
 use Rattle.abstract_steps_sound_units.proofs.CheckedUnits.{analysed_structs, same_structs}
 use Rattle.abstract_steps_sound_units.proofs.TurnedSound.{starts_same}
-use Rattle.abstract_steps_single_runs.proofs.SingleRuns.{run_of}
+use Rattle.abstract_steps_single_switches.proofs.SingleRuns.{run_of}
 use Rattle.abstract_steps_single_switches.specs.UnitSwitches.{UnitSwitchesAreApart}
 use Rattle.abstract_steps_single_units.proofs.SingleAnalyses.{finds_run}
 use Rattle.abstract_steps_single_units.specs.Analyses.{IsAnalysis}

@@ -17,7 +17,7 @@ use Rattle.template_runs_ends.specs.EndedRuns.{HasStopped}
 use Rattle.turn_split.specs.Turns.{last_copy, split}
 use Rattle.abstract_steps_covered.specs.SoundEnds.{IsDoneIn}
 use Rattle.abstract_steps_single.specs.SingleRows.{IsPlainProgram}
-use Rattle.abstract_steps_single_analyses.specs.Analyses.{IsAnalysis}
+use Rattle.abstract_steps_single_units.specs.Analyses.{IsAnalysis}
 use Rattle.abstract_steps_single_units.specs.CheckedStarts.{IsUnitOf}
 use Rattle.abstract_steps_single_units.specs.SingleRuns.{IsPlainOperation, HasTypedAccesses}
 use Rattle.abstract_steps_single_units.specs.SingleUnits.{RunViolates}

@@ -23,8 +23,8 @@ use Rattle.flow_program_machine.specs.FlowStarts.{flow_begin}
 use Rattle.rule_checks.specs.AdmittedRules.{instructions_of}
 use Rattle.lib_models_effects.specs.Worlds.{Why, Violated, Violation}
 use Rattle.turn_split.specs.Turns.{split}
-use Rattle.abstract_steps_single_units.specs.SingleRuns.{IsPlainOperation, IsTypedStep}
-use Rattle.abstract_steps_single_units.proofs.EndedRuns.{stays}
+use Rattle.turn_split_single.specs.SingleRuns.{IsPlainOperation, IsTypedStep}
+use Rattle.turn_split_single.proofs.EndedRuns.{stays}
 use Rattle.turn_split_single.specs.TurnedLoops.{TakesTurns, IsSingleUpTo}
 use Rattle.turn_split_single_rows.specs.WorkedLoops.{at, int, unit, division, IsLoopedOnce}
 
