@@ -1,4 +1,4 @@
-//! Storage classes (6.7.1).
+//! Whether `typedef` stands among specifiers (6.7.1).
 ghost use Rattle.std.specs.Prelude.{◌≡◌, map};
 ghost use Rattle.std.specs.List.{list_any};
 ghost use Rattle.c_layout.specs.DeclarationTrees.{spec_tree};

@@ -1,4 +1,4 @@
--- Storage classes (6.7.1).
+-- Whether `typedef` stands among specifiers (6.7.1).
 use Rattle.std.specs.Prelude.{Bool, true, false, List}
 use Rattle.std.specs.List.{list_any}
 use Rattle.c_layout.specs.DeclarationTrees.{SpecTree, StorageWord}

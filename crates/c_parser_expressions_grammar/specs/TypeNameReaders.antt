@@ -40,6 +40,7 @@ other_word known ts k.Struct = tagged known ts (word.Struct (first_place ts) (na
 other_word known ts k.Enum = tagged known ts (word.Enum (first_place ts) (name_first (behind_first ts)))
 other_word known ts _ = None
 
+-- a keyword that is no word of an integer type
 abbrev pub untyped_word : List (List ℕ) → List Terminal → Keyword → Option Storage → Option GotWord
 untyped_word known ts w (Some class) = Some (record { word = word.Storage (first_place ts) class; rest = behind_first ts })
 untyped_word known ts w None = cond (is_qualifier w) (Some (record { word = word.Qualifier (first_place ts); rest = behind_first ts })) (other_word known ts w)

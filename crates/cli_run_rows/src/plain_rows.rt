@@ -1,4 +1,4 @@
-//! What the analysis and the run tell of plain units, which take nothing from outside.
+//! What the analysis and the run tell of units that pass the look of plain units, and take nothing from outside.
 use crate::replay_call::{answer, with_files};
 use crate::run_rows::run_tells;
 use std::alloc::Global;

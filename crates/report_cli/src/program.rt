@@ -36,7 +36,8 @@ use std::alloc::Global;
 /// - `runs` is the sentence: where `check` answers 0 or 1, what it has put holds each rule that a run of the unit
 ///   violates; and of a plain unit only what its run violates and syntactic rules find.
 /// - `gates`: so does what `gate` has put, together with what its baseline holds.
-/// - `verifies`: so does what `verify` has put of a certificate that is accepted.
+/// - `verifies`: what `verify` has put of a certificate that is accepted holds each rule that a run violates too; of a
+///   plain unit it may have more.
 /// - `replays`: where `replay` answers 0 or 1, it has put the pairs of one run, and they stand in the unit's reports.
 /// - `complete`: a unit that each stage accepts, with all that the verb reads, is answered and not refused, or a read or
 ///   the write failed, or memory ran out.

@@ -1,5 +1,6 @@
 //! Of a plain unit an analysis of the program with turns unrolled finds just what the unit's run violates, as one of the
-//! program itself does. What is supposed of the unit's program is named in the specification.
+//! program itself does. What is supposed of the unit's program stands in `specs/SingleUnits.antt` of
+//! `abstract_steps_single_units`.
 ghost use Rattle.turn_split_single.specs.TurnedLoops.{LoopedUnitsAreToldExactly};
 ghost use Rattle.turn_split_single.specs.TurnedUnits.{TurnedProgramsAreSingle, TurnedUnitsAreToldExactly};
 
