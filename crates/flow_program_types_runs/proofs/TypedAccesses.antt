@@ -1,10 +1,10 @@
 -- In a typed state each access of a typed program is of the type of what lies there.
-use Rattle.std.proofs.Common.{◌≡◌, ℕ, ◌+◌, ◌<◌, ◌≤◌, Bool, true, false, cond, Option, Some, None, List, length, arith, subst, sym, refl, ap, ◌∙◌}
-use Rattle.std.specs.Prelude.{slice_get, ◌==◌, nat_lt}
+use Rattle.std.proofs.Common.{◌≡◌, ℕ, ◌+◌, ◌<◌, ◌≤◌, Bool, true, false, cond, Option, Some, None, List, arith, subst, sym, refl, ap, ◌∙◌}
+use Rattle.std.specs.Prelude.{slice_get, ◌==◌}
 use Rattle.std.proofs.lemmas.Bool.{lt-ltb}
 use Rattle.std.proofs.lemmas.Option.{same_Some, slice_get_within, get_or_from_slice_get}
 use Rattle.c_layout.specs.Layout.{size_of_type}
-use Rattle.c_layout.specs.StructViews.{StructView, no_struct, struct_at}
+use Rattle.c_layout.specs.StructViews.{StructView, no_struct}
 use Rattle.c_layout.specs.Types.{Ty, Int, Pointer, Struct}
 use Rattle.c_layout.specs.declared.data_model.Model.{Model}
 use Rattle.c_layout.specs.declared.leaf_lists.Class.{Class}
@@ -25,13 +25,13 @@ use Rattle.abstract_steps_single_copies.specs.TypedCopies.{PointsToStruct, AreOn
 use Rattle.flow_program_types.specs.SingleRuns.{IsTypedStep}
 use Rattle.flow_program_types.specs.TypeBytes.{scalar_byte}
 use Rattle.flow_program_types.specs.StandingTypes.{AreLaidOut, Stands}
-use Rattle.flow_program_types.specs.LeafTypes.{IsLeafOf, HasLeaf}
+use Rattle.flow_program_types.specs.LeafTypes.{HasLeaf}
 use Rattle.flow_program_types.specs.PointedTypes.{Target, target_type, Known, Points, IsOfKind, number_kind, pointer_kind}
 use Rattle.flow_program_types.specs.TypedStates.{Temporaries}
 use Rattle.flow_program_types.specs.TypedPrograms.{structs_of, size_in, IsObjectOf, PointsTo, IsTypedOperation, loads, stores_in, copies}
-use Rattle.flow_program_types_memory.proofs.PointedPlaces.{IsAt, points_at, pointer_wide}
+use Rattle.flow_program_types_memory.proofs.PointedPlaces.{points_at, pointer_wide}
 use Rattle.flow_program_types_runs.proofs.TypeLaws.{TypeLaws}
-use Rattle.flow_program_types_runs.proofs.KnownValues.{Types, IsPointing, pointing}
+use Rattle.flow_program_types_runs.proofs.KnownValues.{Types, pointing}
 use Rattle.flow_program_types_runs.proofs.TypedStates.{IsTypedBy}
 
 -- ---- kinds

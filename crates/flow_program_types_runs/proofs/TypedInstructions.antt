@@ -1,6 +1,6 @@
 -- Each instruction of a typed program that does not end its block leaves a typed state, where the run goes on.
-use Rattle.std.proofs.Common.{◌≡◌, ℕ, zero, suc, ◌+◌, ◌*◌, ◌<◌, ◌≤◌, Bool, Option, Some, None, List, length, arith, subst, sym, refl, ap, ◌∙◌, inl, inr}
-use Rattle.std.specs.Prelude.{ℤ, pos, slice_get}
+use Rattle.std.proofs.Common.{◌≡◌, ℕ, suc, ◌+◌, ◌*◌, ◌<◌, Bool, Option, Some, None, List, length, arith, subst, sym, refl, ap, ◌∙◌, inl, inr}
+use Rattle.std.specs.Prelude.{pos, slice_get}
 use Rattle.std.specs.Ordering.{int_eq}
 use Rattle.std.proofs.lemmas.Bool.{cases_eq}
 use Rattle.std.proofs.lemmas.Option.{same_Some}
@@ -38,7 +38,7 @@ use Rattle.ref_machine_memory.specs.GoingWorlds.{WhenGoing, Keeps, Same}
 use Rattle.ref_machine_memory.proofs.Replies.{when_more, when_behind, when_either}
 use Rattle.ref_machine_memory.proofs.Computing.{binary_keeps, unary_keeps, compare_numbers_keeps, negation_keeps, convert_keeps, difference_keeps, compare_keeps}
 use Rattle.flow_program_types.specs.StandingTypes.{AreLaidOut, Stands}
-use Rattle.flow_program_types.specs.PointedTypes.{Target, Element, Place, target_type, Known, Zero, Null, Pointing, IsElement, Points, Has, IsLess, IsOfKind, IsStorable}
+use Rattle.flow_program_types.specs.PointedTypes.{Target, Element, Place, Known, Zero, Null, Pointing, IsElement, Points, Has, IsLess, IsOfKind, IsStorable}
 use Rattle.flow_program_types.specs.TypedStates.{Temporaries}
 use Rattle.flow_program_types.specs.TypedPrograms.{structs_of, IsObjectOf, IsKept, Gives, GivesIf, Keeps as KeepsValue, PointsTo, IsTypedOperation, gives_zero, gives_number, gives_address, gives_part, loads, stores_in, copies, narrows, shifts, computes, computes_one, compares, inverts, subtracts, compares_pointers, to_number, to_null, to_pointer, calls, enters, leaves_object, forgets, clears, spells, jumps, branches, switches, ends_run}
 use Rattle.flow_program_types.specs.EffectLaws.{HasIf, GivesKnown, KeepsTypes}

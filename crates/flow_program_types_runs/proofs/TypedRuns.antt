@@ -1,11 +1,10 @@
 -- The run of a typed program under no numbers of the outside stands in typed states.
-use Rattle.std.proofs.Common.{◌≡◌, ℕ, zero, suc, ◌<◌, Option, Some, None, List, [], length, subst, sym, refl, ap, ◌∙◌, inl, inr}
-use Rattle.std.specs.Prelude.{ℤ, pos, slice_get}
+use Rattle.std.proofs.Common.{◌≡◌, ℕ, zero, suc, Option, Some, None, List, [], subst, sym, refl, ap, ◌∙◌, inl, inr}
+use Rattle.std.specs.Prelude.{pos, slice_get}
 use Rattle.std.specs.List.{Contains}
 use Rattle.cc_base.specs.declared.diagnostics.Place.{Place}
 use Rattle.c_layout.specs.CheckedUnits.{UnitView}
 use Rattle.c_layout.specs.StructViews.{StructView}
-use Rattle.c_layout.specs.Types.{Ty}
 use Rattle.c_layout.specs.declared.data_model.Model.{Model}
 use Rattle.flow_program.specs.WellFormed.{On, leads}
 use Rattle.flow_program.specs.declared.machine_instructions.Instruction.{Instruction}
@@ -20,12 +19,12 @@ use Rattle.lib_models_effects.specs.Worlds.{World, Reply, goes, stops, Violation
 use Rattle.flow_program_views.specs.ProgramViews.{EdgeView, FlowView, flow_view}
 use Rattle.flow_program_machine.specs.FlowStates.{Standing, FlowRun, running, stopped}
 use Rattle.flow_program_machine.specs.FlowEdges.{edge_taken, edges_of, at_block, along, on_way}
-use Rattle.flow_program_machine.specs.FlowStarts.{start_names, first_standing, begun_by, flow_begin}
+use Rattle.flow_program_machine.specs.FlowStarts.{begun_by, flow_begin}
 use Rattle.flow_program_machine.specs.FlowSteps.{block_of, on_edge, switching, begun, act_step, run_by, instruction_step, flow_step, flow_steps}
-use Rattle.abstract_steps_covered.proofs.Blocks.{IsAt, is_at, goes_or_ends}
+use Rattle.abstract_steps_covered.proofs.Blocks.{is_at, goes_or_ends}
 use Rattle.ref_machine_memory.specs.GoingWorlds.{WhenGoing}
 use Rattle.ref_machine_memory.proofs.Replies.{when_more, when_behind, when_number}
-use Rattle.flow_program_types.specs.TypedStates.{Temporaries, AreDeclared, IsTypedMemory, IsTyped}
+use Rattle.flow_program_types.specs.TypedStates.{Temporaries, IsTypedMemory, IsTyped}
 use Rattle.flow_program_types.specs.TypedPrograms.{structs_of, IsKept, IsTypedOperation, jumps, branches, switches, ends_run, first_types, Typing, IsTypedProgram}
 use Rattle.flow_program_types_runs.proofs.TypeLaws.{TypeLaws}
 use Rattle.flow_program_types_runs.proofs.KnownValues.{Types}
