@@ -90,7 +90,23 @@ const REDECLARED: [(&str, &str); 8] = [
     ),
 ];
 
-const TYPE_FAULTS: [(&str, &str); 16] = [
+const TYPE_FAULTS: [(&str, &str); 20] = [
+    (
+        "int main(void){return (int)sizeof(typedef int);}",
+        "a.c:1:28: refused: TypeFault\n",
+    ),
+    (
+        "int main(void){return (int)sizeof(extern int);}",
+        "a.c:1:28: refused: TypeFault\n",
+    ),
+    (
+        "struct s{static int x;};int main(void){return 0;}",
+        "a.c:1:21: refused: TypeFault\n",
+    ),
+    (
+        "static int f(extern int x){return x;}int main(void){return f(1);}",
+        "a.c:1:25: refused: TypeFault\n",
+    ),
     (
         "struct b{char x[1073741824];};static struct b a[]={{{1}},{{2}}};int main(void){return 0;}",
         "a.c:1:50: refused: TypeFault\n",

@@ -9,7 +9,7 @@ use std::test::Fail;
 type Plain<'a> = (&'a str, &'a str, &'a str);
 
 /// Structs that are copied by an assignment and by an initializer; each access is of what lies there, and both tell the
-/// same.
+/// same, also with turns unrolled, of which there are none.
 const COPYING: [Plain<'static>; 3] = [
     (
         "struct s{int a;int b;};int main(void){struct s x={3,0};struct s y;y=x;return x.a/y.b;}",
@@ -48,16 +48,23 @@ const UNTYPED: [Plain<'static>; 3] = [
     ),
 ];
 
-/// Fails unless `check a.c` on the unit has one line or more, and tells so.
-fn check_tells(rt: &impl Abort, alloc: Global, source: &str, text: &str) -> Result<(), Fail> {
+/// Fails unless the words, on the unit, are answered with one line or more, and so.
+fn check_tells(
+    rt: &impl Abort,
+    alloc: Global,
+    words: &str,
+    source: &str,
+    text: &str,
+) -> Result<(), Fail> {
     let tree = with_files(alloc, Vec::new(alloc), &[("a.c", source)])?;
-    answer(rt, alloc, "check a.c", tree, 1, text)
+    answer(rt, alloc, words, tree, 1, text)
 }
 
 #[test]
 fn copies_of_structs_are_told_as_they_run(rt: HostRuntime) -> Result<(), Fail> {
     for (source, analysed, run) in &COPYING {
-        check_tells(&rt, rt.alloc(), source, analysed)?;
+        check_tells(&rt, rt.alloc(), "check a.c", source, analysed)?;
+        check_tells(&rt, rt.alloc(), "check a.c --turns 2", source, analysed)?;
         run_tells(&rt, rt.alloc(), source, "", 1, run)?;
     }
     Ok(())
@@ -66,7 +73,7 @@ fn copies_of_structs_are_told_as_they_run(rt: HostRuntime) -> Result<(), Fail> {
 #[test]
 fn accesses_of_another_type_have_lines_that_no_run_has(rt: HostRuntime) -> Result<(), Fail> {
     for (source, analysed, run) in &UNTYPED {
-        check_tells(&rt, rt.alloc(), source, analysed)?;
+        check_tells(&rt, rt.alloc(), "check a.c", source, analysed)?;
         run_tells(&rt, rt.alloc(), source, "", 0, run)?;
     }
     Ok(())
