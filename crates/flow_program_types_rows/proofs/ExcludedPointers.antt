@@ -1,5 +1,5 @@
 -- What the types of pointers exclude.
-use Rattle.std.proofs.Common.{◌≡◌, ℕ, suc, ◌+◌, ◌*◌, ◌<◌, ◌≤◌, Bool, true, false, List, Option, Some, None, arith, ap, subst, sym, refl, ◌∙◌}
+use Rattle.std.proofs.Common.{◌≡◌, ℕ, suc, ◌+◌, ◌*◌, Bool, true, false, List, Option, Some, None, arith, ap, subst, sym, refl, ◌∙◌}
 use Rattle.std.specs.Prelude.{cond, nat_lt}
 use Rattle.std.proofs.lemmas.Option.{same_Some}
 use Rattle.c_layout.specs.CheckedUnits.{UnitView}
@@ -133,14 +133,18 @@ itself structs pointer_size = record {
 }
 
 pub ends_point : (structs : List StructView) (pointer_size : ℕ) (types : ℕ → Option Ty) → types 0 ≡ Some (Int int) → Points structs pointer_size types (Element (Int int)) (into 0 4 0 4)
-ends_point structs pointer_size types is = (Int int, is, record {
-  count = 1;
-  index = 1;
-  end = refl;
-  at = refl;
-  within = omega arith;
-  elements = λ k less. let first : 0 ≡ 0 + k * 4 = omega (arith, less) in subst (Stands structs pointer_size (Int int) (Int int)) first (itself structs pointer_size);
-})
+ends_point structs pointer_size types is = (
+  Int int,
+  is,
+  record {
+    count = 1;
+    index = 1;
+    end = refl;
+    at = refl;
+    within = omega arith;
+    elements = λ k less. let first : 0 ≡ 0 + k * 4 = omega (arith, less) in subst (Stands structs pointer_size (Int int) (Int int)) first (itself structs pointer_size);
+  },
+)
 
 pub none_behind : (structs : List StructView) (pointer_size : ℕ) → Stands structs pointer_size (Int int) (Int int) 4 → ⊥
 none_behind structs pointer_size stands = let h = stands.within in omega (arith, h)

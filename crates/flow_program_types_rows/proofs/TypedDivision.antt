@@ -2,11 +2,10 @@
 use Rattle.std.specs.Prelude.{◌<◌, ◌^◌, slice_get}
 use Rattle.std.specs.Global.{Vec}
 use Rattle.std.specs.List.{Contains}
-use Rattle.std.proofs.Common.{◌≡◌, ◌+◌, ℕ, zero, suc, pos, true, false, List, [], ◌∷◌, length, Option, Some, None, arith, subst, refl}
+use Rattle.std.proofs.Common.{◌≡◌, ℕ, zero, suc, pos, true, false, List, [], ◌∷◌, length, Some, None, arith, subst, refl}
 use Rattle.std.proofs.lemmas.List.Elements.{at_from_Contains}
 use Rattle.std.proofs.lemmas.Option.{same_Some}
 use Rattle.cc_base.specs.declared.integer_operators.IntOp.TheVariants.{Div}
-use Rattle.c_layout.specs.CheckedUnits.{StaticStoreView, StaticView}
 use Rattle.c_layout.specs.Leaves.{leaves_of}
 use Rattle.c_layout.specs.Models.{lp64}
 use Rattle.c_layout.specs.Types.{Ty, Int}
@@ -23,18 +22,16 @@ use Rattle.flow_program.specs.declared.machine_instructions.Scalar.{Scalar}
 use Rattle.flow_program.specs.declared.machine_instructions.Scalar.TheVariants as scalar
 use Rattle.flow_program.specs.declared.programs.Flow.{Flow}
 use Rattle.flow_program_views.specs.ProgramViews.{EdgeView, FlowView, flow_view}
-use Rattle.flow_program_machine.specs.FlowStates.{found_in}
 use Rattle.flow_program_machine.specs.FlowEdges.{edges_of}
-use Rattle.flow_program_machine.specs.FlowSteps.{block_of, flow_steps}
-use Rattle.flow_program_machine.specs.FlowStarts.{start_names, flow_begin}
+use Rattle.flow_program_machine.specs.FlowSteps.{block_of}
 use Rattle.flow_lower_plain.specs.PlainUnits.{is_plain_unit}
 use Rattle.rule_checks.specs.AdmittedRules.{instructions_of}
 use Rattle.flow_program_types.specs.PointedTypes.{Element, Known, Pointing, is_same, IsLess, number_kind, pointer_kind}
 use Rattle.flow_program_types.specs.TypedStates.{Temporaries}
-use Rattle.flow_program_types.specs.TypedPrograms.{IsKept, PointsTo, IsTypedOperation, gives_number, gives_address, loads, stores_in, computes, enters, leaves_object, ends_run, IsTypedWay, IsObjectOf, IsTypedStore, first_types, IsTypedProgram}
+use Rattle.flow_program_types.specs.TypedPrograms.{IsKept, PointsTo, IsTypedOperation, gives_number, gives_address, loads, stores_in, computes, enters, leaves_object, ends_run, IsTypedWay, IsObjectOf, IsTypedProgram}
 use Rattle.flow_program_types_runs.proofs.AllLaws.{all_laws}
 use Rattle.flow_program_types_runs.proofs.TypedPrograms.{typed_accesses}
-use Rattle.flow_program_types_rows.specs.DividesByPointed.{at, int, to_int, unit, division, objects, nothing, temporaries, points, before_each, known_from, known, typing, IsTypedDivision}
+use Rattle.flow_program_types_rows.specs.DividesByPointed.{at, int, to_int, unit, objects, nothing, temporaries, points, before_each, known_from, known, typing, IsTypedDivision}
 
 none_there : {X : Type 0} (x : X) (n : ℕ) → slice_get [] n ≡ Some x → ⊥
 none_there x n e = cc
@@ -174,22 +171,26 @@ module _ (some : Flow) where
   typed_ends : (column : ℕ) → AreTyped (ends column) []
   typed_ends column = (leaves_object 0 (forgotten nothing), (leaves_object 1 (forgotten nothing), (ends_run, tt)))
 
+  stores_x : IsTypedAs (temporaries (points (Int int)) None) nothing (op.Store 0 1 int_scalar None)
+  stores_x = stores_in 0 1 int_scalar None (Int int) None (points_to _ _ 0 (Int int) refl) (number_kind int (omega arith)) tt (forgotten _)
+
+  stores_p : IsTypedAs (temporaries (points to_int) (points (Int int))) nothing (op.Store 0 1 scalar.Pointer None)
+  stores_p = stores_in 0 1 scalar.Pointer None to_int (points (Int int)) (points_to _ _ 0 to_int refl) (pointer_kind (Int int)) (Pointing (Element (Int int)), refl, is_same (Element (Int int))) (forgotten _)
+
+  loads_p : IsTypedAs (temporaries None (points to_int)) (temporaries None (points (Int int))) (op.Load 1 1 scalar.Pointer)
+  loads_p = loads 1 1 scalar.Pointer to_int (points (Int int)) (points_to _ _ 1 to_int refl) (pointer_kind (Int int)) (second_kept _ (Int int) refl)
+
+  loads_x : IsTypedAs (temporaries None (points (Int int))) nothing (op.Load 1 1 int_scalar)
+  loads_x = loads 1 1 int_scalar (Int int) None (points_to _ _ 1 (Int int) refl) (number_kind int (omega arith)) (forgotten _)
+
+  divides_typed : AreTyped divides_by (temporaries None (points to_int) ∷ (temporaries None (points (Int int)) ∷ []))
+  divides_typed = (loads_p, (loads_x, (computes 0 Div 0 (amount.Temp 1) int (forgotten _), typed_ends 34)))
+
+  points_typed : AreTyped points_p (nothing ∷ (temporaries (points to_int) None ∷ (temporaries (points to_int) (points (Int int)) ∷ (nothing ∷ (nothing ∷ (temporaries None (points to_int) ∷ (temporaries None (points (Int int)) ∷ [])))))))
+  points_typed = (gives_address 0 1 (first_kept _ to_int refl), (gives_address 1 0 (both_kept _ to_int (Int int) refl refl), (stores_p, (gives_number 0 (pos 1) int (forgotten _), (gives_address 1 1 (second_kept _ to_int refl), divides_typed)))))
+
   first_typed : AreTyped first_instructions before_each
-  first_typed = (
-    enters 0 (forgotten nothing), (
-    enters 1 (forgotten nothing), (
-    gives_address 0 0 (first_kept _ (Int int) refl), (
-    gives_number 1 (pos 0) int (first_kept _ (Int int) refl), (
-    stores_in 0 1 int_scalar None (Int int) None (points_to _ _ 0 (Int int) refl) (number_kind int (omega arith)) tt (forgotten _), (
-    gives_address 0 1 (first_kept _ to_int refl), (
-    gives_address 1 0 (both_kept _ to_int (Int int) refl refl), (
-    stores_in 0 1 scalar.Pointer None to_int (points (Int int)) (points_to _ _ 0 to_int refl) (pointer_kind (Int int)) (Pointing (Element (Int int)), refl, is_same (Element (Int int))) (forgotten _), (
-    gives_number 0 (pos 1) int (forgotten _), (
-    gives_address 1 1 (second_kept _ to_int refl), (
-    loads 1 1 scalar.Pointer to_int (points (Int int)) (points_to _ _ 1 to_int refl) (pointer_kind (Int int)) (second_kept _ (Int int) refl), (
-    loads 1 1 int_scalar (Int int) None (points_to _ _ 1 (Int int) refl) (number_kind int (omega arith)) (forgotten _), (
-    computes 0 Div 0 (amount.Temp 1) int (forgotten _),
-    typed_ends 34)))))))))))))
+  first_typed = (enters 0 (forgotten _), (enters 1 (forgotten _), (gives_address 0 0 (first_kept _ (Int int) refl), (gives_number 1 (pos 0) int (first_kept _ (Int int) refl), (stores_x, points_typed)))))
 
   steps : (block at : ℕ) (i : Instruction) → slice_get (instructions_of program block) at ≡ Some i → IsTypedAs (known block at) (known block (suc at)) i.operation
   steps zero at i e = typed_at first_instructions before_each first_typed at i e
