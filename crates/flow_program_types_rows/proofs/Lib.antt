@@ -1,0 +1,2 @@
+mod TypedDivision
+mod ExcludedPointers

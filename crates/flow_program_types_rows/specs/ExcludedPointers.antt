@@ -1,0 +1,49 @@
+-- Pointers of other types, and pointers that point to no number.
+use Rattle.std.specs.Prelude.{◌≡◌, ℕ, suc, List, Option, Some, slice_get}
+use Rattle.c_layout.specs.CheckedUnits.{UnitView}
+use Rattle.c_layout.specs.StructViews.{StructView}
+use Rattle.c_layout.specs.Types.{Ty, Int}
+use Rattle.flow_program.specs.declared.machine_instructions.Instruction.{Instruction}
+use Rattle.flow_program.specs.declared.machine_instructions.Operation.{Operation}
+use Rattle.flow_program.specs.declared.machine_instructions.Operation.TheVariants as op
+use Rattle.flow_program.specs.declared.machine_instructions.Scalar.TheVariants as scalar
+use Rattle.flow_program.specs.declared.programs.Flow.{Flow}
+use Rattle.rule_checks.specs.AdmittedRules.{instructions_of}
+use Rattle.lib_models_memory.specs.Bytes.{null, into}
+use Rattle.flow_program_types.specs.StandingTypes.{Stands}
+use Rattle.flow_program_types.specs.PointedTypes.{Target, Element, target_type, Points}
+use Rattle.flow_program_types.specs.TypedPrograms.{Typing, IsTypedProgram}
+use Rattle.flow_program_types_rows.specs.DividesByPointed.{int, to_int}
+
+-- ---- programs
+
+-- the block has the operation there
+pub record Does (flow : Flow) (block at : ℕ) (operation : Operation) : Type 0 where
+  pub instruction : Instruction
+  pub there : slice_get (instructions_of flow block) at ≡ Some instruction
+  pub does : instruction.operation ≡ operation
+
+-- `*(int*)&p`, as its program does it: a number is loaded through the address of the object 1
+pub record Misreads (flow : Flow) (block at : ℕ) : Type 0 where
+  pub address : Does flow block at (op.Address 1 1 0)
+  pub cast : Does flow block (suc at) (op.Convert 1 1 scalar.Pointer scalar.Pointer)
+  pub load : Does flow block (suc (suc at)) (op.Load 1 1 (scalar.Int int))
+
+-- where that object is a pointer, other types of temporaries do not help
+abbrev pub MisreadsAreUntyped : Type 0
+MisreadsAreUntyped = (flow : Flow) (u : UnitView) (typing : Typing) (block at : ℕ) → Misreads flow block at → typing.objects 1 ≡ to_int → IsTypedProgram flow u typing → ⊥
+
+-- ---- pointers into an object that is a number
+
+abbrev pub EndsPointToNumbers : Type 0
+EndsPointToNumbers = (structs : List StructView) (pointer_size : ℕ) (types : ℕ → Option Ty) → types 0 ≡ Some (Int int) → Points structs pointer_size types (Element (Int int)) (into 0 4 0 4)
+
+abbrev pub NoNumberStandsBehind : Type 0
+NoNumberStandsBehind = (structs : List StructView) (pointer_size : ℕ) → Stands structs pointer_size (Int int) (Int int) 4 → ⊥
+
+-- neither an element nor a place of the type
+abbrev pub PartsPointToNoNumber : Type 0
+PartsPointToNoNumber = (structs : List StructView) (pointer_size : ℕ) (types : ℕ → Option Ty) (target : Target) → target_type target ≡ Int int → types 0 ≡ Some (Int int) → Points structs pointer_size types target (into 0 2 0 4) → ⊥
+
+abbrev pub NullPointsToAll : Type 0
+NullPointsToAll = (structs : List StructView) (pointer_size : ℕ) (types : ℕ → Option Ty) (target : Target) → Points structs pointer_size types target null

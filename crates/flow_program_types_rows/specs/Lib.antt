@@ -1,0 +1,2 @@
+pub mod DividesByPointed
+pub mod ExcludedPointers
