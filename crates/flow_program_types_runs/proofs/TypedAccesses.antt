@@ -130,10 +130,10 @@ module _ (laws : TypeLaws) (flow : Flow) (laid : AreLaidOut flow.model (structs_
       one_or_apart : (to from : Target) → target_type to ≡ Struct index → target_type from ≡ Struct index → (p q : MachinePointer) → Points structs m.pointer types to p → Points structs m.pointer types from q → AreOneOrApart flow index p q
       one_or_apart to from is_to is_from null q points_p points_q = tt
       one_or_apart to from is_to is_from (into i offset lo hi) null points_p points_q = tt
-      one_or_apart to from is_to is_from (into i offset lo hi) (into j at below above) points_p points_q = λ x view seen same low high low' high' one two three four.
+      one_or_apart to from is_to is_from (into i offset lo hi) (into j at below above) points_p points_q = λ x view seen same low high from_low from_high one two three four.
           let size = size_is view seen in
           let p = points_at structs m.pointer types to i offset lo hi view.size points_p (omega (arith, size, some)) high in
-          let q = points_at structs m.pointer types from j at below above view.size points_q (omega (arith, size, some)) high' in
+          let q = points_at structs m.pointer types from j at below above view.size points_q (omega (arith, size, some)) from_high in
           let outer : q.outer ≡ p.outer = same_Some q.outer p.outer (sym q.is ∙ (ap types (sym same) ∙ p.is)) in
           laws.apart structs m.pointer p.outer index offset at x
           (subst (λ z. Stands structs m.pointer p.outer z offset) is_to p.stands)
