@@ -9,6 +9,7 @@ use Rattle.c_layout.specs.StructViews.{StructView, structs_view}
 use Rattle.c_layout.specs.Types.{Ty, Int, Pointer, Struct}
 use Rattle.c_layout.specs.declared.checked_tree.checked_units.StaticValue.TheVariants as static_value
 use Rattle.c_layout.specs.declared.shapes.BaseInfo.{BaseInfo}
+use Rattle.flow_program.specs.WellFormed.{On, leads}
 use Rattle.flow_program.specs.declared.machine_instructions.Amount.{Amount}
 use Rattle.flow_program.specs.declared.machine_instructions.Instruction.{Instruction}
 use Rattle.flow_program.specs.declared.machine_instructions.Operation.{Operation}
@@ -161,8 +162,8 @@ pub record IsTypedProgram (flow : Flow) (u : UnitView) (typing : Typing) : Type 
   pub parameters : flow.parameters.items ≡ []
   pub begins : (t : ℕ) → typing.known 0 0 t ≡ None
   pub steps : (block at : ℕ) (i : Instruction) → slice_get (instructions_of flow block) at ≡ Some i → IsTypedOperation flow typing.objects (typing.known block at) (typing.known block (suc at)) i.operation
-  -- an edge is taken behind some instruction of its block
-  pub edges : (block at : ℕ) (i : Instruction) (e : EdgeView) → slice_get (instructions_of flow block) at ≡ Some i → Contains (edges_of (flow_view flow) (block_of (flow_view flow) block)) e → IsTypedWay e.taken (typing.known block (suc at)) (typing.known e.to 0)
+  -- an edge is taken behind an instruction that ends its block
+  pub edges : (block at : ℕ) (i : Instruction) (e : EdgeView) → slice_get (instructions_of flow block) at ≡ Some i → (leads i.operation ≡ On → ⊥) → Contains (edges_of (flow_view flow) (block_of (flow_view flow) block)) e → IsTypedWay e.taken (typing.known block (suc at)) (typing.known e.to 0)
 
 -- ---- the law
 

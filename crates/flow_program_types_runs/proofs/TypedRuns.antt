@@ -63,24 +63,24 @@ module _ (laws : TypeLaws) (flow : Flow) (u : UnitView) (typing : Typing) (p : I
     abbrev after : Temporaries
     after = typing.known s.block (suc s.at)
 
-    along_stands : IsKept before after → (e : EdgeView) → Contains (edges_of f (block_of f s.block)) e → WhenGoing StandsTyped (along f s (Some e))
-    along_stands kept e among = when_behind (λ t w. Typed types (typing.known e.to 0) (record t { world = w })) StandsTyped (on_way f s e.taken) (λ t w. goes (at_block e.to t) w)
-        (way_still laws flow p.laid typing.objects types after s (temps_typed structs m.pointer typing.objects types before after s s.temps h (kept_known laws m structs p.laid types before after s.temps h.temps kept)) (typing.known e.to 0) e.taken (p.edges s.block s.at i e there among))
+    along_stands : (leads i.operation ≡ On → ⊥) → IsKept before after → (e : EdgeView) → Contains (edges_of f (block_of f s.block)) e → WhenGoing StandsTyped (along f s (Some e))
+    along_stands off kept e among = when_behind (λ t w. Typed types (typing.known e.to 0) (record t { world = w })) StandsTyped (on_way f s e.taken) (λ t w. goes (at_block e.to t) w)
+        (way_still laws flow p.laid typing.objects types after s (temps_typed structs m.pointer typing.objects types before after s s.temps h (kept_known laws m structs p.laid types before after s.temps h.temps kept)) (typing.known e.to 0) e.taken (p.edges s.block s.at i e there off among))
         (λ t w k. record { types = types; typed = place_typed structs m.pointer typing.objects types (typing.known e.to 0) (record t { world = w }) e.to 0 k })
 
-    edge_stands : IsKept before after → (v : Scalar) → WhenGoing StandsTyped (on_edge f s v)
-    edge_stands kept v = by_edge (edge_taken v (edges_of f (block_of f s.block))) refl
+    edge_stands : (leads i.operation ≡ On → ⊥) → IsKept before after → (v : Scalar) → WhenGoing StandsTyped (on_edge f s v)
+    edge_stands off kept v = by_edge (edge_taken v (edges_of f (block_of f s.block))) refl
       where
         by_edge : (e : Option EdgeView) → edge_taken v (edges_of f (block_of f s.block)) ≡ e → WhenGoing StandsTyped (along f s e)
         by_edge None is = tt
-        by_edge (Some e) is = along_stands kept e (taken_among v (edges_of f (block_of f s.block)) e is)
+        by_edge (Some e) is = along_stands off kept e (taken_among v (edges_of f (block_of f s.block)) e is)
 
-    way_stands : (o : Operation) → IsTypedOperation flow typing.objects before after o → (leads o ≡ On → ⊥) → WhenGoing StandsTyped (act_step f (act o) s)
-    way_stands _ (jumps kept) off = edge_stands kept (integer (pos 0) no_labels)
-    way_stands _ (branches from kind kept) off = when_some StandsTyped s (s.temps from) (on_edge f s) (λ v e. edge_stands kept v)
-    way_stands _ (switches from kind kept) off = when_some StandsTyped s (s.temps from) (switching f s) (λ v e. when_number StandsTyped v s.world (λ n labels w. on_edge f s v) (λ n labels is. edge_stands kept v))
-    way_stands _ ends_run off = tt
-    way_stands _ _ off = absurd (off refl)
+    way_stands : (o : Operation) → IsTypedOperation flow typing.objects before after o → (leads o ≡ On → ⊥) → (leads i.operation ≡ On → ⊥) → WhenGoing StandsTyped (act_step f (act o) s)
+    way_stands _ (jumps kept) off ends = edge_stands ends kept (integer (pos 0) no_labels)
+    way_stands _ (branches from kind kept) off ends = when_some StandsTyped s (s.temps from) (on_edge f s) (λ v e. edge_stands ends kept v)
+    way_stands _ (switches from kind kept) off ends = when_some StandsTyped s (s.temps from) (switching f s) (λ v e. when_number StandsTyped v s.world (λ n labels w. on_edge f s v) (λ n labels is. edge_stands ends kept v))
+    way_stands _ ends_run off ends = tt
+    way_stands _ _ off ends = absurd (off refl)
 
     next_stands : (t : Standing) (w : World) → IsNext laws flow p.laid typing.objects p.bases after s t w → StandsTyped t w
     next_stands t w k = record { types = k.types; typed = subst (λ z. Typed k.types z (record t { world = w })) known_is k.typed }
@@ -91,7 +91,7 @@ module _ (laws : TypeLaws) (flow : Flow) (u : UnitView) (typing : Typing) (p : I
     step_stands : WhenGoing StandsTyped (act_step f (act i.operation) s)
     step_stands = elim (goes_or_ends i) [
       | inl on ↦ when_more (IsNext laws flow p.laid typing.objects p.bases after s) StandsTyped (act_step f (act i.operation) s) next_stands (instruction laws flow p.laid typing.objects p.bases types before after s h i.operation (p.steps s.block s.at i there) on)
-      | inr off ↦ way_stands i.operation (p.steps s.block s.at i there) off
+      | inr off ↦ way_stands i.operation (p.steps s.block s.at i there) off off
     ]
 
   -- ---- runs
