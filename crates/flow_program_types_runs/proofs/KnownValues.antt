@@ -1,6 +1,5 @@
 -- What is known of a value: less may be known of it, and more objects may have types.
-use Rattle.std.proofs.Common.{◌≡◌, ℕ, ◌+◌, ◌-◌, ◌*◌, ◌/◌, ◌%◌, ◌<◌, ◌≤◌, Option, Some, None, List, arith, subst, sym, refl, ap, ◌∙◌, inl, inr}
-use Rattle.std.specs.Prelude.{ℤ, pos}
+use Rattle.std.proofs.Common.{◌≡◌, ℕ, ◌+◌, ◌-◌, ◌*◌, ◌/◌, ◌%◌, ◌<◌, ◌≤◌, Option, Some, List, arith, subst, sym, refl, ap, ◌∙◌, inl, inr}
 use Rattle.std.proofs.lemmas.Bool.{cases_lt}
 use Rattle.c_layout.specs.Layout.{size_of_type}
 use Rattle.c_layout.specs.StructViews.{StructView}
@@ -9,8 +8,7 @@ use Rattle.c_layout.specs.declared.data_model.Model.{Model}
 use Rattle.lib_models_memory.specs.Bytes.{MachinePointer, null, into}
 use Rattle.lib_models_memory.specs.Scalars.{Scalar, integer, pointer}
 use Rattle.flow_program_types.specs.StandingTypes.{AreLaidOut, Stands}
-use Rattle.flow_program_types.specs.PointedTypes.{Target, Element, Place, Known, Zero, Null, Pointing, IsElement, IsIn, Points, Has, IsUnder, is_same, is_inner, is_place, is_further, IsLess}
-use Rattle.flow_program_types.specs.EffectLaws.{HasIf}
+use Rattle.flow_program_types.specs.PointedTypes.{Target, Known, Zero, Null, Pointing, IsElement, IsIn, Points, Has, IsUnder, is_same, is_inner, is_place, is_further, IsLess}
 use Rattle.flow_program_types_runs.proofs.TypeLaws.{TypeLaws}
 
 abbrev pub Types : Type 0

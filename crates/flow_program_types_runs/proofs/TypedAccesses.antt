@@ -1,10 +1,10 @@
 -- In a typed state each access of a typed program is of the type of what lies there.
-use Rattle.std.proofs.Common.{◌≡◌, ℕ, ◌+◌, ◌<◌, ◌≤◌, Bool, true, false, cond, Option, Some, None, List, length, arith, subst, sym, refl, ap, ◌∙◌}
-use Rattle.std.specs.Prelude.{slice_get, ◌==◌, nat_lt}
+use Rattle.std.proofs.Common.{◌≡◌, ℕ, ◌+◌, ◌<◌, ◌≤◌, Bool, true, false, cond, Option, Some, None, List, arith, subst, sym, refl, ap, ◌∙◌}
+use Rattle.std.specs.Prelude.{slice_get, ◌==◌}
 use Rattle.std.proofs.lemmas.Bool.{lt-ltb}
 use Rattle.std.proofs.lemmas.Option.{same_Some, slice_get_within, get_or_from_slice_get}
 use Rattle.c_layout.specs.Layout.{size_of_type}
-use Rattle.c_layout.specs.StructViews.{StructView, no_struct, struct_at}
+use Rattle.c_layout.specs.StructViews.{StructView, no_struct}
 use Rattle.c_layout.specs.Types.{Ty, Int, Pointer, Struct}
 use Rattle.c_layout.specs.declared.data_model.Model.{Model}
 use Rattle.c_layout.specs.declared.leaf_lists.Class.{Class}
@@ -25,13 +25,13 @@ use Rattle.abstract_steps_single_copies.specs.TypedCopies.{PointsToStruct, AreOn
 use Rattle.abstract_steps_single_runs.specs.SingleRuns.{IsTypedStep}
 use Rattle.flow_program_types.specs.TypeBytes.{scalar_byte}
 use Rattle.flow_program_types.specs.StandingTypes.{AreLaidOut, Stands}
-use Rattle.flow_program_types.specs.LeafTypes.{IsLeafOf, HasLeaf}
+use Rattle.flow_program_types.specs.LeafTypes.{HasLeaf}
 use Rattle.flow_program_types.specs.PointedTypes.{Target, target_type, Known, Points, IsOfKind, number_kind, pointer_kind}
 use Rattle.flow_program_types.specs.TypedStates.{Temporaries}
 use Rattle.flow_program_types.specs.TypedPrograms.{structs_of, size_in, IsObjectOf, PointsTo, IsTypedOperation, loads, stores_in, copies}
-use Rattle.flow_program_types_memory.proofs.PointedPlaces.{IsAt, points_at, pointer_wide}
+use Rattle.flow_program_types_memory.proofs.PointedPlaces.{points_at, pointer_wide}
 use Rattle.flow_program_types_runs.proofs.TypeLaws.{TypeLaws}
-use Rattle.flow_program_types_runs.proofs.KnownValues.{Types, IsPointing, pointing}
+use Rattle.flow_program_types_runs.proofs.KnownValues.{Types, pointing}
 use Rattle.flow_program_types_runs.proofs.TypedStates.{IsTypedBy}
 
 -- ---- kinds
@@ -130,23 +130,24 @@ module _ (laws : TypeLaws) (flow : Flow) (laid : AreLaidOut flow.model (structs_
       one_or_apart : (to from : Target) → target_type to ≡ Struct index → target_type from ≡ Struct index → (p q : MachinePointer) → Points structs m.pointer types to p → Points structs m.pointer types from q → AreOneOrApart flow index p q
       one_or_apart to from is_to is_from null q points_p points_q = tt
       one_or_apart to from is_to is_from (into i offset lo hi) null points_p points_q = tt
-      one_or_apart to from is_to is_from (into i offset lo hi) (into j at below above) points_p points_q = λ x view seen same low high low' high' one two three four.
+      one_or_apart to from is_to is_from (into i offset lo hi) (into j at below above) points_p points_q = λ x view seen same low high from_low from_high one two three four.
           let size = size_is view seen in
           let p = points_at structs m.pointer types to i offset lo hi view.size points_p (omega (arith, size, some)) high in
-          let q = points_at structs m.pointer types from j at below above view.size points_q (omega (arith, size, some)) high' in
+          let q = points_at structs m.pointer types from j at below above view.size points_q (omega (arith, size, some)) from_high in
           let outer : q.outer ≡ p.outer = same_Some q.outer p.outer (sym q.is ∙ (ap types (sym same) ∙ p.is)) in
           laws.apart structs m.pointer p.outer index offset at x
-              (subst (λ z. Stands structs m.pointer p.outer z offset) is_to p.stands)
-              (subst (λ z. Stands structs m.pointer p.outer z at) is_from (subst (λ z. Stands structs m.pointer z (target_type from) at) outer q.stands))
-              (slice_get_within structs index view seen) one (subst (λ z. x < offset + z) size two) three (subst (λ z. x < at + z) size four)
+          (subst (λ z. Stands structs m.pointer p.outer z offset) is_to p.stands)
+          (subst (λ z. Stands structs m.pointer p.outer z at) is_from (subst (λ z. Stands structs m.pointer z (target_type from) at) outer q.stands))
+          (slice_get_within structs index view seen) one (subst (λ z. x < offset + z) size two) three (subst (λ z. x < at + z) size four)
 
     -- ---- instructions
 
     pub access_typed : (o : Operation) → IsTypedOperation flow objects before after o → IsTypedStep flow o s
     access_typed _ (loads to from kind t known q of_kind gives) = λ p e. kind_there q.target kind t q.is (scalar_kind t kind known of_kind) p (points_of from t q p e)
     access_typed _ (stores_in to from kind kept t known q of_kind storable keeps) = λ p e. kind_there q.target kind t q.is (scalar_kind t kind known of_kind) p (points_of to t q p e)
-    access_typed _ (copies to from index q r some kept) =
-        (λ p e. points_struct index some q.target q.is p (points_of to (Struct index) q p e),
-        λ p e. points_struct index some r.target r.is p (points_of from (Struct index) r p e),
-        λ p o e there. one_or_apart index some q.target r.target q.is r.is p o (points_of to (Struct index) q p e) (points_of from (Struct index) r o there))
+    access_typed _ (copies to from index q r some kept) = (
+      λ p e. points_struct index some q.target q.is p (points_of to (Struct index) q p e),
+      λ p e. points_struct index some r.target r.is p (points_of from (Struct index) r p e),
+      λ p o e there. one_or_apart index some q.target r.target q.is r.is p o (points_of to (Struct index) q p e) (points_of from (Struct index) r o there),
+    )
     access_typed _ _ = tt

@@ -1,5 +1,5 @@
 -- Each way along an edge of a typed program leaves a typed state, where the run goes on.
-use Rattle.std.proofs.Common.{◌≡◌, ℕ, Bool, true, false, cond, Option, Some, None, List, [], ◌∷◌, arith, refl}
+use Rattle.std.proofs.Common.{◌≡◌, ℕ, Bool, true, false, cond, Option, Some, None, List, [], ◌∷◌, arith}
 use Rattle.std.specs.Prelude.{ℤ, slice_get}
 use Rattle.std.specs.List.{Contains}
 use Rattle.std.proofs.lemmas.List.Elements.{Contains-append_right}
@@ -15,7 +15,7 @@ use Rattle.flow_lower_tasks.specs.Pieces.{Way, Always, When, Case, Other, NoLine
 use Rattle.lib_models_memory.specs.Labels.{no_labels}
 use Rattle.lib_models_memory.specs.Scalars.{Scalar, integer}
 use Rattle.lib_models_effects.specs.NumberedTables.{put_at}
-use Rattle.lib_models_effects.specs.Tests.{TestedSide, object, constant, nothing, SideTest, pass_test, pass_case}
+use Rattle.lib_models_effects.specs.Tests.{TestedSide, object, constant, nothing, pass_test, pass_case}
 use Rattle.lib_models_effects.specs.Worlds.{World, Reply, goes, stops}
 use Rattle.flow_program_views.specs.ProgramViews.{EdgeView, FlowView, flow_view}
 use Rattle.flow_program_machine.specs.FlowStates.{Standing}

@@ -1,6 +1,6 @@
 -- Each instruction of a typed program that does not end its block leaves a typed state, where the run goes on.
-use Rattle.std.proofs.Common.{◌≡◌, ℕ, zero, suc, ◌+◌, ◌*◌, ◌<◌, ◌≤◌, Bool, Option, Some, None, List, length, arith, subst, sym, refl, ap, ◌∙◌, inl, inr}
-use Rattle.std.specs.Prelude.{ℤ, pos, slice_get}
+use Rattle.std.proofs.Common.{◌≡◌, ℕ, suc, ◌+◌, ◌*◌, ◌<◌, Bool, Option, Some, None, List, length, arith, subst, sym, refl, ap, ◌∙◌, inl, inr}
+use Rattle.std.specs.Prelude.{pos, slice_get}
 use Rattle.std.specs.Ordering.{int_eq}
 use Rattle.std.proofs.lemmas.Bool.{cases_eq}
 use Rattle.std.proofs.lemmas.Option.{same_Some}
@@ -38,7 +38,7 @@ use Rattle.ref_machine_memory.specs.GoingWorlds.{WhenGoing, Keeps, Same}
 use Rattle.ref_machine_memory.proofs.Replies.{when_more, when_behind, when_either}
 use Rattle.ref_machine_memory.proofs.Computing.{binary_keeps, unary_keeps, compare_numbers_keeps, negation_keeps, convert_keeps, difference_keeps, compare_keeps}
 use Rattle.flow_program_types.specs.StandingTypes.{AreLaidOut, Stands}
-use Rattle.flow_program_types.specs.PointedTypes.{Target, Element, Place, target_type, Known, Zero, Null, Pointing, IsElement, Points, Has, IsLess, IsOfKind, IsStorable}
+use Rattle.flow_program_types.specs.PointedTypes.{Target, Element, Place, Known, Zero, Null, Pointing, IsElement, Points, Has, IsLess, IsOfKind, IsStorable}
 use Rattle.flow_program_types.specs.TypedStates.{Temporaries}
 use Rattle.flow_program_types.specs.TypedPrograms.{structs_of, IsObjectOf, IsKept, Gives, GivesIf, Keeps as KeepsValue, PointsTo, IsTypedOperation, gives_zero, gives_number, gives_address, gives_part, loads, stores_in, copies, narrows, shifts, computes, computes_one, compares, inverts, subtracts, compares_pointers, to_number, to_null, to_pointer, calls, enters, leaves_object, forgets, clears, spells, jumps, branches, switches, ends_run}
 use Rattle.flow_program_types.specs.EffectLaws.{HasIf, GivesKnown, KeepsTypes}
@@ -187,8 +187,8 @@ module _ (laws : TypeLaws) (flow : Flow) (laid : AreLaidOut flow.model (structs_
         let q = points_at to t p a there in
         let has = storable_has known (before from) v storable (has_if from v e) in
         subst (λ z. Goes (storing s kept (store m kind z v s.world))) (sym q.is) (when_behind (λ x w. KeepsTypes structs m.pointer types s.world w) (IsNext after s) (store m kind (pointer q.p) v s.world) (λ x w. keeping (record s { world = w }) kept)
-            (when_is (λ x w. KeepsTypes structs m.pointer types s.world w) (store m kind (pointer q.p) v s.world) (λ x w g. laws.stores m structs types p.target kind known q.p v x s.world w laid.model h.declared h.memory q.points (subst (λ z. IsOfKind z kind known) (sym p.is) of_kind) has g))
-            (λ x w k. kept_goes w k kept keeps))
+        (when_is (λ x w. KeepsTypes structs m.pointer types s.world w) (store m kind (pointer q.p) v s.world) (λ x w g. laws.stores m structs types p.target kind known q.p v x s.world w laid.model h.declared h.memory q.points (subst (λ z. IsOfKind z kind known) (sym p.is) of_kind) has g))
+        (λ x w k. kept_goes w k kept keeps))
 
     copied : (to : ℕ) (p : MachinePointer) → s.temps to ≡ Some (pointer p) → IsKept before after → (reply : Reply Scalar) → WhenGoing (λ v w. KeepsTypes structs m.pointer types s.world w × (v ≡ pointer p)) reply → Goes (giving s to reply)
     copied to p there kept (goes v w) k = next_goes types (put s to v w) (temps_typed structs m.pointer objects types before after (record s { world = w }) (put_at s.temps to v) (world_typed structs m.pointer objects types before s w h k.0) (kept_known laws m structs laid types before after (put_at s.temps to v) (same_known laws m structs laid types before s.temps to v h.temps (there ∙ ap Some (sym k.1))) kept)) refl refl
@@ -199,7 +199,7 @@ module _ (laws : TypeLaws) (flow : Flow) (laid : AreLaidOut flow.model (structs_
         let c = points_at to (Struct index) p a there in
         let d = points_at from (Struct index) q b e in
         subst (λ z. Goes (giving s to (copy_struct m (struct_leaves f index) (struct_size f index) z b s.world))) (sym c.is) (subst (λ z. Goes (giving s to (copy_struct m (struct_leaves f index) (struct_size f index) (pointer c.p) z s.world))) (sym d.is)
-            (copied to c.p (there ∙ ap Some c.is) kept (copy_struct m (struct_leaves f index) (struct_size f index) (pointer c.p) (pointer d.p) s.world) (when_is (λ v w. KeepsTypes structs m.pointer types s.world w × (v ≡ pointer c.p)) (copy_struct m (struct_leaves f index) (struct_size f index) (pointer c.p) (pointer d.p) s.world) (λ x w g. laws.copies m structs types p.target q.target index (struct_leaves f index) c.p d.p x s.world w h.memory c.points p.is d.points q.is g))))
+        (copied to c.p (there ∙ ap Some c.is) kept (copy_struct m (struct_leaves f index) (struct_size f index) (pointer c.p) (pointer d.p) s.world) (when_is (λ v w. KeepsTypes structs m.pointer types s.world w × (v ≡ pointer c.p)) (copy_struct m (struct_leaves f index) (struct_size f index) (pointer c.p) (pointer d.p) s.world) (λ x w g. laws.copies m structs types p.target q.target index (struct_leaves f index) c.p d.p x s.world w h.memory c.points p.is d.points q.is g))))
 
     -- ---- calls
 

@@ -1,18 +1,7 @@
 -- In the run of a typed program under no numbers of the outside each access is of the type of what lies there.
-use Rattle.std.proofs.Common.{◌≡◌, ℕ, suc, List, [], Some, subst}
-use Rattle.std.specs.Prelude.{slice_get}
-use Rattle.c_layout.specs.CheckedUnits.{UnitView}
-use Rattle.flow_program.specs.declared.machine_instructions.Instruction.{Instruction}
-use Rattle.flow_program.specs.declared.programs.Flow.{Flow}
-use Rattle.rule_checks.specs.AdmittedRules.{instructions_of}
-use Rattle.lib_models_effects.specs.Worlds.{Violation}
-use Rattle.flow_program_views.specs.ProgramViews.{flow_view}
-use Rattle.flow_program_machine.specs.FlowStates.{Standing, running}
-use Rattle.flow_program_machine.specs.FlowStarts.{flow_begin}
-use Rattle.flow_program_machine.specs.FlowSteps.{flow_steps}
-use Rattle.abstract_steps_single_runs.specs.SingleRuns.{IsTypedStep}
+use Rattle.std.proofs.Common.{suc, subst}
 use Rattle.flow_program_types.specs.TypedStates.{IsTyped}
-use Rattle.flow_program_types.specs.TypedPrograms.{structs_of, Typing, IsTypedProgram, TypedProgramsHaveTypedAccesses}
+use Rattle.flow_program_types.specs.TypedPrograms.{structs_of, TypedProgramsHaveTypedAccesses}
 use Rattle.flow_program_types_runs.proofs.TypeLaws.{TypeLaws}
 use Rattle.flow_program_types_runs.proofs.TypedAccesses.{access_typed}
 use Rattle.flow_program_types_runs.proofs.TypedRuns.{IsTypedRun, run_typed}

@@ -1,11 +1,10 @@
 -- The run of a typed program under no numbers of the outside stands in typed states.
-use Rattle.std.proofs.Common.{◌≡◌, ℕ, zero, suc, ◌<◌, Option, Some, None, List, [], length, subst, sym, refl, ap, ◌∙◌, inl, inr}
-use Rattle.std.specs.Prelude.{ℤ, pos, slice_get}
+use Rattle.std.proofs.Common.{◌≡◌, ℕ, zero, suc, Option, Some, None, List, [], subst, sym, refl, ap, ◌∙◌, inl, inr}
+use Rattle.std.specs.Prelude.{pos, slice_get}
 use Rattle.std.specs.List.{Contains}
 use Rattle.cc_base.specs.declared.diagnostics.Place.{Place}
 use Rattle.c_layout.specs.CheckedUnits.{UnitView}
 use Rattle.c_layout.specs.StructViews.{StructView}
-use Rattle.c_layout.specs.Types.{Ty}
 use Rattle.c_layout.specs.declared.data_model.Model.{Model}
 use Rattle.flow_program.specs.WellFormed.{On, leads}
 use Rattle.flow_program.specs.declared.machine_instructions.Instruction.{Instruction}
@@ -20,12 +19,12 @@ use Rattle.lib_models_effects.specs.Worlds.{World, Reply, goes, stops, Violation
 use Rattle.flow_program_views.specs.ProgramViews.{EdgeView, FlowView, flow_view}
 use Rattle.flow_program_machine.specs.FlowStates.{Standing, FlowRun, running, stopped}
 use Rattle.flow_program_machine.specs.FlowEdges.{edge_taken, edges_of, at_block, along, on_way}
-use Rattle.flow_program_machine.specs.FlowStarts.{start_names, first_standing, begun_by, flow_begin}
+use Rattle.flow_program_machine.specs.FlowStarts.{begun_by, flow_begin}
 use Rattle.flow_program_machine.specs.FlowSteps.{block_of, on_edge, switching, begun, act_step, run_by, instruction_step, flow_step, flow_steps}
-use Rattle.abstract_steps_covered.proofs.Blocks.{IsAt, is_at, goes_or_ends}
+use Rattle.abstract_steps_covered.proofs.Blocks.{is_at, goes_or_ends}
 use Rattle.ref_machine_memory.specs.GoingWorlds.{WhenGoing}
 use Rattle.ref_machine_memory.proofs.Replies.{when_more, when_behind, when_number}
-use Rattle.flow_program_types.specs.TypedStates.{Temporaries, AreDeclared, IsTypedMemory, IsTyped}
+use Rattle.flow_program_types.specs.TypedStates.{Temporaries, IsTypedMemory, IsTyped}
 use Rattle.flow_program_types.specs.TypedPrograms.{structs_of, IsKept, IsTypedOperation, jumps, branches, switches, ends_run, first_types, Typing, IsTypedProgram}
 use Rattle.flow_program_types_runs.proofs.TypeLaws.{TypeLaws}
 use Rattle.flow_program_types_runs.proofs.KnownValues.{Types}
@@ -50,7 +49,8 @@ module _ (laws : TypeLaws) (flow : Flow) (u : UnitView) (typing : Typing) (p : I
   abbrev known_at : Standing → Temporaries
   known_at s = typing.known s.block s.at
 
-  record Stands (t : Standing) (w : World) : Type 0 where
+  -- a run that stands there with this world is in a typed state
+  record StandsTyped (t : Standing) (w : World) : Type 0 where
     types : Types
     typed : Typed types (known_at t) (record t { world = w })
 
@@ -63,34 +63,34 @@ module _ (laws : TypeLaws) (flow : Flow) (u : UnitView) (typing : Typing) (p : I
     abbrev after : Temporaries
     after = typing.known s.block (suc s.at)
 
-    along_stands : IsKept before after → (e : EdgeView) → Contains (edges_of f (block_of f s.block)) e → WhenGoing Stands (along f s (Some e))
-    along_stands kept e among = when_behind (λ t w. Typed types (typing.known e.to 0) (record t { world = w })) Stands (on_way f s e.taken) (λ t w. goes (at_block e.to t) w)
+    along_stands : IsKept before after → (e : EdgeView) → Contains (edges_of f (block_of f s.block)) e → WhenGoing StandsTyped (along f s (Some e))
+    along_stands kept e among = when_behind (λ t w. Typed types (typing.known e.to 0) (record t { world = w })) StandsTyped (on_way f s e.taken) (λ t w. goes (at_block e.to t) w)
         (way_still laws flow p.laid typing.objects types after s (temps_typed structs m.pointer typing.objects types before after s s.temps h (kept_known laws m structs p.laid types before after s.temps h.temps kept)) (typing.known e.to 0) e.taken (p.edges s.block s.at i e there among))
         (λ t w k. record { types = types; typed = place_typed structs m.pointer typing.objects types (typing.known e.to 0) (record t { world = w }) e.to 0 k })
 
-    edge_stands : IsKept before after → (v : Scalar) → WhenGoing Stands (on_edge f s v)
+    edge_stands : IsKept before after → (v : Scalar) → WhenGoing StandsTyped (on_edge f s v)
     edge_stands kept v = by_edge (edge_taken v (edges_of f (block_of f s.block))) refl
       where
-        by_edge : (e : Option EdgeView) → edge_taken v (edges_of f (block_of f s.block)) ≡ e → WhenGoing Stands (along f s e)
+        by_edge : (e : Option EdgeView) → edge_taken v (edges_of f (block_of f s.block)) ≡ e → WhenGoing StandsTyped (along f s e)
         by_edge None is = tt
         by_edge (Some e) is = along_stands kept e (taken_among v (edges_of f (block_of f s.block)) e is)
 
-    way_stands : (o : Operation) → IsTypedOperation flow typing.objects before after o → (leads o ≡ On → ⊥) → WhenGoing Stands (act_step f (act o) s)
+    way_stands : (o : Operation) → IsTypedOperation flow typing.objects before after o → (leads o ≡ On → ⊥) → WhenGoing StandsTyped (act_step f (act o) s)
     way_stands _ (jumps kept) off = edge_stands kept (integer (pos 0) no_labels)
-    way_stands _ (branches from kind kept) off = when_some Stands s (s.temps from) (on_edge f s) (λ v e. edge_stands kept v)
-    way_stands _ (switches from kind kept) off = when_some Stands s (s.temps from) (switching f s) (λ v e. when_number Stands v s.world (λ n labels w. on_edge f s v) (λ n labels is. edge_stands kept v))
+    way_stands _ (branches from kind kept) off = when_some StandsTyped s (s.temps from) (on_edge f s) (λ v e. edge_stands kept v)
+    way_stands _ (switches from kind kept) off = when_some StandsTyped s (s.temps from) (switching f s) (λ v e. when_number StandsTyped v s.world (λ n labels w. on_edge f s v) (λ n labels is. edge_stands kept v))
     way_stands _ ends_run off = tt
     way_stands _ _ off = absurd (off refl)
 
-    next_stands : (t : Standing) (w : World) → IsNext laws flow p.laid typing.objects p.bases after s t w → Stands t w
+    next_stands : (t : Standing) (w : World) → IsNext laws flow p.laid typing.objects p.bases after s t w → StandsTyped t w
     next_stands t w k = record { types = k.types; typed = subst (λ z. Typed k.types z (record t { world = w })) known_is k.typed }
       where
         known_is : after ≡ known_at t
         known_is = ap (λ z. typing.known z (suc s.at)) (sym k.block) ∙ ap (typing.known t.block) (sym k.at)
 
-    step_stands : WhenGoing Stands (act_step f (act i.operation) s)
+    step_stands : WhenGoing StandsTyped (act_step f (act i.operation) s)
     step_stands = elim (goes_or_ends i) [
-      | inl on ↦ when_more (IsNext laws flow p.laid typing.objects p.bases after s) Stands (act_step f (act i.operation) s) next_stands (instruction laws flow p.laid typing.objects p.bases types before after s h i.operation (p.steps s.block s.at i there) on)
+      | inl on ↦ when_more (IsNext laws flow p.laid typing.objects p.bases after s) StandsTyped (act_step f (act i.operation) s) next_stands (instruction laws flow p.laid typing.objects p.bases types before after s h i.operation (p.steps s.block s.at i there) on)
       | inr off ↦ way_stands i.operation (p.steps s.block s.at i there) off
     ]
 
@@ -100,7 +100,7 @@ module _ (laws : TypeLaws) (flow : Flow) (u : UnitView) (typing : Typing) (p : I
   IsTypedRun (running s found) = IsTyped structs m.pointer typing.objects (known_at s) s
   IsTypedRun (stopped why w found) = Unit {0}
 
-  reply_typed : (found : List Violation) (place : Place) (reply : Reply Standing) → WhenGoing Stands reply → IsTypedRun (run_by found place reply)
+  reply_typed : (found : List Violation) (place : Place) (reply : Reply Standing) → WhenGoing StandsTyped reply → IsTypedRun (run_by found place reply)
   reply_typed found place (goes t w) k = typed_of structs m.pointer typing.objects k.types (known_at t) (record t { world = w }) k.typed
   reply_typed found place (stops why w) k = tt
 
@@ -110,7 +110,7 @@ module _ (laws : TypeLaws) (flow : Flow) (u : UnitView) (typing : Typing) (p : I
       let k = is_at flow s.block s.at i e in
       let there : slice_get (instructions_of flow s.block) s.at ≡ Some k.instruction = ap (λ z. slice_get (instructions_in z) s.at) k.block_is ∙ k.is in
       let begins : Typed h.types (known_at s) (begun s) = same_typed structs m.pointer typing.objects h.types (known_at s) s (begun s).world (by_types structs m.pointer typing.objects (known_at s) s h) refl in
-      reply_typed found i.at (act_step f i.does (begun s)) (subst (λ (z : Step). WhenGoing Stands (act_step f z.does (begun s))) k.same (step_stands h.types (begun s) begins k.instruction there))
+      reply_typed found i.at (act_step f i.does (begun s)) (subst (λ (z : Step). WhenGoing StandsTyped (act_step f z.does (begun s))) k.same (step_stands h.types (begun s) begins k.instruction there))
 
   next_typed : (r : FlowRun) → IsTypedRun r → IsTypedRun (flow_step f r)
   next_typed (running s found) h = step_typed found s h (slice_get (block_of f s.block).steps s.at) refl

@@ -1,5 +1,5 @@
 -- States under the types of their instances: what is known of temporaries that are put, and memory that keeps to types.
-use Rattle.std.proofs.Common.{◌≡◌, ℕ, suc, ◌+◌, ◌<◌, ◌≤◌, false, Option, Some, None, List, length, arith, subst, sym, refl, ap, ◌∙◌, inl, inr}
+use Rattle.std.proofs.Common.{◌≡◌, ℕ, ◌<◌, Option, Some, None, List, length, arith, subst, sym, ap, ◌∙◌, inl, inr}
 use Rattle.std.proofs.lemmas.Bool.{cases_eq}
 use Rattle.std.proofs.lemmas.Option.{same_Some}
 use Rattle.c_layout.specs.StructViews.{StructView}
@@ -7,7 +7,7 @@ use Rattle.c_layout.specs.Types.{Ty}
 use Rattle.c_layout.specs.declared.data_model.Model.{Model}
 use Rattle.lib_models_memory.specs.Scalars.{Scalar}
 use Rattle.lib_models_effects.specs.NumberedTables.{set_at, put_at, clear_at}
-use Rattle.lib_models_effects.specs.Touches.{is_allocated, storage_at}
+use Rattle.lib_models_effects.specs.Touches.{is_allocated}
 use Rattle.lib_models_effects.specs.Worlds.{World}
 use Rattle.flow_program_machine.specs.FlowStates.{Standing}
 use Rattle.flow_program_types.specs.StandingTypes.{AreLaidOut}
