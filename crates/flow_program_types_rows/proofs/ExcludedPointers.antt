@@ -5,7 +5,7 @@ use Rattle.std.proofs.lemmas.Option.{same_Some}
 use Rattle.c_layout.specs.CheckedUnits.{UnitView}
 use Rattle.c_layout.specs.Layout.{size_of_type}
 use Rattle.c_layout.specs.StructViews.{StructView}
-use Rattle.c_layout.specs.Types.{Ty, Int, Array}
+use Rattle.c_layout.specs.Types.{Ty, Int, Pointer, Array}
 use Rattle.flow_program.specs.declared.machine_instructions.Operation.{Operation}
 use Rattle.flow_program.specs.declared.machine_instructions.Operation.TheVariants as op
 use Rattle.flow_program.specs.declared.machine_instructions.Scalar.{Scalar}
@@ -17,105 +17,107 @@ use Rattle.flow_program_types.specs.StandingTypes.{Stands}
 use Rattle.flow_program_types.specs.PointedTypes.{Target, Element, Place, target_type, Known, Zero, Null, Pointing, IsUnder, is_same, is_inner, is_place, is_further, IsLess, IsIn, Points, IsOfKind, number_kind, pointer_kind}
 use Rattle.flow_program_types.specs.TypedStates.{Temporaries}
 use Rattle.flow_program_types.specs.TypedPrograms.{structs_of, Gives, IsTypedOperation, gives_address, gives_part, loads, to_pointer, Typing, IsTypedProgram}
-use Rattle.flow_program_types_rows.specs.DividesByPointed.{int, to_int}
+use Rattle.flow_program_types_runs.proofs.TypedStates.{set_here}
+use Rattle.flow_program_types_rows.specs.DividesByPointed.{int}
 use Rattle.flow_program_types_rows.specs.ExcludedPointers.{Misreads}
 
--- ---- what is under a pointer to a pointer
+-- ---- what loads no number
 
--- elements are pointers, and a place is no number
-abbrev IsNoNumber : Target → Type 0
-IsNoNumber (Element t) = t ≡ to_int
-IsNoNumber (Place t) = t ≡ Int int → ⊥
+module _ (inner : Ty) (temp : ℕ) where
+  -- elements are pointers, and a place is no number
+  abbrev IsNoNumber : Target → Type 0
+  IsNoNumber (Element t) = t ≡ Pointer inner
+  IsNoNumber (Place t) = t ≡ Int int → ⊥
 
-array_apart : (t : Ty) (n : ℕ) → Array t n ≡ to_int → ⊥
-array_apart t n e = cc
+  array_apart : (t : Ty) (n : ℕ) → Array t n ≡ Pointer inner → ⊥
+  array_apart t n e = cc
 
-number_apart : Int int ≡ to_int → ⊥
-number_apart e = cc
+  number_apart : Int int ≡ Pointer inner → ⊥
+  number_apart e = cc
 
-under_still : (a b : Target) → IsUnder a b → IsNoNumber a → IsNoNumber b
-under_still _ _ (is_same target) h = h
-under_still _ _ (is_inner t n) h = absurd (array_apart t n h)
-under_still _ _ (is_place t) h = λ e. number_apart (sym e ∙ h)
-under_still _ _ (is_further a b c one other) h = under_still b c other (under_still a b one h)
+  under_still : (a b : Target) → IsUnder a b → IsNoNumber a → IsNoNumber b
+  under_still _ _ (is_same target) h = h
+  under_still _ _ (is_inner t n) h = absurd (array_apart t n h)
+  under_still _ _ (is_place t) h = λ e. number_apart (sym e ∙ h)
+  under_still _ _ (is_further a b c one other) h = under_still b c other (under_still a b one h)
 
-no_number : (target : Target) → IsNoNumber target → target_type target ≡ Int int → ⊥
-no_number (Element t) h e = number_apart (sym e ∙ h)
-no_number (Place t) h e = h e
+  no_number : (target : Target) → IsNoNumber target → target_type target ≡ Int int → ⊥
+  no_number (Element t) h e = number_apart (sym e ∙ h)
+  no_number (Place t) h e = h e
 
-abbrev IsKnownNoNumber : Known → Type 0
-IsKnownNoNumber Zero = ⊥
-IsKnownNoNumber Null = ⊥
-IsKnownNoNumber (Pointing target) = IsNoNumber target
+  abbrev IsKnownNoNumber : Known → Type 0
+  IsKnownNoNumber Zero = ⊥
+  IsKnownNoNumber Null = ⊥
+  IsKnownNoNumber (Pointing target) = IsNoNumber target
 
-less_still : (old k : Known) → IsLess old k → IsKnownNoNumber old → IsKnownNoNumber k
-less_still Zero k less h = absurd h
-less_still Null k less h = absurd h
-less_still (Pointing a) Zero less h = absurd less
-less_still (Pointing a) Null less h = absurd less
-less_still (Pointing a) (Pointing b) less h = under_still a b less h
+  less_still : (old k : Known) → IsLess old k → IsKnownNoNumber old → IsKnownNoNumber k
+  less_still Zero k less h = absurd h
+  less_still Null k less h = absurd h
+  less_still (Pointing a) Zero less h = absurd less
+  less_still (Pointing a) Null less h = absurd less
+  less_still (Pointing a) (Pointing b) less h = under_still a b less h
 
--- all that is known of the temporary
-abbrev IsNoNumberAt : Temporaries → Type 0
-IsNoNumberAt known = (k : Known) → known 1 ≡ Some k → IsKnownNoNumber k
+  -- all that is known of the temporary
+  abbrev IsNoNumberAt : Temporaries → Type 0
+  IsNoNumberAt known = (k : Known) → known temp ≡ Some k → IsKnownNoNumber k
 
-given_still : (before after : Temporaries) (known : Option Known) → ((old : Known) → known ≡ Some old → IsKnownNoNumber old) → Gives 1 known before after → IsNoNumberAt after
-given_still before after known h gives k e = let g = gives 1 k e in less_still g.0 k g.2 (h g.0 g.1)
+  given_still : (before after : Temporaries) (known : Option Known) → ((old : Known) → known ≡ Some old → IsKnownNoNumber old) → Gives temp known before after → IsNoNumberAt after
+  given_still before after known h gives k e = let g = gives temp k e in less_still g.0 k g.2 (h g.0 (sym (set_here before temp known temp refl) ∙ g.1))
 
--- no number stands where a pointer begins
-pointer_byte : (there : Bool) → cond {A = Option ScalarByte} there (Some (record { ctype = to_int; at = 0 })) None ≡ Some (record { ctype = Int int; at = 0 }) → ⊥
-pointer_byte true e = number_apart (sym (ap (λ (b : ScalarByte). b.ctype) (same_Some _ _ e)))
-pointer_byte false e = cc
+  -- no number stands where a pointer begins
+  pointer_byte : (there : Bool) → cond {A = Option ScalarByte} there (Some (record { ctype = Pointer inner; at = 0 })) None ≡ Some (record { ctype = Int int; at = 0 }) → ⊥
+  pointer_byte true e = number_apart (sym (ap (λ (b : ScalarByte). b.ctype) (same_Some _ _ e)))
+  pointer_byte false e = cc
 
-stands_apart : (structs : List StructView) (pointer_size : ℕ) → Stands structs pointer_size to_int (Int int) 0 → ⊥
-unfolding scalar_byte
-stands_apart structs pointer_size stands = pointer_byte (nat_lt 0 pointer_size) (stands.scalars 0 (omega arith))
+  stands_apart : (structs : List StructView) (pointer_size : ℕ) → Stands structs pointer_size (Pointer inner) (Int int) 0 → ⊥
+  unfolding scalar_byte
+  stands_apart structs pointer_size stands = pointer_byte (nat_lt 0 pointer_size) (stands.scalars 0 (omega arith))
 
--- ---- instructions
+  -- ---- instructions
 
-module _ (flow : Flow) (objects : ℕ → Ty) (object_is : objects 1 ≡ to_int) (before after : Temporaries) where
-  known_same : (target : Target) → IsNoNumber target → (old : Known) → Some (Pointing target) ≡ Some old → IsKnownNoNumber old
-  known_same target h old e = subst IsKnownNoNumber (same_Some (Pointing target) old e) h
+  module _ (flow : Flow) (objects : ℕ → Ty) (base : ℕ) (object_is : objects base ≡ Pointer inner) (before after : Temporaries) where
+    known_same : (target : Target) → IsNoNumber target → (old : Known) → Some (Pointing target) ≡ Some old → IsKnownNoNumber old
+    known_same target h old e = subst IsKnownNoNumber (same_Some (Pointing target) old e) h
 
-  addressed : (o : Operation) → IsTypedOperation flow objects before after o → o ≡ op.Address 1 1 0 → IsNoNumberAt after
-  addressed _ (gives_address to base gives) e =
-      let t : to ≡ 1 = cc in
-      let b : base ≡ 1 = cc in
-      given_still before after (Some (Pointing (Element (objects base)))) (known_same (Element (objects base)) (ap objects b ∙ object_is)) (subst (λ z. Gives z (Some (Pointing (Element (objects base)))) before after) t gives)
-  addressed _ (gives_part to base offset t stands gives) e =
-      let to_is : to ≡ 1 = cc in
-      let b : base ≡ 1 = cc in
-      let o : offset ≡ 0 = cc in
-      let there : Stands (structs_of flow) flow.model.pointer to_int t 0 = subst (λ z. Stands (structs_of flow) flow.model.pointer to_int t z) o (subst (λ z. Stands (structs_of flow) flow.model.pointer z t offset) (ap objects b ∙ object_is) stands) in
-      given_still before after (Some (Pointing (Place t))) (known_same (Place t) (λ is. stands_apart (structs_of flow) flow.model.pointer (subst (λ z. Stands (structs_of flow) flow.model.pointer to_int z 0) is there))) (subst (λ z. Gives z (Some (Pointing (Place t))) before after) to_is gives)
-  addressed _ _ e = cc
+    addressed : (o : Operation) → IsTypedOperation flow objects before after o → o ≡ op.Address temp base 0 → IsNoNumberAt after
+    addressed _ (gives_address to own gives) e =
+        let t : to ≡ temp = cc in
+        let b : own ≡ base = cc in
+        given_still before after (Some (Pointing (Element (objects own)))) (known_same (Element (objects own)) (ap objects b ∙ object_is)) (subst (λ z. Gives z (Some (Pointing (Element (objects own)))) before after) t gives)
+    addressed _ (gives_part to own offset t stands gives) e =
+        let to_is : to ≡ temp = cc in
+        let b : own ≡ base = cc in
+        let o : offset ≡ 0 = cc in
+        let there : Stands (structs_of flow) flow.model.pointer (Pointer inner) t 0 = subst (λ z. Stands (structs_of flow) flow.model.pointer (Pointer inner) t z) o (subst (λ z. Stands (structs_of flow) flow.model.pointer z t offset) (ap objects b ∙ object_is) stands) in
+        given_still before after (Some (Pointing (Place t))) (known_same (Place t) (λ is. stands_apart (structs_of flow) flow.model.pointer (subst (λ z. Stands (structs_of flow) flow.model.pointer (Pointer inner) z 0) is there))) (subst (λ z. Gives z (Some (Pointing (Place t))) before after) to_is gives)
+    addressed _ _ e = cc
 
-  cast_still : (o : Operation) → IsTypedOperation flow objects before after o → o ≡ op.Convert 1 1 scalar.Pointer scalar.Pointer → IsNoNumberAt before → IsNoNumberAt after
-  cast_still _ (to_pointer to from gives) e h =
-      let t : to ≡ 1 = cc in
-      let b : from ≡ 1 = cc in
-      given_still before after (before from) (λ old is. h old (ap before (sym b) ∙ is)) (subst (λ z. Gives z (before from) before after) t gives)
-  cast_still _ _ e h = cc
+    cast_still : (o : Operation) → IsTypedOperation flow objects before after o → o ≡ op.Convert temp temp scalar.Pointer scalar.Pointer → IsNoNumberAt before → IsNoNumberAt after
+    cast_still _ (to_pointer to from gives) e h =
+        let t : to ≡ temp = cc in
+        let b : from ≡ temp = cc in
+        given_still before after (before from) (λ old is. h old (ap before (sym b) ∙ is)) (subst (λ z. Gives z (before from) before after) t gives)
+    cast_still _ _ e h = cc
 
-  kind_is : (t : Ty) (kind : Scalar) (known : Option Known) → IsOfKind t kind known → kind ≡ scalar.Int int → t ≡ Int int
-  kind_is _ _ _ (number_kind k some) e = let same : k ≡ int = cc in ap Int same
-  kind_is _ _ _ (pointer_kind t) e = cc
+    kind_is : (t : Ty) (kind : Scalar) (known : Option Known) → IsOfKind t kind known → kind ≡ scalar.Int int → t ≡ Int int
+    kind_is _ _ _ (number_kind k some) e = let same : k ≡ int = cc in ap Int same
+    kind_is _ _ _ (pointer_kind t) e = cc
 
-  not_loaded : (o : Operation) → IsTypedOperation flow objects before after o → o ≡ op.Load 1 1 (scalar.Int int) → IsNoNumberAt before → ⊥
-  not_loaded _ (loads to from kind t known points of_kind gives) e h =
-      let f : from ≡ 1 = cc in
-      let k : kind ≡ scalar.Int int = cc in
-      no_number points.target (less_still points.known (Pointing points.target) points.less (h points.known (ap before (sym f) ∙ points.has))) (points.is ∙ kind_is t kind known of_kind k)
-  not_loaded _ _ e h = cc
+    not_loaded : (o : Operation) → IsTypedOperation flow objects before after o → o ≡ op.Load temp temp (scalar.Int int) → IsNoNumberAt before → ⊥
+    not_loaded _ (loads to from kind t known points of_kind gives) e h =
+        let f : from ≡ temp = cc in
+        let k : kind ≡ scalar.Int int = cc in
+        no_number points.target (less_still points.known (Pointing points.target) points.less (h points.known (ap before (sym f) ∙ points.has))) (points.is ∙ kind_is t kind known of_kind k)
+    not_loaded _ _ e h = cc
 
-pub untyped : (flow : Flow) (u : UnitView) (typing : Typing) (block at : ℕ) → Misreads flow block at → typing.objects 1 ≡ to_int → IsTypedProgram flow u typing → ⊥
-untyped flow u typing block at reads object_is typed =
+pub untyped : (flow : Flow) (u : UnitView) (typing : Typing) (inner : Ty) (base temp block at : ℕ) → Misreads flow base temp block at → typing.objects base ≡ Pointer inner → IsTypedProgram flow u typing → ⊥
+untyped flow u typing inner base temp block at reads object_is typed =
     let a = reads.address in
     let c = reads.cast in
     let l = reads.load in
-    not_loaded flow objects object_is (typing.known block (suc (suc at))) (typing.known block (suc (suc (suc at)))) l.instruction.operation (typed.steps block (suc (suc at)) l.instruction l.there) l.does
-    (cast_still flow objects object_is (typing.known block (suc at)) (typing.known block (suc (suc at))) c.instruction.operation (typed.steps block (suc at) c.instruction c.there) c.does
-    (addressed flow objects object_is (typing.known block at) (typing.known block (suc at)) a.instruction.operation (typed.steps block at a.instruction a.there) a.does))
+    not_loaded inner temp flow objects base object_is (typing.known block (suc (suc at))) (typing.known block (suc (suc (suc at)))) l.instruction.operation (typed.steps block (suc (suc at)) l.instruction l.there) l.does
+    (cast_still inner temp flow objects base object_is (typing.known block (suc at)) (typing.known block (suc (suc at))) c.instruction.operation (typed.steps block (suc at) c.instruction c.there) c.does
+    (addressed inner temp flow objects base object_is (typing.known block at) (typing.known block (suc at)) a.instruction.operation (typed.steps block at a.instruction a.there) a.does))
   where
     objects : ℕ → Ty
     objects = typing.objects

@@ -2,7 +2,7 @@
 use Rattle.std.specs.Prelude.{◌≡◌, ℕ, suc, List, Option, Some, slice_get}
 use Rattle.c_layout.specs.CheckedUnits.{UnitView}
 use Rattle.c_layout.specs.StructViews.{StructView}
-use Rattle.c_layout.specs.Types.{Ty, Int}
+use Rattle.c_layout.specs.Types.{Ty, Int, Pointer}
 use Rattle.flow_program.specs.declared.machine_instructions.Instruction.{Instruction}
 use Rattle.flow_program.specs.declared.machine_instructions.Operation.{Operation}
 use Rattle.flow_program.specs.declared.machine_instructions.Operation.TheVariants as op
@@ -13,7 +13,7 @@ use Rattle.lib_models_memory.specs.Bytes.{null, into}
 use Rattle.flow_program_types.specs.StandingTypes.{Stands}
 use Rattle.flow_program_types.specs.PointedTypes.{Target, Element, target_type, Points}
 use Rattle.flow_program_types.specs.TypedPrograms.{Typing, IsTypedProgram}
-use Rattle.flow_program_types_rows.specs.DividesByPointed.{int, to_int}
+use Rattle.flow_program_types_rows.specs.DividesByPointed.{int}
 
 -- ---- programs
 
@@ -23,15 +23,15 @@ pub record Does (flow : Flow) (block at : ℕ) (operation : Operation) : Type 0 
   pub there : slice_get (instructions_of flow block) at ≡ Some instruction
   pub does : instruction.operation ≡ operation
 
--- `*(int*)&p`, as its program does it: a number is loaded through the address of the object 1
-pub record Misreads (flow : Flow) (block at : ℕ) : Type 0 where
-  pub address : Does flow block at (op.Address 1 1 0)
-  pub cast : Does flow block (suc at) (op.Convert 1 1 scalar.Pointer scalar.Pointer)
-  pub load : Does flow block (suc (suc at)) (op.Load 1 1 (scalar.Int int))
+-- `*(int*)&p`, as programs do it: a number is loaded through the address of an object
+pub record Misreads (flow : Flow) (base temp block at : ℕ) : Type 0 where
+  pub address : Does flow block at (op.Address temp base 0)
+  pub cast : Does flow block (suc at) (op.Convert temp temp scalar.Pointer scalar.Pointer)
+  pub load : Does flow block (suc (suc at)) (op.Load temp temp (scalar.Int int))
 
--- where that object is a pointer, other types of temporaries do not help
+-- where that object is a pointer, no types of temporaries help
 abbrev pub MisreadsAreUntyped : Type 0
-MisreadsAreUntyped = (flow : Flow) (u : UnitView) (typing : Typing) (block at : ℕ) → Misreads flow block at → typing.objects 1 ≡ to_int → IsTypedProgram flow u typing → ⊥
+MisreadsAreUntyped = (flow : Flow) (u : UnitView) (typing : Typing) (inner : Ty) (base temp block at : ℕ) → Misreads flow base temp block at → typing.objects base ≡ Pointer inner → IsTypedProgram flow u typing → ⊥
 
 -- ---- pointers into an object that is a number
 

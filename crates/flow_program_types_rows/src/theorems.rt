@@ -1,4 +1,4 @@
-//! What is supposed of programs whose pointers have types is met by one, and by none that reads a pointer as a number.
+//! What is supposed of programs whose pointers have types is met by one, and by none that loads a number where a pointer lies.
 ghost use Rattle.flow_program.specs.declared.programs.Flow.{Flow};
 ghost use Rattle.flow_program_types_rows.specs.DividesByPointed.{IsTypedDivision};
 ghost use Rattle.flow_program_types_rows.specs.ExcludedPointers.{MisreadsAreUntyped, EndsPointToNumbers, NoNumberStandsBehind, PartsPointToNoNumber, NullPointsToAll};
@@ -9,8 +9,8 @@ pub fn divisions_by_pointed_numbers_are_typed()
     ensures { Flow → (flow : Flow) × IsTypedDivision flow }
 {}
 
-/// No program is typed that reads a pointer object as a number. A pointer behind the last element points to elements,
-/// where none stands; one amid an element points to none; null points to each type.
+/// No program is typed that loads a number through the address of a pointer, as `*(int*)&p` does. In an object that is an `int`,
+/// a pointer behind it points to elements, where none stands, and one amid its bytes points to none. Null points to each type.
 pub fn other_types_are_excluded()
     ensures misreads { MisreadsAreUntyped }
     ensures ends { EndsPointToNumbers }

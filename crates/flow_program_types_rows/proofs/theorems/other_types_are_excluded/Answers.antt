@@ -3,7 +3,7 @@ use Rattle.flow_program_types_rows.proofs.theorems.other_types_are_excluded.Goal
 
 pub returns : goal.returns
 returns c = record {
-  misreads = λ flow u typing block at reads object is. untyped flow u typing block at reads object is;
+  misreads = λ flow u typing inner base temp block at reads object is. untyped flow u typing inner base temp block at reads object is;
   ends = λ structs pointer_size types is. ends_point structs pointer_size types is;
   behind = λ structs pointer_size stands. none_behind structs pointer_size stands;
   parts = λ structs pointer_size types target is object points. parts_point structs pointer_size types target is object points;
