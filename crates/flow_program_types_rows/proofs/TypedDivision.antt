@@ -13,6 +13,7 @@ use Rattle.c_layout.specs.declared.leaf_lists.Class.TheVariants as class
 use Rattle.c_layout.specs.declared.leaf_lists.Leaf.{Leaf}
 use Rattle.c_layout.specs.declared.shapes.BaseInfo.{BaseInfo}
 use Rattle.c_layout.specs.declared.shapes.BaseKind.TheVariants.{Automatic}
+use Rattle.flow_program.specs.WellFormed.{On, leads}
 use Rattle.flow_program.specs.declared.basic_blocks.BasicBlock.{BasicBlock}
 use Rattle.flow_program.specs.declared.machine_instructions.Amount.TheVariants as amount
 use Rattle.flow_program.specs.declared.machine_instructions.Instruction.{Instruction}
@@ -197,10 +198,10 @@ module _ (some : Flow) where
   steps (suc zero) at i e = typed_at (ends 47) [] (typed_ends 47) at i e
   steps (suc (suc block)) at i e = absurd (none_there i at e)
 
-  no_edges : (block at : ℕ) (i : Instruction) (e : EdgeView) → slice_get (instructions_of program block) at ≡ Some i → Contains (edges_of f (block_of f block)) e → IsTypedWay e.taken (known block (suc at)) (known e.to 0)
-  no_edges zero at i e there h = absurd (none_in e h)
-  no_edges (suc zero) at i e there h = absurd (none_in e h)
-  no_edges (suc (suc block)) at i e there h = absurd (none_there i at there)
+  no_edges : (block at : ℕ) (i : Instruction) (e : EdgeView) → slice_get (instructions_of program block) at ≡ Some i → (leads i.operation ≡ On → ⊥) → Contains (edges_of f (block_of f block)) e → IsTypedWay e.taken (known block (suc at)) (known e.to 0)
+  no_edges zero at i e there off h = absurd (none_in e h)
+  no_edges (suc zero) at i e there off h = absurd (none_in e h)
+  no_edges (suc (suc block)) at i e there off h = absurd (none_there i at there)
 
   -- ---- the unit
 
