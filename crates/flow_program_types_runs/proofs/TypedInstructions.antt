@@ -36,7 +36,8 @@ use Rattle.flow_program_machine.specs.FlowSteps.{act_step}
 use Rattle.abstract_steps_single.specs.SingleLaws.{IsPlainFunction}
 use Rattle.ref_machine_memory.specs.GoingWorlds.{WhenGoing, Keeps, Same}
 use Rattle.ref_machine_memory.proofs.Replies.{when_more, when_behind, when_either}
-use Rattle.ref_machine_memory.proofs.Computing.{binary_keeps, unary_keeps, compare_numbers_keeps, negation_keeps, convert_keeps, difference_keeps, compare_keeps}
+use Rattle.ref_machine_memory.proofs.Computing.{binary_keeps, unary_keeps, negation_keeps, difference_keeps, compare_keeps}
+use Rattle.flow_program_types_runs.proofs.ComparedNumbers.{compare_numbers_keeps, convert_keeps}
 use Rattle.flow_program_types.specs.StandingTypes.{AreLaidOut, Stands}
 use Rattle.flow_program_types.specs.PointedTypes.{Target, Element, Place, Known, Zero, Null, Pointing, IsElement, Points, Has, IsLess, IsOfKind, IsStorable}
 use Rattle.flow_program_types.specs.TypedStates.{Temporaries}
