@@ -54,12 +54,14 @@ pub fn into(kind: IntType, lo: i128, hi: i128) -> Interval
     }
 }
 
+/// The least of the four numbers.
 pub fn least_of_four(a: i128, b: i128, c: i128, d: i128) -> i128
     ensures { result ≡ least_of_four a b c d }
 {
     a.min(b).min(c.min(d))
 }
 
+/// The greatest of the four numbers.
 pub fn greatest_of_four(a: i128, b: i128, c: i128, d: i128) -> i128
     ensures { result ≡ greatest_of_four a b c d }
 {
@@ -73,6 +75,7 @@ pub fn hull_of_four(a: i128, b: i128, c: i128, d: i128) -> Interval
     between_or_empty(least_of_four(a, b, c, d), greatest_of_four(a, b, c, d))
 }
 
+/// The number after `n`, which is at most 2^64.
 pub fn one_more(n: i128) -> i128
     requires { n ≤ℤ pos (2 ^ 64) }
     ensures { result ≡ n +ℤ pos 1 }
@@ -80,6 +83,7 @@ pub fn one_more(n: i128) -> i128
     n + 1
 }
 
+/// The number before `n`, which is at least -2^64.
 pub fn one_less(n: i128) -> i128
     requires { negsuc (2 ^ 64 - 1) ≤ℤ n }
     ensures { result ≡ n -ℤ pos 1 }
