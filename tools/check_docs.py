@@ -3,7 +3,8 @@
 
 - No line has more than 120 columns.
 - Links inside the repository lead to files and headings that are there.
-- Paths and names in `code` are there: files, crates, and identifiers of the sources.
+- Paths and names in `code` are there: files, crates, and identifiers of the sources. In **`name`, .. (`crate`)** each
+  name is a function of the crate (or a type, which has a capital).
 - docs/ARCHITECTURE.md has just the crates of crates.txt, docs/rules.md each rule, docs/refusals.md each refusal.
 - Each C example does what it is marked with when PROGRAM (the built one) checks it, with the options behind the mark:
   ```c bad TAG,TAG   just these tags are printed        ```c good             none is
@@ -28,6 +29,7 @@ LINK = re.compile(r"\]\(([^)\s]+)\)")
 NAME = re.compile(r"[A-Za-z_][A-Za-z0-9_]*")
 PATH = re.compile(r"[\w.*-]+(/[\w.*-]+)+/?")
 MADE = re.compile(r"(^|/)out(/|$)")
+ENTRY = re.compile(r"\*\*((?:`\w+`(?:, )?)+) \(`(\w+)`\)\*\*")
 QUALIFIED = re.compile(r"[A-Za-z_][A-Za-z0-9_]*(?:(?:::|\.)[A-Za-z_][A-Za-z0-9_]*)*")
 
 
@@ -131,6 +133,20 @@ def lost_names(page, sources):
                 yield number, f"no name {code}"
 
 
+def functions_of(crate):
+    """Returns the names of a crate's functions."""
+    texts = (text_of(it) for it in glob.glob(f"{ROOT}/crates/{crate}/src/**/*.rt", recursive=True))
+    return {name for text in texts for name in re.findall(r"\bfn (\w+)", text)}
+
+
+def lost_functions(page):
+    for names, crate in ENTRY.findall(" ".join(line.strip() for _, line in page.prose)):
+        there = functions_of(crate)
+        for name in CODE.findall(names):
+            if name.islower() and name not in there:
+                yield next(it for it, line in page.prose if f"`{name}`" in line), f"no function {name} in {crate}"
+
+
 def missing_entries(pages):
     """Yields what tables and lists of the pages lack, or have too much."""
     crates = {it.split(":")[0] for it in text_of(f"{ROOT}/crates.txt").split("\n") if ":" in it and it[0] != "#"}
@@ -221,7 +237,8 @@ def main():
     pages, sources = {it: Page(it) for it in paths}, Sources()
     faults, examples = [*missing_entries(pages), *man_warnings()], 0
     for path, page in pages.items():
-        found = [*long_lines(page), *dead_links(page, pages), *lost_names(page, sources), *bad_examples(page, program)]
+        found = [*long_lines(page), *dead_links(page, pages), *lost_names(page, sources), *lost_functions(page)]
+        found += bad_examples(page, program)
         faults += [f"{path}:{number}: {fault}" for number, fault in found]
         examples += sum(mark[:1] == ["console"] or mark[:1] == ["c"] and len(mark) > 1 for _, mark, _ in page.blocks)
     print("\n".join([*faults, f"{len(pages)} pages, {examples} examples, {len(faults)} faults"]))
