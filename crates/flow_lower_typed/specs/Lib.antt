@@ -1,0 +1,10 @@
+pub mod TypedTerms
+pub mod TypedObjects
+pub mod TypedStatements
+pub mod TypedUnits
+pub mod KnownValues
+pub mod TypedActs
+pub mod TypedPieces
+pub mod TypedBases
+pub mod WorkLaws
+pub mod ProgramLaws

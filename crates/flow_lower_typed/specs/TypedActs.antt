@@ -1,0 +1,98 @@
+-- What an act of a template does to what is known of temporaries, where its bases have types.
+use Rattle.std.specs.Prelude.{◌≡◌, ℕ, ◌<◌, ◌-◌, ◌^◌, ℤ, pos, Bool, true, ◌&&◌, nat_lt, List, Option, Some, None}
+use Rattle.std.specs.List.{list_all}
+use Rattle.cc_base.specs.declared.int_types.IntType.{IntType}
+use Rattle.c_layout.specs.Layout.{size_of_type}
+use Rattle.c_layout.specs.StructViews.{StructView}
+use Rattle.c_layout.specs.Types.{Ty, Struct}
+use Rattle.flow_program.specs.declared.machine_instructions.Amount.{Amount}
+use Rattle.flow_program.specs.declared.machine_instructions.Amount.TheVariants as amount
+use Rattle.flow_program.specs.declared.machine_instructions.Scalar.{Scalar}
+use Rattle.flow_program.specs.declared.machine_instructions.Scalar.TheVariants as of
+use Rattle.flow_lower_tasks.specs.Acts as acts
+use Rattle.flow_lower_tasks.specs.Acts.{Act}
+use Rattle.flow_lower_plain.specs.PlainTerms.{is_plain_library}
+use Rattle.flow_program_types.specs.StandingTypes.{Stands}
+use Rattle.flow_program_types.specs.PointedTypes.{Target, Element, Place, target_type, Known, Zero, Null, Pointing, IsLess, IsOfKind, IsStorable}
+use Rattle.flow_program_types.specs.TypedPrograms.{IsKept, Gives, GivesIf, Keeps}
+use Rattle.flow_program_types.specs.TypedStates.{Temporaries}
+
+-- ---- temporaries that an act names
+
+abbrev pub is_low : ℕ → Bool
+is_low temp = nat_lt temp (2 ^ 32 - 1)
+
+abbrev pub is_low_amount : Amount → Bool
+is_low_amount (amount.Temp t) = is_low t
+is_low_amount amount.One = true
+
+abbrev pub is_low_result : Option ℕ → Bool
+is_low_result None = true
+is_low_result (Some t) = is_low t
+
+abbrev pub is_low_kept : Option (ℕ × ℕ) → Bool
+is_low_kept None = true
+is_low_kept (Some p) = is_low p.0 && is_low p.1
+
+-- none of them is the last one that there is
+abbrev pub is_low_act : Act → Bool
+is_low_act (acts.Constant to value kind) = is_low to
+is_low_act (acts.Address to base offset) = is_low to
+is_low_act (acts.Load to from kind) = is_low to && is_low from
+is_low_act (acts.Store to from kind kept) = is_low to && (is_low from && is_low_kept kept)
+is_low_act (acts.Copy to from index) = is_low to && is_low from
+is_low_act (acts.Narrow to from offset size) = is_low to && is_low from
+is_low_act (acts.Shift to from by size backward) = is_low to && (is_low from && is_low_amount by)
+is_low_act (acts.Binary to sign left right kind) = is_low to && (is_low left && is_low_amount right)
+is_low_act (acts.Unary to sign from kind) = is_low to && is_low from
+is_low_act (acts.Compare to sign left right) = is_low to && (is_low left && is_low right)
+is_low_act (acts.Not to from kind) = is_low to && is_low from
+is_low_act (acts.Difference to left right size) = is_low to && (is_low left && is_low right)
+is_low_act (acts.ComparePointers to sign left right) = is_low to && (is_low left && is_low right)
+is_low_act (acts.Convert to from old new) = is_low to && is_low from
+is_low_act (acts.Library to function arguments newest size) = is_low_result to && list_all is_low arguments
+is_low_act (acts.Branch from kind) = is_low from
+is_low_act (acts.Switch from kind) = is_low from
+is_low_act (acts.ReadLine to text count stream) = is_low_result to && (is_low text && (is_low count && is_low stream))
+is_low_act other = true
+
+-- ---- what acts do
+
+module _ (structs : List StructView) (pointer_size : ℕ) (bases : ℕ → Option Ty) (before after : Temporaries) where
+  -- a temporary points to a type
+  pub record PointsTo (temp : ℕ) (t : Ty) : Type 0 where
+    pub known : Known
+    pub target : Target
+    pub has : before temp ≡ Some known
+    pub less : IsLess known (Pointing target)
+    pub is : target_type target ≡ t
+
+  pub data IsTypedAct : Act → Type 0 where
+    gives_zero : (to : ℕ) (kind : IntType) → Gives to (Some Zero) before after → IsTypedAct (acts.Constant to (pos 0) kind)
+    gives_number : (to : ℕ) (n : ℤ) (kind : IntType) → Gives to None before after → IsTypedAct (acts.Constant to n kind)
+    gives_address : (to base : ℕ) (t : Ty) → bases base ≡ Some t → Gives to (Some (Pointing (Element t))) before after → IsTypedAct (acts.Address to base 0)
+    gives_part : (to base offset : ℕ) (outer t : Ty) → bases base ≡ Some outer → Stands structs pointer_size outer t offset → Gives to (Some (Pointing (Place t))) before after → IsTypedAct (acts.Address to base offset)
+    loads : (to from : ℕ) (kind : Scalar) (t : Ty) (known : Option Known) → PointsTo from t → IsOfKind t kind known → Gives to known before after → IsTypedAct (acts.Load to from kind)
+    stores_in : (to from : ℕ) (kind : Scalar) (kept : Option (ℕ × ℕ)) (t : Ty) (known : Option Known) → PointsTo to t → IsOfKind t kind known → IsStorable known (before from) → Keeps kept before after → IsTypedAct (acts.Store to from kind kept)
+    copies : (to from index : ℕ) → PointsTo to (Struct index) → PointsTo from (Struct index) → 0 < size_of_type structs pointer_size (Struct index) → IsKept before after → IsTypedAct (acts.Copy to from index)
+    narrows : (to from offset size : ℕ) (t inner : Ty) → PointsTo from t → Stands structs pointer_size t inner offset → size ≡ size_of_type structs pointer_size inner → 0 < size → Gives to (Some (Pointing (Element inner))) before after → IsTypedAct (acts.Narrow to from offset size)
+    shifts : (to from : ℕ) (by : Amount) (size : ℕ) (back : _) (t : Ty) (known : Known) → before from ≡ Some known → IsLess known (Pointing (Element t)) → size ≡ size_of_type structs pointer_size t → 0 < size → Gives to (Some (Pointing (Element t))) before after → IsTypedAct (acts.Shift to from by size back)
+    computes : (to : ℕ) (sign : _) (left : ℕ) (right : Amount) (kind : IntType) → Gives to None before after → IsTypedAct (acts.Binary to sign left right kind)
+    computes_one : (to : ℕ) (sign : _) (from : ℕ) (kind : IntType) → Gives to None before after → IsTypedAct (acts.Unary to sign from kind)
+    compares : (to : ℕ) (sign : _) (left right : ℕ) → Gives to None before after → IsTypedAct (acts.Compare to sign left right)
+    inverts : (to from : ℕ) (kind : Scalar) → Gives to None before after → IsTypedAct (acts.Not to from kind)
+    subtracts : (to left right size : ℕ) → Gives to None before after → IsTypedAct (acts.Difference to left right size)
+    compares_pointers : (to : ℕ) (sign : _) (left right : ℕ) → Gives to None before after → IsTypedAct (acts.ComparePointers to sign left right)
+    to_number : (to from : ℕ) (old : Scalar) (kind : IntType) → Gives to None before after → IsTypedAct (acts.Convert to from old (of.Int kind))
+    to_null : (to from : ℕ) (kind : IntType) → before from ≡ Some Zero → Gives to (Some Null) before after → IsTypedAct (acts.Convert to from (of.Int kind) of.Pointer)
+    to_pointer : (to from : ℕ) → Gives to (before from) before after → IsTypedAct (acts.Convert to from of.Pointer of.Pointer)
+    calls : (to : Option ℕ) (name : _) (arguments : List ℕ) (newest size : Option ℕ) → is_plain_library name ≡ true → GivesIf to None before after → IsTypedAct (acts.Library to name arguments newest size)
+    enters : (base : ℕ) → IsKept before after → IsTypedAct (acts.Enter base)
+    leaves_object : (base : ℕ) → IsKept before after → IsTypedAct (acts.Leave base)
+    forgets : (base : ℕ) → IsKept before after → IsTypedAct (acts.Forget base)
+    clears : (base : ℕ) → IsKept before after → IsTypedAct (acts.Clear base)
+    spells : (base offset room : ℕ) (text : List ℕ) → IsKept before after → IsTypedAct (acts.Spell base offset room text)
+    jumps : IsKept before after → IsTypedAct acts.Jump
+    branches : (from : ℕ) (kind : Scalar) → IsKept before after → IsTypedAct (acts.Branch from kind)
+    switches : (from : ℕ) (kind : IntType) → IsKept before after → IsTypedAct (acts.Switch from kind)
+    ends_run : IsTypedAct acts.Stop
