@@ -1,0 +1,2 @@
+pub mod KeptKnowledge
+pub mod JoinedPieces
