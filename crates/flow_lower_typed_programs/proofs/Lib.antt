@@ -1,0 +1,2 @@
+pub mod LiftedKnowledge
+pub mod LiftedActs
