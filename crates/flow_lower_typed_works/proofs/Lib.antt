@@ -1,0 +1,4 @@
+pub mod KnownTables
+pub mod PlannedWorks
+pub mod GluedLabels
+pub mod TypedDerivations
