@@ -1,0 +1,4 @@
+pub mod SettledNumbers
+pub mod SilentCalls
+pub mod SettledKnowledge
+pub mod SettledTypes
