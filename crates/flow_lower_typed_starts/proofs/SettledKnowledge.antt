@@ -14,15 +14,15 @@ use Rattle.flow_lower_typed.specs.TypedPieces.{State, Leads, IsTypedCall, AreTyp
 use Rattle.flow_lower_typed.proofs.KeptKnowledge.{kept_same, kept_trans}
 use Rattle.flow_lower_typed_starts.proofs.SettledNumbers.{number_of_next}
 
-true_not : {A : Type 0} → false ≡ true → A
+pub true_not : {A : Type 0} → false ≡ true → A
 true_not e = absurd (cc)
 
-begun_again : (m : NamesView) → m.is_behind ≡ true → with_begun m ≡ m
+pub begun_again : (m : NamesView) → m.is_behind ≡ true → with_begun m ≡ m
 begun_again m b = ap (λ b. cond b m (record { to = m.to; count = m.count + 1; is_behind = true })) b
 
 -- ---- numbers of labels
 
-begun_behind : (m : NamesView) → (with_begun m).is_behind ≡ true
+pub begun_behind : (m : NamesView) → (with_begun m).is_behind ≡ true
 begun_behind m = by m.is_behind refl
   where
     by : (b : Bool) → m.is_behind ≡ b → (cond b m (record { to = m.to; count = m.count + 1; is_behind = true })).is_behind ≡ true

@@ -1,5 +1,5 @@
 -- A settled template keeps to what is known, as the template does.
-use Rattle.std.proofs.Common.{◌≡◌, ◌≤◌, inl, inr, ℕ, ◌+◌, ◌-◌, Bool, true, false, cond, List, [], ◌∷◌, length, Option, Some, None, refl, arith, ap, sym, subst, ◌∙◌}
+use Rattle.std.proofs.Common.{◌≡◌, ℕ, ◌+◌, ◌-◌, Bool, true, false, cond, List, [], ◌∷◌, length, Option, Some, None, refl, arith, ap, sym, subst, ◌∙◌}
 use Rattle.c_layout.specs.CheckedUnits.{FunctionView, UnitView}
 use Rattle.flow_lower_tasks.specs.Acts.{Act}
 use Rattle.flow_lower_tasks.specs.Pieces.{NameView, ExitView, PieceView, Do, DoIfUsed, End, Mark, Call, TemplateView}
@@ -7,23 +7,16 @@ use Rattle.flow_lower_tasks.specs.declared.template_pieces.OwnCall.{OwnCall}
 use Rattle.flow_lower_counts_parts.specs.declared.function_counts.FunctionCounts.{FunctionCounts}
 use Rattle.flow_lower_counts.specs.Preparations.{AreCounts}
 use Rattle.flow_lower_counts.specs.SettledTemplates.{NamesView, is_silent, with_begun, with_label, with_other, with_piece, with_pieces, no_names, renamed, renamed_exits, settled}
-use Rattle.flow_lower_debts.specs.Marks.{all_marked, below}
 use Rattle.flow_lower_plain_works.specs.LeadingPieces.{AllTo, Marked, LeadOn, NoLabel, LeadsOn}
 use Rattle.flow_program_types.specs.TypedPrograms.{IsKept}
 use Rattle.flow_program_types.specs.TypedStates.{Temporaries}
 use Rattle.template_runs_settled.proofs.SettledPieces.{from, Once, once_next, own, all_once, settled_from}
 use Rattle.flow_lower_typed.specs.KnownValues.{nothing}
-use Rattle.flow_lower_typed.specs.TypedPieces.{State, Leads, IsWeaker, IsDone, AreTypedExits, IsEnded, IsTypedCall, DoneIf, AreTypedPieces, parameters_known, result_known, IsTypedTemplate}
+use Rattle.flow_lower_typed.specs.TypedPieces.{State, Leads, IsWeaker, IsDone, AreTypedExits, IsTypedCall, DoneIf, AreTypedPieces, parameters_known, result_known, IsTypedTemplate}
 use Rattle.flow_lower_typed.proofs.KeptKnowledge.{kept_same, kept_trans, way_between}
 use Rattle.flow_lower_typed.proofs.JoinedPieces.{weaker_same, leads_further, leads_on, weaker_trans}
-use Rattle.flow_lower_typed_starts.proofs.SettledKnowledge.{HasLabel, begun_count, with_known, noted, known_from, known_now, stays_now, next_kept, label_kept}
+use Rattle.flow_lower_typed_starts.proofs.SettledKnowledge.{true_not, begun_again, begun_behind, HasLabel, begun_count, noted, known_from, known_now, stays_now, next_kept, label_kept}
 use Rattle.flow_lower_typed_starts.proofs.SilentCalls.{silent_leads}
-
-true_not : {A : Type 0} → false ≡ true → A
-true_not e = absurd (cc)
-
-begun_again : (m : NamesView) → m.is_behind ≡ true → with_begun m ≡ m
-begun_again m b = ap (λ b. cond b m (record { to = m.to; count = m.count + 1; is_behind = true })) b
 
 begun_new : (m : NamesView) → m.is_behind ≡ false → with_begun m ≡ record { to = m.to; count = m.count + 1; is_behind = true }
 begun_new m b = ap (λ b. cond b m (record { to = m.to; count = m.count + 1; is_behind = true })) b
@@ -89,11 +82,7 @@ module _ (u : UnitView) (f : FunctionView) (used : Bool) (names : List NameView)
 
   -- behind a label that stands next
   stands_next : (l : ℕ) (m : NamesView) (at : ℕ → Temporaries) (after : Temporaries) → HasLabel m → IsKept (labels l) after → (k : ℕ) → k ≡ (with_begun m).count - 1 → Comes (with_label l m) (noted table labels (Mark l) m at) (Some (final k)) (Some after)
-  stands_next l m at after has kept k is = stands k after (behind m.is_behind refl) (begun_count m has ∙ ap (λ i. i + 1) (sym is)) (subst (λ y. IsKept y after) (sym (known_now table labels ((with_begun m).count - 1) k (labels l) at is)) kept)
-    where
-      behind : (b : Bool) → m.is_behind ≡ b → (cond b m (record { to = m.to; count = m.count + 1; is_behind = true })).is_behind ≡ true
-      behind true e = e
-      behind false e = refl
+  stands_next l m at after has kept k is = stands k after (begun_behind m) (begun_count m has ∙ ap (λ i. i + 1) (sym is)) (subst (λ y. IsKept y after) (sym (known_now table labels ((with_begun m).count - 1) k (labels l) at is)) kept)
 
   -- a label that stands behind another one, or not
   marks_anew : (l : ℕ) (ps : List PieceView) (m : NamesView) (at : ℕ → Temporaries) (x s r : State) (after : Temporaries) → final ≡ known_from table labels (Mark l ∷ ps) m at → Comes m at x s → Leads s (labels l) → IsKept (labels l) after → Old (Some after) ps r

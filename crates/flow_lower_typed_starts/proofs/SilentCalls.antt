@@ -11,11 +11,10 @@ use Rattle.flow_lower_counts_parts.specs.declared.function_counts.FunctionCounts
 use Rattle.flow_lower_counts_parts.specs.PieceCounts.{counts_of, counted, extent}
 use Rattle.flow_lower_counts.specs.SettledTemplates.{is_silent, settled}
 use Rattle.flow_lower_counts.specs.Preparations.{Counts, counts, AreCounts}
-use Rattle.lib_models_effects.specs.NumberedTables.{set_at}
 use Rattle.flow_program_types.specs.PointedTypes.{Known}
 use Rattle.flow_program_types.specs.TypedPrograms.{IsKept}
 use Rattle.flow_program_types.specs.TypedStates.{Temporaries}
-use Rattle.flow_lower_typed.specs.KnownValues.{type_known, below, with_value, if_used}
+use Rattle.flow_lower_typed.specs.KnownValues.{type_known, with_value, if_used}
 use Rattle.flow_lower_typed.specs.TypedPieces.{State, Leads, IsTypedCall}
 use Rattle.flow_lower_typed.proofs.KeptKnowledge.{IsLessIf, less_if_same, kept_if, kept_trans}
 use Rattle.flow_lower_typed.proofs.JoinedPieces.{leads_on}

@@ -1,21 +1,19 @@
 -- The pointers among the first bytes of objects that pass the look point to what their types say.
-use Rattle.std.proofs.Common.{◌≡◌, ℕ, ◌+◌, ◌-◌, ◌*◌, ◌/◌, ◌==◌, Bool, true, false, ◌&&◌, List, Option, Some, None, slice_get, nat_le, ap, sym, subst, refl, ◌∙◌}
+use Rattle.std.proofs.Common.{◌≡◌, ℕ, ◌+◌, ◌-◌, ◌*◌, ◌/◌, ◌==◌, Bool, true, false, ◌&&◌, List, Option, Some, None, nat_le, ap, sym, subst, refl, ◌∙◌}
 use Rattle.std.specs.List.{Contains, list_all}
 use Rattle.std.proofs.lemmas.Bool.{and_parts, eqb-true, leb-true}
 use Rattle.std.proofs.lemmas.List.Sums.{AllPass-from_list_all}
 use Rattle.std.proofs.lemmas.Option.{slice_get_within, get_or_from_slice_get}
-use Rattle.c_layout.specs.CheckedUnits.{StaticStoreView, SetValue, SetText, StaticView, UnitView}
-use Rattle.c_layout.specs.declared.checked_tree.checked_units.StaticValue.{StaticValue}
+use Rattle.c_layout.specs.CheckedUnits.{StaticStoreView, SetValue, SetText, UnitView}
 use Rattle.c_layout.specs.declared.checked_tree.checked_units.StaticValue.TheVariants as static_value
 use Rattle.c_layout.specs.Layout.{size_of_type}
-use Rattle.c_layout.specs.Types.{Ty, Pointer}
+use Rattle.c_layout.specs.Types.{Ty}
 use Rattle.lib_models_memory.specs.Bytes.{into}
 use Rattle.lib_models_effects.specs.UnitStarts.{base_instance}
 use Rattle.flow_program_types.specs.PointedTypes.{Element, IsElement, Points}
 use Rattle.flow_program_types.specs.StandingTypes.{AreLaidOut}
-use Rattle.flow_program_types.specs.TypeBytes.{scalar_byte}
 use Rattle.flow_program_types.specs.TypedPrograms.{first_types, IsTypedStore, HasTypedObjects}
-use Rattle.flow_lower_typed.specs.TypedObjects.{all_begin, begins, is_element_of, points_within, points_in, points_if, is_typed_value, is_typed_first_store, is_typed_object}
+use Rattle.flow_lower_typed.specs.TypedObjects.{all_begin, begins, is_element_of, points_in, points_if, is_typed_first_store, is_typed_object}
 use Rattle.flow_lower_typed_starts.proofs.StandingStarts.{all_stand}
 
 never : {A : Type 0} → false ≡ true → A

@@ -3,4 +3,6 @@
 
 mod theorems;
 
-pub use theorems::{settled_templates_are_typed, typed_objects_are_typed, types_stand_where_they_begin};
+pub use theorems::{
+    settled_templates_are_typed, typed_objects_are_typed, types_stand_where_they_begin,
+};
