@@ -21,8 +21,9 @@ use Rattle.flow_program_types.specs.StandingTypes.{AreLaidOut, Stands}
 use Rattle.flow_program_types.specs.TypedPrograms.{IsTypedWay, HasTypedObjects, first_types}
 use Rattle.flow_program_types.specs.TypedStates.{Temporaries}
 use Rattle.flow_program_views.specs.ProgramViews.{BlockView, EdgeView, flow_view}
+use Rattle.template_runs_layouts.specs.LowTemporaries.{IsActLow}
 use Rattle.template_runs_units.specs.UnitRuns.{IsProgramOf}
-use Rattle.flow_lower_typed.specs.TypedActs.{IsTypedAct, is_low_act}
+use Rattle.flow_lower_typed.specs.TypedActs.{IsTypedAct}
 use Rattle.flow_lower_typed.specs.TypedBases.{HasTypes, HasOwnTypes, HasOwnLocals}
 use Rattle.flow_lower_typed.specs.TypedObjects.{begins, is_typed_object, is_own_function}
 use Rattle.flow_lower_typed.specs.TypedPieces.{IsTypedTemplate}
@@ -61,7 +62,7 @@ steps_in p block = steps_of (slice_get p.blocks block)
 
 -- no step names the last temporary that there is
 abbrev pub HasLowSteps : ProgramView → Type 0
-HasLowSteps p = (block at : ℕ) (x : Step) → slice_get (steps_in p block) at ≡ Some x → is_low_act x.does ≡ true
+HasLowSteps p = (block at : ℕ) (x : Step) → slice_get (steps_in p block) at ≡ Some x → IsActLow x.does
 
 -- the types of bases, and what is known before each step of each block; each step and each edge keeps to them
 pub record IsTypedOpening (u : UnitView) (p : ProgramView) : Type 0 where

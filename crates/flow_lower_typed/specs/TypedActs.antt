@@ -1,12 +1,10 @@
 -- What an act of a template does to what is known of temporaries, where its bases have types.
-use Rattle.std.specs.Prelude.{◌≡◌, ℕ, ◌<◌, ◌-◌, ◌^◌, ℤ, pos, Bool, true, ◌&&◌, nat_lt, List, Option, Some, None}
-use Rattle.std.specs.List.{list_all}
+use Rattle.std.specs.Prelude.{◌≡◌, ℕ, ◌<◌, ℤ, pos, true, List, Option, Some, None}
 use Rattle.cc_base.specs.declared.int_types.IntType.{IntType}
 use Rattle.c_layout.specs.Layout.{size_of_type}
 use Rattle.c_layout.specs.StructViews.{StructView}
 use Rattle.c_layout.specs.Types.{Ty, Struct}
 use Rattle.flow_program.specs.declared.machine_instructions.Amount.{Amount}
-use Rattle.flow_program.specs.declared.machine_instructions.Amount.TheVariants as amount
 use Rattle.flow_program.specs.declared.machine_instructions.Scalar.{Scalar}
 use Rattle.flow_program.specs.declared.machine_instructions.Scalar.TheVariants as of
 use Rattle.flow_lower_tasks.specs.Acts as acts
@@ -16,47 +14,6 @@ use Rattle.flow_program_types.specs.StandingTypes.{Stands}
 use Rattle.flow_program_types.specs.PointedTypes.{Target, Element, Place, target_type, Known, Zero, Null, Pointing, IsLess, IsOfKind, IsStorable}
 use Rattle.flow_program_types.specs.TypedPrograms.{IsKept, Gives, GivesIf, Keeps}
 use Rattle.flow_program_types.specs.TypedStates.{Temporaries}
-
--- ---- temporaries that an act names
-
-abbrev pub is_low : ℕ → Bool
-is_low temp = nat_lt temp (2 ^ 32 - 1)
-
-abbrev pub is_low_amount : Amount → Bool
-is_low_amount (amount.Temp t) = is_low t
-is_low_amount amount.One = true
-
-abbrev pub is_low_result : Option ℕ → Bool
-is_low_result None = true
-is_low_result (Some t) = is_low t
-
-abbrev pub is_low_kept : Option (ℕ × ℕ) → Bool
-is_low_kept None = true
-is_low_kept (Some p) = is_low p.0 && is_low p.1
-
--- none of them is the last one that there is
-abbrev pub is_low_act : Act → Bool
-is_low_act (acts.Constant to value kind) = is_low to
-is_low_act (acts.Address to base offset) = is_low to
-is_low_act (acts.Load to from kind) = is_low to && is_low from
-is_low_act (acts.Store to from kind kept) = is_low to && (is_low from && is_low_kept kept)
-is_low_act (acts.Copy to from index) = is_low to && is_low from
-is_low_act (acts.Narrow to from offset size) = is_low to && is_low from
-is_low_act (acts.Shift to from by size backward) = is_low to && (is_low from && is_low_amount by)
-is_low_act (acts.Binary to sign left right kind) = is_low to && (is_low left && is_low_amount right)
-is_low_act (acts.Unary to sign from kind) = is_low to && is_low from
-is_low_act (acts.Compare to sign left right) = is_low to && (is_low left && is_low right)
-is_low_act (acts.Not to from kind) = is_low to && is_low from
-is_low_act (acts.Difference to left right size) = is_low to && (is_low left && is_low right)
-is_low_act (acts.ComparePointers to sign left right) = is_low to && (is_low left && is_low right)
-is_low_act (acts.Convert to from old new) = is_low to && is_low from
-is_low_act (acts.Library to function arguments newest size) = is_low_result to && list_all is_low arguments
-is_low_act (acts.Branch from kind) = is_low from
-is_low_act (acts.Switch from kind) = is_low from
-is_low_act (acts.ReadLine to text count stream) = is_low_result to && (is_low text && (is_low count && is_low stream))
-is_low_act other = true
-
--- ---- what acts do
 
 module _ (structs : List StructView) (pointer_size : ℕ) (bases : ℕ → Option Ty) (before after : Temporaries) where
   -- a temporary points to a type

@@ -1,0 +1,2 @@
+pub mod TypedOperations
+pub mod TypedFlows
