@@ -1,2 +1,3 @@
 pub mod LiftedKnowledge
 pub mod LiftedActs
+pub mod TypedBlocks
