@@ -2,7 +2,10 @@ pub mod KnownTables
 pub mod PlannedWorks
 pub mod GluedLabels
 pub mod TypedDerivations
+pub mod FormGoals
+pub mod Numbers
 pub mod LowKnowledge
 pub mod NamingTests
 pub mod PlainReads
 pub mod TypedConditions
+pub mod TypedBranches
