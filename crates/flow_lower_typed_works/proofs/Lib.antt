@@ -4,3 +4,8 @@ pub mod GluedLabels
 pub mod TypedDerivations
 pub mod FormGoals
 pub mod Numbers
+pub mod Pointers
+pub mod Places
+pub mod Assignments
+pub mod Sequences
+pub mod Calls
