@@ -9,3 +9,4 @@ pub mod NamingTests
 pub mod PlainReads
 pub mod TypedConditions
 pub mod TypedBranches
+pub mod Calls
