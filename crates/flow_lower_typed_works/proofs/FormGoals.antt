@@ -189,10 +189,10 @@ pub record AreBehind (depth : ℕ) (first second : Bool) : Type 0 where
 pub behind_parts : (depth : ℕ) (first second : Bool) → are_behind depth first second ≡ true → AreBehind depth first second
 behind_parts depth first second e = let x = and_parts first (has_room (depth + 1) && second) e in let y = and_parts (has_room (depth + 1)) second x.1 in record { left = x.0; next = behind_is depth 1 y.0; right = y.1 }
 
-one_more : (depth n : ℕ) → n ≡ depth + 1 → depth < n
+pub one_more : (depth n : ℕ) → n ≡ depth + 1 → depth < n
 one_more depth n e = omega (arith, e)
 
-no_less : (depth n : ℕ) → n ≡ depth + 1 → depth ≤ n
+pub no_less : (depth n : ℕ) → n ≡ depth + 1 → depth ≤ n
 no_less depth n e = omega (arith, e)
 
 -- what is known of two values
