@@ -44,7 +44,7 @@ module _ {A : Type 0} where
 module _ (u : UnitView) (types : List Ty) where
   -- a base is of the type of the object that it names
   abbrev IsOfFirst : ℕ → ℕ → Type 0
-  IsOfFirst b i = (t : Ty) → slice_get types b ≡ Some t → first_types u i ≡ Some t
+  IsOfFirst b i = (t : Ty) × (slice_get types b ≡ Some t) × (first_types u i ≡ Some t)
 
   abbrev AreOfFirst : Names → Type 0
   AreOfFirst names = (b i : ℕ) → names b ≡ Some i → IsOfFirst b i
@@ -85,10 +85,10 @@ module _ (u : UnitView) (types : List Ty) where
 
   module _ (b : TableView) (has : HasTypes u types b) where
     object_initial : (n : ℕ) (o : StaticView) → slice_get u.objects n ≡ Some o → IsTypedInitial (initial_object u b n o)
-    object_initial n o stands k is t at = object_first n o stands ∙ sym (has.objects n k o is stands) ∙ at
+    object_initial n o stands k is = (o.ctype, has.objects n k o is stands, object_first n o stands)
 
     literal_initial : (n : ℕ) (l : LiteralView) → slice_get u.literals n ≡ Some l → IsTypedInitial (initial_literal b n l)
-    literal_initial n l stands k is t at = literal_first n l stands ∙ sym (has.literals n k l is stands) ∙ at
+    literal_initial n l stands k is = (text_type u l, has.literals n k l is stands, literal_first n l stands)
 
     objects_initial : (n : ℕ) (os : List StaticView) → Behind n u.objects os → AreTypedInitials (objects_from u b n os)
     objects_initial n [] behind = tt
@@ -102,9 +102,9 @@ module _ (u : UnitView) (types : List Ty) where
     initials_typed = both_typed (objects_from u b 0 u.objects) (literals_from b 0 u.literals) (objects_initial 0 u.objects (all_behind u.objects)) (literals_initial 0 u.literals (all_behind u.literals))
 
 pub objects_typed : FirstObjectsAreTyped
-objects_typed u limits flow o none types has b i is t at =
+objects_typed u limits flow o none types has b i is =
     let bases = (program u o.is.templates o.is.entry.at).bases in
     let first : (flow_view flow).initial ≡ initial_objects u bases = ap (λ v. v.initial) o.is.opens in
     let named = ap (λ ps. name_parameters u 0 ps (name_objects u (flow_view flow).initial empty_table) b) none in
     let now = ap (λ os. name_objects u os empty_table b) first in
-    all_named u types (initial_objects u bases) (initials_typed u types bases has) empty_table (none_named u types) b i (sym now ∙ sym named ∙ is) t at
+    all_named u types (initial_objects u bases) (initials_typed u types bases has) empty_table (none_named u types) b i (sym now ∙ sym named ∙ is)

@@ -1,2 +1,3 @@
 pub mod TypedOperations
 pub mod TypedFlows
+pub mod TypedUnits
