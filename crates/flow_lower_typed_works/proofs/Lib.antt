@@ -4,6 +4,10 @@ pub mod GluedLabels
 pub mod TypedDerivations
 pub mod FormGoals
 pub mod Numbers
+pub mod Pointers
+pub mod Places
+pub mod Assignments
+pub mod Sequences
 pub mod LowKnowledge
 pub mod NamingTests
 pub mod PlainReads
@@ -14,3 +18,5 @@ pub mod Places
 pub mod Assignments
 pub mod Sequences
 pub mod Calls
+pub mod Calls
+pub mod AllWorks
