@@ -13,10 +13,5 @@ pub mod NamingTests
 pub mod PlainReads
 pub mod TypedConditions
 pub mod TypedBranches
-pub mod Pointers
-pub mod Places
-pub mod Assignments
-pub mod Sequences
-pub mod Calls
 pub mod Calls
 pub mod AllWorks
