@@ -2,3 +2,4 @@ pub mod LiftedKnowledge
 pub mod LiftedActs
 pub mod TypedBlocks
 pub mod TypedCopies
+pub mod TypedTurns
