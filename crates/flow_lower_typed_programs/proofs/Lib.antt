@@ -3,3 +3,5 @@ pub mod LiftedActs
 pub mod TypedBlocks
 pub mod TypedCopies
 pub mod TypedTurns
+pub mod TypedLabels
+pub mod TypedCalls

@@ -94,12 +94,12 @@ module _ (u : UnitView) (ts : List (Option TemplateView)) (laws : NamesAreTyped)
   }
 
   -- a piece of a copy that goes on with the state behind it
-  record IsNext (stack : List CopyView) (types : List Ty) (at : ℕ → Temporaries) (outer : Temporaries) (labels : ℕ → Temporaries) (now s after : State) (p : Placed) : Type 0 where
-    can : CanName u ts types p
-    copy : IsTypedCopy u ts at (length p.program.labels) outer labels after p.within
-    others : AreStanding u ts types at (length p.program.labels) (behind_copy outer p.within) stack
-    weaker : IsWeaker now (lifted_state p.within.depth outer s)
-    holds : HoldsIn u ts types at (Awaited (p.within ∷ stack)) now p.program
+  pub record IsNext (stack : List CopyView) (types : List Ty) (at : ℕ → Temporaries) (outer : Temporaries) (labels : ℕ → Temporaries) (now s after : State) (p : Placed) : Type 0 where
+    pub can : CanName u ts types p
+    pub copy : IsTypedCopy u ts at (length p.program.labels) outer labels after p.within
+    pub others : AreStanding u ts types at (length p.program.labels) (behind_copy outer p.within) stack
+    pub weaker : IsWeaker now (lifted_state p.within.depth outer s)
+    pub holds : HoldsIn u ts types at (Awaited (p.within ∷ stack)) now p.program
 
   abbrev Nothing : CopyView → Type 0
   Nothing c = Unit {0}
@@ -109,10 +109,10 @@ module _ (u : UnitView) (ts : List (Option TemplateView)) (laws : NamesAreTyped)
     Next after = IsNext stack types at outer labels now s after p
 
     -- before a piece that is led to
-    entered_from : (after : State) (before : Temporaries) → Next after → Leads s before → Holds u ts types at (Awaited (p.within ∷ stack)) (lifted p.within.depth outer before) p.program
+    pub entered_from : (after : State) (before : Temporaries) → Next after → Leads s before → Holds u ts types at (Awaited (p.within ∷ stack)) (lifted p.within.depth outer before) p.program
     entered_from after before k leads = enter u ts types at (Awaited (p.within ∷ stack)) now p.program (lifted p.within.depth outer before) k.holds (lead_lifted now s p.within.depth outer before k.weaker leads)
 
-    opens_done : (place : Place) (a : Act) (after : Temporaries) → Next (Some after) → IsDone u p.within.function p.within.used p.within.names labels s a after → Opens u ts (o.back_in stack (o.with_act u place a p))
+    pub opens_done : (place : Place) (a : Act) (after : Temporaries) → Next (Some after) → IsDone u p.within.function p.within.used p.within.names labels s a after → Opens u ts (o.back_in stack (o.with_act u place a p))
     opens_done place a after k is =
         let h = entered_from (Some after) is.before k is.leads in
         let later = lifted p.within.depth outer after in
@@ -129,7 +129,7 @@ module _ (u : UnitView) (ts : List (Option TemplateView)) (laws : NamesAreTyped)
       holds = k.holds;
     }
 
-    opens_if_used : (place : Place) (a : Act) (after : State) (b : Bool) → Next after → DoneIf u p.within.function p.within.used p.within.names labels b s a after → Opens u ts (o.back_in stack (cond b (o.with_act u place a p) p))
+    pub opens_if_used : (place : Place) (a : Act) (after : State) (b : Bool) → Next after → DoneIf u p.within.function p.within.used p.within.names labels b s a after → Opens u ts (o.back_in stack (cond b (o.with_act u place a p) p))
     opens_if_used place a None true k is = absurd is
     opens_if_used place a (Some after) true k is = opens_done place a after k is
     opens_if_used place a after false k is = opens_same after k is
@@ -217,7 +217,7 @@ module _ (u : UnitView) (ts : List (Option TemplateView)) (laws : NamesAreTyped)
       };
     }
 
-  opens_closed : (stack : List CopyView) (types : List Ty) (at : ℕ → Temporaries) (outer : Temporaries) (labels : ℕ → Temporaries) (now s : State) (p : Placed) (x : Step) (exits : List ExitView)
+  pub opens_closed : (stack : List CopyView) (types : List Ty) (at : ℕ → Temporaries) (outer : Temporaries) (labels : ℕ → Temporaries) (now s : State) (p : Placed) (x : Step) (exits : List ExitView)
       → IsNext stack types at outer labels now s None p → AllTo (Marked p.within.rest NoLabel) exits → IsEnded u p.within.function p.within.used p.within.names labels s x.does exits → Opens u ts (o.back_in stack (o.closed u x exits p))
   opens_closed stack types at outer labels now s p x exits k to is =
       let h = entered_from stack types at outer labels now s p None is.done.before k is.done.leads in
