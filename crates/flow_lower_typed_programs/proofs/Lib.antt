@@ -5,3 +5,4 @@ pub mod TypedCopies
 pub mod TypedTurns
 pub mod TypedLabels
 pub mod TypedCalls
+pub mod TypedRuns

@@ -71,7 +71,7 @@ module _ (u : UnitView) (ts : List (Option TemplateView)) where
     abbrev target : ℕ
     target = label + c.labels
 
-    standing_marked : IsTypedCopy u ts at (length m.labels) outer labels (Some after) (o.with_rest qs c) → HasNames u ts types (o.with_rest qs c) → AreStanding u ts types at (length m.labels) (behind_copy outer c) stack → IsKept (labels label) after → (n : ℕ) → AreStanding u ts types at (length (slice_set m.labels target n)) (Some known_there) (o.with_rest qs c ∷ stack)
+    pub standing_marked : IsTypedCopy u ts at (length m.labels) outer labels (Some after) (o.with_rest qs c) → HasNames u ts types (o.with_rest qs c) → AreStanding u ts types at (length m.labels) (behind_copy outer c) stack → IsKept (labels label) after → (n : ℕ) → AreStanding u ts types at (length (slice_set m.labels target n)) (Some known_there) (o.with_rest qs c ∷ stack)
     standing_marked copy names others kept n =
         subst (λ count. AreStanding u ts types at count (Some known_there) (o.with_rest qs c ∷ stack)) (sym (length-set m.labels target n))
         (record { outer = outer; labels = labels; state = Some after; weaker = kept_lifted c.depth outer (labels label) after kept; copy = copy; names = names }, others)
