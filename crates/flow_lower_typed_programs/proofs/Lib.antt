@@ -6,3 +6,4 @@ pub mod TypedTurns
 pub mod TypedLabels
 pub mod TypedCalls
 pub mod TypedRuns
+pub mod TypedPrograms
