@@ -1,5 +1,5 @@
 -- All works that pass the looks keep to what is known.
-use Rattle.std.proofs.Common.{◌≡◌, ℕ, Bool, true, false, [], Some, None}
+use Rattle.std.proofs.Common.{◌≡◌, ℕ, Bool, true, false, [], Some}
 use Rattle.c_layout.specs.CheckedTrees as tree
 use Rattle.c_layout.specs.CheckedTrees.{TermTree, Typed, LvalueTree, Designates}
 use Rattle.flow_lower_expressions.specs.LvaluePointers.{address}

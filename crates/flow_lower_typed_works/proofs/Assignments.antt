@@ -1,14 +1,12 @@
 -- Assignments, compound assignments and steps.
-use Rattle.std.proofs.Common.{◌≡◌, ◌<◌, ◌≤◌, ◌⊎◌, inl, inr, ℕ, ◌+◌, ◌-◌, ◌^◌, ℤ, Bool, true, false, cond, ◌&&◌, nat_lt, Option, Some, None, refl, arith, ap, sym, subst, ◌∙◌}
+use Rattle.std.proofs.Common.{◌≡◌, ◌<◌, ◌≤◌, ◌⊎◌, inl, inr, ℕ, ◌+◌, ◌-◌, ◌^◌, ℤ, Bool, true, false, cond, ◌&&◌, Option, Some, None, refl, arith, ap, sym, subst, ◌∙◌}
 use Rattle.std.proofs.lemmas.Bool.{and_parts, ltb-true, le-leb, leb-true, cases_eq}
 use Rattle.cc_base.specs.declared.diagnostics.Place.{Place}
-use Rattle.cc_base.specs.declared.integer_operators.IntOp.{IntOp}
 use Rattle.cc_base.specs.declared.int_types.IntType.{IntType}
 use Rattle.c_layout.specs.CheckedTrees as tree
 use Rattle.c_layout.specs.CheckedTrees.{TermTree, FormTree, LvalueTree, Typed}
 use Rattle.c_layout.specs.Types.{Ty, Int, Pointer, Array, Struct, Void, same_kind, same_type}
 use Rattle.c_layout.specs.declared.checked_tree.checked_terms.StepTime.{StepTime}
-use Rattle.c_layout.specs.declared.checked_tree.checked_terms.StepTime.TheVariants.{Prefix, Postfix}
 use Rattle.c_layout.specs.declared.syntax_tree.expressions.BinaryOp.{BinaryOp}
 use Rattle.c_layout.specs.declared.syntax_tree.expressions.StepOp.{StepOp}
 use Rattle.c_types_laws_stores.proofs.Types.{type_is}
@@ -16,29 +14,29 @@ use Rattle.flow_program.specs.declared.machine_instructions.Amount.{Amount}
 use Rattle.flow_program.specs.declared.machine_instructions.Amount.TheVariants as amount
 use Rattle.flow_program.specs.declared.machine_instructions.Scalar.{Scalar}
 use Rattle.flow_program.specs.declared.machine_instructions.Scalar.TheVariants as scalar
-use Rattle.flow_lower_expressions.specs.Assignments.{kept, stored, both_sides, converted, old_value, computed, keeps_old, new_value, widened, target, stepped, number_operator}
+use Rattle.flow_lower_expressions.specs.Assignments.{kept, converted, keeps_old, new_value, widened, number_operator}
 use Rattle.flow_lower_expressions.specs.Values.{of_form}
 use Rattle.flow_lower_plain.specs.PlainTerms.{is_plain_term, is_plain_place}
 use Rattle.flow_lower_tasks.specs.Acts as acts
 use Rattle.flow_lower_tasks.specs.Acts.{Act}
 use Rattle.flow_lower_tasks.specs.Plans.{Plan, done}
 use Rattle.flow_lower_tasks.specs.Settings.{SettingView}
-use Rattle.flow_lower_tasks.specs.TermKinds.{scalar_of, integer_type, meaning, step_operator, is_backward, term_type, lvalue_type}
+use Rattle.flow_lower_tasks.specs.TermKinds.{scalar_of, integer_type, meaning, step_operator, is_backward, lvalue_type}
 use Rattle.flow_lower_tasks.specs.Works as jobs
 use Rattle.flow_lower_units.specs.RegularTerms.{has_room, are_behind, is_regular_term, is_regular_place}
 use Rattle.flow_program_types.specs.PointedTypes.{Element, Known, Pointing, is_same, IsOfKind, number_kind, pointer_kind, IsStorable}
-use Rattle.flow_program_types.specs.TypedPrograms.{Gives, IsKept, Keeps}
+use Rattle.flow_program_types.specs.TypedPrograms.{Gives, Keeps}
 use Rattle.flow_program_types.specs.TypedStates.{Temporaries}
 use Rattle.lib_models_effects.specs.NumberedTables.{set_at}
 use Rattle.flow_lower_typed.specs.KnownValues.{type_known, term_known, place_known, below, with_value}
-use Rattle.flow_lower_typed.specs.TypedActs.{PointsTo, IsTypedAct, loads, stores_in, shifts, computes, to_number}
+use Rattle.flow_lower_typed.specs.TypedActs.{IsTypedAct, loads, stores_in, shifts, computes, to_number}
 use Rattle.flow_lower_typed.specs.TypedPieces.{base_type, State}
 use Rattle.flow_lower_typed.specs.TypedTerms.{is_integer, is_stored_as, moves, is_typed_term, is_typed_place}
 use Rattle.flow_lower_typed.specs.WorkLaws.{IsLookedAt}
 use Rattle.flow_lower_typed.proofs.KeptKnowledge.{kept_same}
-use Rattle.flow_lower_typed_works.proofs.KnownTables.{set_here, set_else, below_here, Agrees, agrees_same, agrees_below, agrees_set, agrees_value, value_here, value_else, to_below, to_value, gives_value, gives_below, storable_same}
+use Rattle.flow_lower_typed_works.proofs.KnownTables.{set_here, set_else, below_here, Agrees, agrees_same, agrees_below, agrees_set, agrees_value, value_here, to_below, gives_value, gives_below}
 use Rattle.flow_lower_typed_works.proofs.PlannedWorks.{Site, Labels, Planned, Comes, plan_value, plan_address, plan_do}
-use Rattle.flow_lower_typed_works.proofs.FormGoals.{never, at_most, one_more, no_less, term_goal, gives_goal, comes_do, integer_of, integer_known, known_by_type, nothing_asked, stored_as, behind_is, AreBehind, behind_parts, two_known, two_agree, first_there, second_there}
+use Rattle.flow_lower_typed_works.proofs.FormGoals.{never, at_most, no_less, term_goal, comes_do, integer_of, integer_known, known_by_type, nothing_asked, stored_as, behind_is, behind_parts, two_known, two_agree, first_there, second_there}
 use Rattle.flow_lower_typed_works.proofs.Numbers.{IsLookedForm}
 use Rattle.flow_lower_typed_works.proofs.Pointers.{storable_is, points_there, IsMoved, moved}
 

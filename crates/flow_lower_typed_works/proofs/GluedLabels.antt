@@ -1,5 +1,5 @@
 -- What is known at labels, from parts of their numbers.
-use Rattle.std.proofs.Common.{◌≡◌, ◌≤◌, ◌<◌, ℕ, Bool, true, false, cond, nat_lt, refl, arith, ap, sym, subst, ◌∙◌}
+use Rattle.std.proofs.Common.{◌≡◌, ◌≤◌, ◌<◌, ℕ, cond, nat_lt, arith, ap, ◌∙◌}
 use Rattle.std.proofs.lemmas.Bool.{lt-ltb, le-ltb}
 use Rattle.flow_lower_typed.specs.WorkLaws.{Labelled}
 use Rattle.flow_lower_typed_works.proofs.PlannedWorks.{Labels}

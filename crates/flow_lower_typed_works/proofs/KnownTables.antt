@@ -1,8 +1,8 @@
 -- What is known of temporaries below another one, and of that one.
-use Rattle.std.proofs.Common.{◌≡◌, ◌≤◌, ◌<◌, ℕ, ◌+◌, ◌==◌, Bool, true, false, cond, nat_lt, Option, Some, None, refl, arith, ap, sym, subst, ◌∙◌}
+use Rattle.std.proofs.Common.{◌≡◌, ◌≤◌, ◌<◌, ℕ, ◌==◌, Bool, true, false, cond, nat_lt, Option, Some, None, refl, arith, ap, sym, subst, ◌∙◌}
 use Rattle.std.proofs.lemmas.Bool.{eqb-true, ltb-true, lt-ltb}
 use Rattle.lib_models_effects.specs.NumberedTables.{set_at}
-use Rattle.flow_program_types.specs.PointedTypes.{Known, IsLess, IsStorable}
+use Rattle.flow_program_types.specs.PointedTypes.{Known, IsStorable}
 use Rattle.flow_program_types.specs.TypedPrograms.{IsKept, Gives}
 use Rattle.flow_program_types.specs.TypedStates.{Temporaries}
 use Rattle.flow_lower_typed.specs.KnownValues.{below, with_value}

@@ -1,5 +1,5 @@
 -- Pointers to lvalues.
-use Rattle.std.proofs.Common.{◌≡◌, ◌<◌, ◌≤◌, ℕ, ◌+◌, Bool, true, false, cond, ◌&&◌, nat_lt, List, [], ◌∷◌, ◌++◌, length, get_or, slice_get, Option, Some, None, refl, arith, ap, sym, subst, ◌∙◌, inl, inr}
+use Rattle.std.proofs.Common.{◌≡◌, ◌<◌, ℕ, ◌+◌, Bool, true, false, ◌&&◌, nat_lt, List, [], ◌∷◌, ◌++◌, length, slice_get, Option, Some, None, refl, ap, sym, subst, ◌∙◌, inl, inr}
 use Rattle.std.specs.Prelude.{zero, suc, ◌==◌, ◌||◌}
 use Rattle.std.specs.List.{list_any}
 use Rattle.std.proofs.lemmas.Bool.{and_parts, eqb-true, ltb-true, cases_lt}
@@ -30,7 +30,7 @@ use Rattle.flow_lower_units.specs.RegularTerms.{is_regular_term, is_regular_plac
 use Rattle.flow_lower_units.specs.RegularTerms as regular
 use Rattle.flow_program_types.specs.PointedTypes.{Element, Known, Pointing, IsStorable}
 use Rattle.flow_program_types.specs.StandingTypes.{AreLaidOut, Stands}
-use Rattle.flow_program_types.specs.TypedPrograms.{Gives, IsKept}
+use Rattle.flow_program_types.specs.TypedPrograms.{IsKept}
 use Rattle.flow_program_types.specs.TypedStates.{Temporaries}
 use Rattle.flow_program_types_layouts.proofs.StandingTypes.{member_stands}
 use Rattle.flow_lower_typed.specs.KnownValues.{term_known, place_known, below, with_value}
@@ -40,7 +40,7 @@ use Rattle.flow_lower_typed.specs.TypedTerms.{is_struct, has_type, has_member, l
 use Rattle.flow_lower_typed.specs.WorkLaws.{Extends, IsSettingOf}
 use Rattle.flow_lower_typed_works.proofs.KnownTables.{Agrees, agrees_same, agrees_below, agrees_value, value_here, storable_same, to_value, gives_value}
 use Rattle.flow_lower_typed_works.proofs.PlannedWorks.{Site, Labels, Planned, Comes, plan_value, plan_unused, plan_address, plan_name}
-use Rattle.flow_lower_typed_works.proofs.FormGoals.{never, at_most, comes_to, comes_do, pointer_to, points_as, AreBehind, behind_parts, two_known, two_agree, first_there, second_there}
+use Rattle.flow_lower_typed_works.proofs.FormGoals.{never, at_most, comes_to, comes_do, pointer_to, points_as, behind_parts, two_known, two_agree, first_there, second_there}
 use Rattle.flow_lower_typed_works.proofs.Pointers.{storable_is, points_there, size_is}
 
 -- ---- names

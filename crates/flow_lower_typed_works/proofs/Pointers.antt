@@ -14,7 +14,6 @@ use Rattle.c_types_laws_stores.proofs.Types.{type_is}
 use Rattle.flow_program.specs.declared.machine_instructions.Amount.TheVariants as amount
 use Rattle.flow_program.specs.declared.machine_instructions.Scalar.TheVariants as scalar
 use Rattle.flow_lower_expressions.specs.Values.{moved_pointer, of_form}
-use Rattle.flow_lower_plain.specs.PlainTerms.{is_plain_term, is_plain_place}
 use Rattle.flow_lower_tasks.specs.Acts as acts
 use Rattle.flow_lower_tasks.specs.Acts.{Act}
 use Rattle.flow_lower_tasks.specs.Plans.{Plan, with_work}
@@ -32,7 +31,7 @@ use Rattle.flow_lower_typed.specs.TypedTerms.{is_struct, is_scalar, is_zero, is_
 use Rattle.flow_lower_typed.specs.WorkLaws.{IsSettingOf, IsLookedAt}
 use Rattle.flow_lower_typed_works.proofs.KnownTables.{Agrees, agrees_same, agrees_value, value_here, storable_same}
 use Rattle.flow_lower_typed_works.proofs.PlannedWorks.{Site, Labels, Planned, Comes, plan_value, plan_address}
-use Rattle.flow_lower_typed_works.proofs.FormGoals.{never, at_most, term_goal, gives_goal, value_goal, comes_to, comes_do, pointer_to, scalar_kind, known_by_type, null_known, points_as, two_known, two_agree, first_there, second_there, AreLookedAt, two_looked}
+use Rattle.flow_lower_typed_works.proofs.FormGoals.{never, at_most, term_goal, gives_goal, value_goal, comes_to, comes_do, pointer_to, scalar_kind, known_by_type, null_known, points_as, two_known, two_agree, first_there, second_there, two_looked}
 use Rattle.flow_lower_typed_works.proofs.Numbers.{IsLookedForm}
 
 -- ---- pointers that are there

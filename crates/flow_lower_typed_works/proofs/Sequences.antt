@@ -1,5 +1,5 @@
 -- Terms that are computed one after the other, and terms whose values are not used.
-use Rattle.std.proofs.Common.{◌≡◌, ℕ, ◌+◌, ℤ, Bool, true, false, not, cond, ◌&&◌, Option, Some, None, refl, ap, sym, subst, ◌∙◌}
+use Rattle.std.proofs.Common.{◌≡◌, ℕ, ℤ, Bool, true, false, not, ◌&&◌, Option, Some, refl, sym, subst}
 use Rattle.std.proofs.lemmas.Bool.{and_parts, not-true}
 use Rattle.cc_base.specs.declared.diagnostics.Place.{Place}
 use Rattle.c_layout.specs.CheckedTrees as tree
@@ -13,11 +13,11 @@ use Rattle.flow_lower_units.specs.RegularTerms.{is_regular_term}
 use Rattle.flow_program_types.specs.PointedTypes.{IsStorable}
 use Rattle.flow_program_types.specs.TypedPrograms.{IsKept}
 use Rattle.flow_program_types.specs.TypedStates.{Temporaries}
-use Rattle.flow_lower_typed.specs.KnownValues.{type_known, term_known, below}
+use Rattle.flow_lower_typed.specs.KnownValues.{term_known, below}
 use Rattle.flow_lower_typed.specs.TypedPieces.{State}
 use Rattle.flow_lower_typed.specs.TypedTerms.{fits, is_typed_term}
 use Rattle.flow_lower_typed.proofs.KeptKnowledge.{kept_same}
-use Rattle.flow_lower_typed_works.proofs.KnownTables.{Agrees, agrees_same, agrees_below}
+use Rattle.flow_lower_typed_works.proofs.KnownTables.{agrees_same, agrees_below}
 use Rattle.flow_lower_typed_works.proofs.PlannedWorks.{Site, Labels, Planned, Comes, plan_unused}
 use Rattle.flow_lower_typed_works.proofs.FormGoals.{at_most, term_goal, arm_goal, comes_to, plan_arm, known_by_type, fitting}
 use Rattle.flow_lower_typed_works.proofs.Numbers.{IsLookedForm}
