@@ -34,9 +34,9 @@ use Rattle.flow_lower_typed.specs.TypedPieces.{base_type, State}
 use Rattle.flow_lower_typed.specs.TypedTerms.{is_integer, is_stored_as, moves, is_typed_term, is_typed_place}
 use Rattle.flow_lower_typed.specs.WorkLaws.{IsLookedAt}
 use Rattle.flow_lower_typed.proofs.KeptKnowledge.{kept_same}
-use Rattle.flow_lower_typed_works.proofs.KnownTables.{set_here, set_else, below_here, Agrees, agrees_same, agrees_below, agrees_set, agrees_value, value_here, to_below, gives_value, gives_below}
+use Rattle.flow_lower_typed_works.proofs.KnownTables.{at_most, set_here, set_else, below_here, Agrees, agrees_same, agrees_below, agrees_set, agrees_value, value_here, to_below, gives_value, gives_below}
 use Rattle.flow_lower_typed_works.proofs.PlannedWorks.{Site, Labels, Planned, Comes, plan_value, plan_address, plan_do}
-use Rattle.flow_lower_typed_works.proofs.FormGoals.{never, at_most, no_less, term_goal, comes_do, integer_of, integer_known, known_by_type, nothing_asked, stored_as, behind_is, behind_parts, two_known, two_agree, first_there, second_there}
+use Rattle.flow_lower_typed_works.proofs.FormGoals.{never, no_less, term_goal, comes_do, integer_of, integer_known, known_by_type, nothing_asked, stored_as, behind_is, behind_parts, two_known, two_agree, first_there, second_there}
 use Rattle.flow_lower_typed_works.proofs.Numbers.{IsLookedForm}
 use Rattle.flow_lower_typed_works.proofs.Pointers.{storable_is, points_there, IsMoved, moved}
 
@@ -53,9 +53,6 @@ sides_looked c depth l e typed plain regular =
     let y = and_parts _ _ plain in
     let z = behind_parts depth (is_regular_place c.u c.f depth l) (is_regular_term c.u c.f true (depth + 1) e) regular in
     record { left = (x.0, y.0, z.left); right = (x.1, y.1, subst (λ n. is_regular_term c.u c.f true n e ≡ true) (sym z.next) z.right); next = z.next }
-
-apart_one : (depth a b : ℕ) → a ≡ depth + 1 → b ≡ depth + 2 → a ≡ b → ⊥
-apart_one depth a b x y e = omega (arith, x, y, e)
 
 above : (depth a : ℕ) → a ≡ depth + 1 → depth ≡ a → ⊥
 above depth a x e = omega (arith, x, e)
@@ -264,8 +261,8 @@ module _ {c : Site} {L : Labels → Type 0} {start : State} {count : ℕ} (s : S
           (plan_do loaded _ _ (load_pointer l v.inner b (Both l e) is there) (plan_value e a _ z.right (plan_address l depth p z.left k))))
 
   -- the old value stands in its place still where it is asked for
-  shown_there : (time : StepTime) (inner : Ty) (old new : ℕ) (known : Temporaries) → known old ≡ Element_known inner → set_at known new (Element_known inner) old ≡ Element_known inner
-  shown_there time inner old new known has = by_place (cases_eq old new)
+  shown_there : (inner : Ty) (old new : ℕ) (known : Temporaries) → known old ≡ Element_known inner → set_at known new (Element_known inner) old ≡ Element_known inner
+  shown_there inner old new known has = by_place (cases_eq old new)
     where
       by_place : (old ≡ new) ⊎ (old ≡ new → ⊥) → set_at known new (Element_known inner) old ≡ Element_known inner
       by_place (inl same) = set_here known new (Element_known inner) old same
@@ -295,6 +292,6 @@ module _ {c : Site} {L : Labels → Type 0} {start : State} {count : ℕ} (s : S
       let agree : Agrees depth shifted before = agrees_set depth new (Element_known v.inner) loaded before places.0 (agrees_set depth old (Element_known v.inner) first before (no_less depth old next) (agrees_value depth depth (place_known l) before before (at_most depth) (agrees_same depth before))) in
       let has : loaded old ≡ Element_known v.inner = set_here first old (Element_known v.inner) old refl in
       comes_do (Behind (tree.StepPointer sign time n l)) _ _
-        (pointer_stored (tree.StepPointer sign time n l) l v.inner new old shifted agree there_shifted is v.is (known_by_type at parens constant t (tree.StepPointer sign time n l) refl) (set_here loaded new (Element_known v.inner) new refl) (shown_there time v.inner old new loaded has))
+        (pointer_stored (tree.StepPointer sign time n l) l v.inner new old shifted agree there_shifted is v.is (known_by_type at parens constant t (tree.StepPointer sign time n l) refl) (set_here loaded new (Element_known v.inner) new refl) (shown_there v.inner old new loaded has))
         (plan_do shifted _ _ (shift_pointer n v new old amount.One (is_backward sign) loaded has)
           (plan_do loaded _ _ (load_pointer l v.inner old first is there) (plan_address l depth p (x.1, looked.1, deep.1) k)))

@@ -38,9 +38,9 @@ use Rattle.flow_lower_typed.specs.TypedActs.{IsTypedAct, gives_address, narrows,
 use Rattle.flow_lower_typed.specs.TypedPieces.{name_type, name_type_or, base_type, State}
 use Rattle.flow_lower_typed.specs.TypedTerms.{is_struct, has_type, has_member, literal_or, points_to, size, is_typed_designator, is_typed_term, is_typed_place}
 use Rattle.flow_lower_typed.specs.WorkLaws.{Extends, IsSettingOf}
-use Rattle.flow_lower_typed_works.proofs.KnownTables.{Agrees, agrees_same, agrees_below, agrees_value, value_here, storable_same, to_value, gives_value}
+use Rattle.flow_lower_typed_works.proofs.KnownTables.{at_most, Agrees, agrees_same, agrees_below, agrees_value, value_here, storable_same, to_value, gives_value}
 use Rattle.flow_lower_typed_works.proofs.PlannedWorks.{Site, Labels, Planned, Comes, plan_value, plan_unused, plan_address, plan_name}
-use Rattle.flow_lower_typed_works.proofs.FormGoals.{never, at_most, comes_to, comes_do, pointer_to, points_as, behind_parts, two_known, two_agree, first_there, second_there}
+use Rattle.flow_lower_typed_works.proofs.FormGoals.{never, comes_to, comes_do, pointer_to, points_as, behind_parts, two_known, two_agree, first_there, second_there}
 use Rattle.flow_lower_typed_works.proofs.Pointers.{storable_is, points_there, size_is}
 
 -- ---- names

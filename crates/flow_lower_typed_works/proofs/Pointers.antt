@@ -29,9 +29,9 @@ use Rattle.flow_lower_typed.specs.TypedActs.{PointsTo, IsTypedAct, loads, narrow
 use Rattle.flow_lower_typed.specs.TypedPieces.{base_type, State}
 use Rattle.flow_lower_typed.specs.TypedTerms.{is_struct, is_scalar, is_zero, is_null, points_to, points_into, converts, integer_first, pointer_of, moves, size, is_typed_term, is_typed_place}
 use Rattle.flow_lower_typed.specs.WorkLaws.{IsSettingOf, IsLookedAt}
-use Rattle.flow_lower_typed_works.proofs.KnownTables.{Agrees, agrees_same, agrees_value, value_here, storable_same}
+use Rattle.flow_lower_typed_works.proofs.KnownTables.{at_most, Agrees, agrees_same, agrees_value, value_here, storable_same}
 use Rattle.flow_lower_typed_works.proofs.PlannedWorks.{Site, Labels, Planned, Comes, plan_value, plan_address}
-use Rattle.flow_lower_typed_works.proofs.FormGoals.{never, at_most, term_goal, gives_goal, value_goal, comes_to, comes_do, pointer_to, scalar_kind, known_by_type, null_known, points_as, two_known, two_agree, first_there, second_there, two_looked}
+use Rattle.flow_lower_typed_works.proofs.FormGoals.{never, term_goal, gives_goal, value_goal, comes_to, comes_do, pointer_to, scalar_kind, known_by_type, null_known, points_as, two_known, two_agree, first_there, second_there, two_looked}
 use Rattle.flow_lower_typed_works.proofs.Numbers.{IsLookedForm}
 
 -- ---- pointers that are there
@@ -168,7 +168,6 @@ module _ {c : Site} {L : Labels → Type 0} {start : State} {count : ℕ} (s : S
 
   pub shift_comes : (backward : Bool) (n : ℕ) (a b : TermTree) → Looked (tree.Shift backward n a b) → Goal (tree.Shift backward n a b)
   shift_comes backward n a b looked =
-      let form = tree.Shift backward n a b in
       let x = and_parts (moves c.u c.f t n && same_type (term_type (pointer_of a b)) t) (is_typed_term c.u c.f a && is_typed_term c.u c.f b) looked.0 in
       let y = and_parts (moves c.u c.f t n) (same_type (term_type (pointer_of a b)) t) x.0 in
       let m = moved c t n y.0 in
