@@ -34,9 +34,9 @@ use Rattle.flow_lower_typed.specs.TypedPieces.{base_type, State}
 use Rattle.flow_lower_typed.specs.TypedTerms.{is_integer, is_stored_as, moves, is_typed_term, is_typed_place}
 use Rattle.flow_lower_typed.specs.WorkLaws.{IsLookedAt}
 use Rattle.flow_lower_typed.proofs.KeptKnowledge.{kept_same}
-use Rattle.flow_lower_typed_works.proofs.KnownTables.{set_here, set_else, below_here, Agrees, agrees_same, agrees_below, agrees_set, agrees_value, value_here, to_below, gives_value, gives_below}
+use Rattle.flow_lower_typed_works.proofs.KnownTables.{at_most, set_here, set_else, below_here, Agrees, agrees_same, agrees_below, agrees_set, agrees_value, value_here, to_below, gives_value, gives_below}
 use Rattle.flow_lower_typed_works.proofs.PlannedWorks.{Site, Labels, Planned, Comes, plan_value, plan_address, plan_do}
-use Rattle.flow_lower_typed_works.proofs.FormGoals.{never, at_most, no_less, term_goal, comes_do, integer_of, integer_known, known_by_type, nothing_asked, stored_as, behind_is, behind_parts, two_known, two_agree, first_there, second_there}
+use Rattle.flow_lower_typed_works.proofs.FormGoals.{never, no_less, term_goal, comes_do, integer_of, integer_known, known_by_type, nothing_asked, stored_as, behind_is, behind_parts, two_known, two_agree, first_there, second_there}
 use Rattle.flow_lower_typed_works.proofs.Numbers.{IsLookedForm}
 use Rattle.flow_lower_typed_works.proofs.Pointers.{storable_is, points_there, IsMoved, moved}
 
@@ -53,9 +53,6 @@ sides_looked c depth l e typed plain regular =
     let y = and_parts _ _ plain in
     let z = behind_parts depth (is_regular_place c.u c.f depth l) (is_regular_term c.u c.f true (depth + 1) e) regular in
     record { left = (x.0, y.0, z.left); right = (x.1, y.1, subst (λ n. is_regular_term c.u c.f true n e ≡ true) (sym z.next) z.right); next = z.next }
-
-apart_one : (depth a b : ℕ) → a ≡ depth + 1 → b ≡ depth + 2 → a ≡ b → ⊥
-apart_one depth a b x y e = omega (arith, x, y, e)
 
 above : (depth a : ℕ) → a ≡ depth + 1 → depth ≡ a → ⊥
 above depth a x e = omega (arith, x, e)
@@ -133,8 +130,8 @@ module _ {c : Site} {L : Labels → Type 0} {start : State} {count : ℕ} (s : S
       let is : IsStorable (type_known (lvalue_type l)) (Both l e n) = subst (IsStorable (type_known (lvalue_type l))) (sym there) value.storable in
       let same : term_known (Typed at t parens constant (tree.Assign l e)) ≡ type_known (lvalue_type l) = known_by_type at parens constant t (tree.Assign l e) refl ∙ ap type_known (type_is t (lvalue_type l) y.1) in
       comes_do (Behind (tree.Assign l e)) _ _
-        (stores (tree.Assign l e) l (scalar_of (lvalue_type l)) n n (Both l e) (two_agree depth n z.next (place_known l) (term_known e) before) (first_there depth n z.next (place_known l) (term_known e) before) value.kind is (subst (λ z. IsStorable z (Both l e n)) (sym same) is))
-        (plan_value e n _ z.right (plan_address l depth p z.left k))
+      (stores (tree.Assign l e) l (scalar_of (lvalue_type l)) n n (Both l e) (two_agree depth n z.next (place_known l) (term_known e) before) (first_there depth n z.next (place_known l) (term_known e) before) value.kind is (subst (λ z. IsStorable z (Both l e n)) (sym same) is))
+      (plan_value e n _ z.right (plan_address l depth p z.left k))
 
   -- ---- numbers: nothing is known of what stands behind the address
 
@@ -192,12 +189,12 @@ module _ {c : Site} {L : Labels → Type 0} {start : State} {count : ℕ} (s : S
       let own = integer_type (lvalue_type l) in
       let agree : Agrees (depth + 1) (Both l e) (with_value depth (place_known l) before) = agrees_value (depth + 1) n (term_known e) (with_value depth (place_known l) before) (with_value depth (place_known l) before) low (agrees_same (depth + 1) (with_value depth (place_known l) before)) in
       comes_do (Behind (tree.Compound sign kind l e)) _ _
-        (number_stored (tree.Compound sign kind l e) l n n y.1 (integer_known at parens constant t (tree.Compound sign kind l e) refl y.0))
-        (plan_converted l at n n (integer_type kind) own _ low
-          (plan_do (Placed l) _ _ (computes n (number_operator (meaning sign)) m (amount.Temp n) (integer_type kind) (again l n low))
-            (plan_converted l at m m own (integer_type kind) _ high
-              (plan_do (Placed l) _ _ (load_number l m high y.1 (Both l e) agree (first_there depth n z.next (place_known l) (term_known e) before))
-                (plan_value e n _ z.right (plan_address l depth p z.left k))))))
+      (number_stored (tree.Compound sign kind l e) l n n y.1 (integer_known at parens constant t (tree.Compound sign kind l e) refl y.0))
+      (plan_converted l at n n (integer_type kind) own _ low
+      (plan_do (Placed l) _ _ (computes n (number_operator (meaning sign)) m (amount.Temp n) (integer_type kind) (again l n low))
+      (plan_converted l at m m own (integer_type kind) _ high
+      (plan_do (Placed l) _ _ (load_number l m high y.1 (Both l e) agree (first_there depth n z.next (place_known l) (term_known e) before))
+      (plan_value e n _ z.right (plan_address l depth p z.left k))))))
 
   -- ---- steps of numbers
 
@@ -217,12 +214,12 @@ module _ {c : Site} {L : Labels → Type 0} {start : State} {count : ℕ} (s : S
       let high = new_most keeps old next (later depth old next deep.0) in
       let own = integer_type (lvalue_type l) in
       comes_do (Behind (tree.Step sign time kind l)) _ _
-        (number_stored (tree.Step sign time kind l) l (new_value old keeps) old y.1 (integer_known at parens constant t (tree.Step sign time kind l) refl y.0))
-        (plan_converted l at (new_value old keeps) (new_value old keeps) (integer_type kind) own _ high
-          (plan_do (Placed l) _ _ (computes (new_value old keeps) (step_operator sign) (widened (new_value old keeps) old own (integer_type kind)) amount.One (integer_type kind) (again l (new_value old keeps) high))
-            (plan_converted l at (new_value old keeps) old own (integer_type kind) _ high
-              (plan_do (Placed l) _ _ (load_number l old low y.1 (with_value depth (place_known l) before) (agrees_same (depth + 1) (with_value depth (place_known l) before)) (value_here depth (place_known l) before))
-                (plan_address l depth p (x.1, looked.1, deep.1) k)))))
+      (number_stored (tree.Step sign time kind l) l (new_value old keeps) old y.1 (integer_known at parens constant t (tree.Step sign time kind l) refl y.0))
+      (plan_converted l at (new_value old keeps) (new_value old keeps) (integer_type kind) own _ high
+      (plan_do (Placed l) _ _ (computes (new_value old keeps) (step_operator sign) (widened (new_value old keeps) old own (integer_type kind)) amount.One (integer_type kind) (again l (new_value old keeps) high))
+      (plan_converted l at (new_value old keeps) old own (integer_type kind) _ high
+      (plan_do (Placed l) _ _ (load_number l old low y.1 (with_value depth (place_known l) before) (agrees_same (depth + 1) (with_value depth (place_known l) before)) (value_here depth (place_known l) before))
+      (plan_address l depth p (x.1, looked.1, deep.1) k)))))
 
   -- ---- pointers
 
@@ -259,13 +256,13 @@ module _ {c : Site} {L : Labels → Type 0} {start : State} {count : ℕ} (s : S
       let agree : Agrees depth shifted before = agrees_set depth a (Element_known v.inner) loaded before (no_less depth a z.next) (agrees_set depth b (Element_known v.inner) (Both l e) before (no_less_two depth b later) (two_agree depth a z.next (place_known l) (term_known e) before)) in
       let has : shifted a ≡ Element_known v.inner = set_here loaded a (Element_known v.inner) a refl in
       comes_do (Behind (tree.CompoundShift backward n l e)) _ _
-        (pointer_stored (tree.CompoundShift backward n l e) l v.inner a a shifted agree there_shifted is v.is (known_by_type at parens constant t (tree.CompoundShift backward n l e) refl) has has)
-        (plan_do shifted _ _ (shift_pointer n v a b (amount.Temp a) backward loaded (set_here (Both l e) b (Element_known v.inner) b refl))
-          (plan_do loaded _ _ (load_pointer l v.inner b (Both l e) is there) (plan_value e a _ z.right (plan_address l depth p z.left k))))
+      (pointer_stored (tree.CompoundShift backward n l e) l v.inner a a shifted agree there_shifted is v.is (known_by_type at parens constant t (tree.CompoundShift backward n l e) refl) has has)
+      (plan_do shifted _ _ (shift_pointer n v a b (amount.Temp a) backward loaded (set_here (Both l e) b (Element_known v.inner) b refl))
+      (plan_do loaded _ _ (load_pointer l v.inner b (Both l e) is there) (plan_value e a _ z.right (plan_address l depth p z.left k))))
 
   -- the old value stands in its place still where it is asked for
-  shown_there : (time : StepTime) (inner : Ty) (old new : ℕ) (known : Temporaries) → known old ≡ Element_known inner → set_at known new (Element_known inner) old ≡ Element_known inner
-  shown_there time inner old new known has = by_place (cases_eq old new)
+  shown_there : (inner : Ty) (old new : ℕ) (known : Temporaries) → known old ≡ Element_known inner → set_at known new (Element_known inner) old ≡ Element_known inner
+  shown_there inner old new known has = by_place (cases_eq old new)
     where
       by_place : (old ≡ new) ⊎ (old ≡ new → ⊥) → set_at known new (Element_known inner) old ≡ Element_known inner
       by_place (inl same) = set_here known new (Element_known inner) old same
@@ -295,6 +292,6 @@ module _ {c : Site} {L : Labels → Type 0} {start : State} {count : ℕ} (s : S
       let agree : Agrees depth shifted before = agrees_set depth new (Element_known v.inner) loaded before places.0 (agrees_set depth old (Element_known v.inner) first before (no_less depth old next) (agrees_value depth depth (place_known l) before before (at_most depth) (agrees_same depth before))) in
       let has : loaded old ≡ Element_known v.inner = set_here first old (Element_known v.inner) old refl in
       comes_do (Behind (tree.StepPointer sign time n l)) _ _
-        (pointer_stored (tree.StepPointer sign time n l) l v.inner new old shifted agree there_shifted is v.is (known_by_type at parens constant t (tree.StepPointer sign time n l) refl) (set_here loaded new (Element_known v.inner) new refl) (shown_there time v.inner old new loaded has))
-        (plan_do shifted _ _ (shift_pointer n v new old amount.One (is_backward sign) loaded has)
-          (plan_do loaded _ _ (load_pointer l v.inner old first is there) (plan_address l depth p (x.1, looked.1, deep.1) k)))
+      (pointer_stored (tree.StepPointer sign time n l) l v.inner new old shifted agree there_shifted is v.is (known_by_type at parens constant t (tree.StepPointer sign time n l) refl) (set_here loaded new (Element_known v.inner) new refl) (shown_there v.inner old new loaded has))
+      (plan_do shifted _ _ (shift_pointer n v new old amount.One (is_backward sign) loaded has)
+      (plan_do loaded _ _ (load_pointer l v.inner old first is there) (plan_address l depth p (x.1, looked.1, deep.1) k)))

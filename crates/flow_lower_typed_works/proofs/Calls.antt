@@ -26,8 +26,8 @@ use Rattle.flow_lower_typed.specs.TypedActs as typed
 use Rattle.flow_lower_typed.specs.TypedPieces.{State, ArePassed, IsTypedCall}
 use Rattle.flow_lower_typed.specs.TypedTerms.{is_integer, is_scalar, is_stored_as, local_types, parameter_types, are_passed, gives_type, is_typed_call, is_typed_term, are_typed_terms}
 use Rattle.flow_lower_typed.proofs.KeptKnowledge.{kept_same}
-use Rattle.flow_lower_typed_works.proofs.FormGoals.{never, at_most, term_goal, to_goal, gives_goal, value_goal, comes_to, comes_do, integer_unknown, known_by_type, nothing_asked, stored_as, behind_parts}
-use Rattle.flow_lower_typed_works.proofs.KnownTables.{Agrees, agrees_same, agrees_value, value_here, storable_same, to_below}
+use Rattle.flow_lower_typed_works.proofs.FormGoals.{never, term_goal, to_goal, gives_goal, value_goal, comes_to, comes_do, integer_unknown, known_by_type, nothing_asked, stored_as, behind_parts}
+use Rattle.flow_lower_typed_works.proofs.KnownTables.{at_most, Agrees, agrees_same, agrees_value, value_here, storable_same, to_below}
 use Rattle.flow_lower_typed_works.proofs.Numbers.{IsLookedForm}
 use Rattle.flow_lower_typed_works.proofs.PlannedWorks.{Site, Labels, Planned, Comes, plan_value, plan_call}
 

@@ -24,14 +24,11 @@ use Rattle.flow_lower_typed.specs.TypedPieces.{base_type, State, IsWeaker}
 use Rattle.flow_lower_typed.specs.TypedTerms.{is_integer, is_scalar, is_stored_as, points_to, is_null, is_zero_form, is_null_form, fits, is_typed_term}
 use Rattle.flow_lower_typed.specs.WorkLaws.{IsLookedAt}
 use Rattle.flow_lower_typed.proofs.KeptKnowledge.{kept_same}
-use Rattle.flow_lower_typed_works.proofs.KnownTables.{Agrees, agrees_same, agrees_below, agrees_value, value_here, value_else, storable_same, to_value, to_below, gives_value, gives_below}
+use Rattle.flow_lower_typed_works.proofs.KnownTables.{at_most, Agrees, agrees_same, agrees_below, agrees_value, value_here, value_else, storable_same, to_value, to_below, gives_value, gives_below}
 use Rattle.flow_lower_typed_works.proofs.PlannedWorks.{Site, Labels, Planned, Comes, plan_value, plan_unused, plan_do}
 
 pub never : {A : Type 0} → false ≡ true → A
 never e = absurd (cc)
-
-pub at_most : (n : ℕ) → n ≤ n
-at_most n = omega arith
 
 -- ---- goals
 

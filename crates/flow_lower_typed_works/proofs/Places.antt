@@ -38,9 +38,9 @@ use Rattle.flow_lower_typed.specs.TypedActs.{IsTypedAct, gives_address, narrows,
 use Rattle.flow_lower_typed.specs.TypedPieces.{name_type, name_type_or, base_type, State}
 use Rattle.flow_lower_typed.specs.TypedTerms.{is_struct, has_type, has_member, literal_or, points_to, size, is_typed_designator, is_typed_term, is_typed_place}
 use Rattle.flow_lower_typed.specs.WorkLaws.{Extends, IsSettingOf}
-use Rattle.flow_lower_typed_works.proofs.KnownTables.{Agrees, agrees_same, agrees_below, agrees_value, value_here, storable_same, to_value, gives_value}
+use Rattle.flow_lower_typed_works.proofs.KnownTables.{at_most, Agrees, agrees_same, agrees_below, agrees_value, value_here, storable_same, to_value, gives_value}
 use Rattle.flow_lower_typed_works.proofs.PlannedWorks.{Site, Labels, Planned, Comes, plan_value, plan_unused, plan_address, plan_name}
-use Rattle.flow_lower_typed_works.proofs.FormGoals.{never, at_most, comes_to, comes_do, pointer_to, points_as, behind_parts, two_known, two_agree, first_there, second_there}
+use Rattle.flow_lower_typed_works.proofs.FormGoals.{never, comes_to, comes_do, pointer_to, points_as, behind_parts, two_known, two_agree, first_there, second_there}
 use Rattle.flow_lower_typed_works.proofs.Pointers.{storable_is, points_there, size_is}
 
 -- ---- names
@@ -141,9 +141,9 @@ module _ {c : Site} {L : Labels → Type 0} {start : State} {count : ℕ} (s : S
       let wide = size_is c.u s t setting in
       let known = with_value depth (place_known outer) before in
       comes_do Behind _ _
-        (narrows depth depth offset _ (lvalue_type outer) t (points_there c known Behind depth (lvalue_type outer) (lvalue_type outer) (value_here depth (place_known outer) before) refl) (member_there c.u setting.laid (lvalue_type outer) offset t y.0) wide (subst (λ n. 0 < n) (sym wide) (ltb-true 0 (size c.u c.f t) y.1))
-          (gives_value depth (Some (Pointing (Element t))) (Some (Pointing (Element t))) known before (one_agrees (place_known outer)) (storable_same (Some (Pointing (Element t))))))
-        (plan_address outer depth p (x.0, looked.1, looked.2) k)
+      (narrows depth depth offset _ (lvalue_type outer) t (points_there c known Behind depth (lvalue_type outer) (lvalue_type outer) (value_here depth (place_known outer) before) refl) (member_there c.u setting.laid (lvalue_type outer) offset t y.0) wide (subst (λ n. 0 < n) (sym wide) (ltb-true 0 (size c.u c.f t) y.1))
+      (gives_value depth (Some (Pointing (Element t))) (Some (Pointing (Element t))) known before (one_agrees (place_known outer)) (storable_same (Some (Pointing (Element t))))))
+      (plan_address outer depth p (x.0, looked.1, looked.2) k)
 
   -- ---- copies
 
@@ -176,8 +176,8 @@ module _ {c : Site} {L : Labels → Type 0} {start : State} {count : ℕ} (s : S
       let there = first_there depth (jobs.behind depth 1) b.next (place_known to) (place_known from) before in
       let kept : IsKept (Both to from) Behind = to_value depth (Some (Pointing (Element t))) (Both to from) before (two_agree depth (jobs.behind depth 1) b.next (place_known to) (place_known from) before) (storable_is (Some (Pointing (Element t))) (Both to from depth) (ap (λ z. Some (Pointing (Element z))) first ∙ sym there)) in
       comes_do Behind _ _
-        (subst (λ z. Acts (Both to from) Behind (acts.Copy depth (jobs.behind depth 1) (struct_number z))) first (copy_act to from t b.next is.0 (ltb-true 0 (size c.u c.f t) is.1) (sym first) (sym second) kept))
-        (plan_address from (jobs.behind depth 1) _ (y.1, plain.1, subst (λ n. is_regular_place c.u c.f n from ≡ true) (sym b.next) b.right) (plan_address to depth p (y.0, plain.0, b.left) k))
+      (subst (λ z. Acts (Both to from) Behind (acts.Copy depth (jobs.behind depth 1) (struct_number z))) first (copy_act to from t b.next is.0 (ltb-true 0 (size c.u c.f t) is.1) (sym first) (sym second) kept))
+      (plan_address from (jobs.behind depth 1) _ (y.1, plain.1, subst (λ n. is_regular_place c.u c.f n from ≡ true) (sym b.next) b.right) (plan_address to depth p (y.0, plain.0, b.left) k))
 
   pub then_comes : (left : TermTree) (right : LvalueTree) → Looked (tree.Then left right) → Goal (tree.Then left right)
   then_comes left right looked =
@@ -187,5 +187,5 @@ module _ {c : Site} {L : Labels → Type 0} {start : State} {count : ℕ} (s : S
       let deep = and_parts (is_regular_term c.u c.f false depth left) (is_regular_place c.u c.f depth right) looked.2 in
       comes_to (plan_address right depth _ (y.0, plain.1, deep.1) (plan_unused left depth p (x.0, plain.0, deep.0) k))
       (to_value depth (Some (Pointing (Element t))) (with_value depth (place_known right) (below depth before)) before
-        (agrees_value depth depth (place_known right) (below depth before) before (at_most depth) (agrees_below depth depth before before (at_most depth) (agrees_same depth before)))
-        (storable_is (Some (Pointing (Element t))) _ (ap (λ z. Some (Pointing (Element z))) (type_is t (lvalue_type right) y.1) ∙ sym (value_here depth (place_known right) (below depth before)))))
+      (agrees_value depth depth (place_known right) (below depth before) before (at_most depth) (agrees_below depth depth before before (at_most depth) (agrees_same depth before)))
+      (storable_is (Some (Pointing (Element t))) _ (ap (λ z. Some (Pointing (Element z))) (type_is t (lvalue_type right) y.1) ∙ sym (value_here depth (place_known right) (below depth before)))))

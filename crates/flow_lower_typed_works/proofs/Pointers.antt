@@ -29,9 +29,9 @@ use Rattle.flow_lower_typed.specs.TypedActs.{PointsTo, IsTypedAct, loads, narrow
 use Rattle.flow_lower_typed.specs.TypedPieces.{base_type, State}
 use Rattle.flow_lower_typed.specs.TypedTerms.{is_struct, is_scalar, is_zero, is_null, points_to, points_into, converts, integer_first, pointer_of, moves, size, is_typed_term, is_typed_place}
 use Rattle.flow_lower_typed.specs.WorkLaws.{IsSettingOf, IsLookedAt}
-use Rattle.flow_lower_typed_works.proofs.KnownTables.{Agrees, agrees_same, agrees_value, value_here, storable_same}
+use Rattle.flow_lower_typed_works.proofs.KnownTables.{at_most, Agrees, agrees_same, agrees_value, value_here, storable_same}
 use Rattle.flow_lower_typed_works.proofs.PlannedWorks.{Site, Labels, Planned, Comes, plan_value, plan_address}
-use Rattle.flow_lower_typed_works.proofs.FormGoals.{never, at_most, term_goal, gives_goal, value_goal, comes_to, comes_do, pointer_to, scalar_kind, known_by_type, null_known, points_as, two_known, two_agree, first_there, second_there, two_looked}
+use Rattle.flow_lower_typed_works.proofs.FormGoals.{never, term_goal, gives_goal, value_goal, comes_to, comes_do, pointer_to, scalar_kind, known_by_type, null_known, points_as, two_known, two_agree, first_there, second_there, two_looked}
 use Rattle.flow_lower_typed_works.proofs.Numbers.{IsLookedForm}
 
 -- ---- pointers that are there
@@ -124,8 +124,8 @@ module _ {c : Site} {L : Labels → Type 0} {start : State} {count : ℕ} (s : S
       let same = type_is t (lvalue_type l) y.1 in
       let kind : IsOfKind (lvalue_type l) (scalar_of (lvalue_type l)) (type_known (lvalue_type l)) = scalar_kind (lvalue_type l) (subst (λ z. is_scalar z ≡ true) same y.0) in
       comes_do (Behind (tree.Load l)) _ _
-        (loads depth depth (scalar_of (lvalue_type l)) (lvalue_type l) (type_known (lvalue_type l)) (place_there l (Behind (tree.Load l))) kind (gives_one (tree.Load l) (place_known l) (type_known (lvalue_type l)) (storable_is _ _ (known_by_type at parens constant t (tree.Load l) refl ∙ ap type_known same))))
-        (plan_address l depth p (x.0, looked.1, looked.2) k)
+      (loads depth depth (scalar_of (lvalue_type l)) (lvalue_type l) (type_known (lvalue_type l)) (place_there l (Behind (tree.Load l))) kind (gives_one (tree.Load l) (place_known l) (type_known (lvalue_type l)) (storable_is _ _ (known_by_type at parens constant t (tree.Load l) refl ∙ ap type_known same))))
+      (plan_address l depth p (x.0, looked.1, looked.2) k)
 
   by_address : (form : FormTree) (l : LvalueTree) → IsLookedAt c.u c.f c.calls (jobs.Address l depth) → IsStorable (term_known (Typed at t parens constant form)) (place_known l) → Comes c L start count (Some (Behind form)) (with_work (jobs.Address l depth) p)
   by_address form l looked is = comes_to (plan_address l depth p looked k) (value_goal used depth (Typed at t parens constant form) (place_known l) before before (agrees_same depth before) is)
@@ -147,9 +147,9 @@ module _ {c : Site} {L : Labels → Type 0} {start : State} {count : ℕ} (s : S
       let y = and_parts (points_into t (lvalue_type l)) (nat_lt 0 (size c.u c.f (lvalue_type l))) x.1 in
       let wide = size_is c.u s (lvalue_type l) setting in
       comes_do (Behind (tree.Decay l)) _ _
-        (narrows depth depth 0 _ (lvalue_type l) (lvalue_type l) (place_there l (Behind (tree.Decay l))) (stands_itself c.u.structs c.u.model.pointer (lvalue_type l)) wide (subst (λ n. 0 < n) (sym wide) (ltb-true 0 (size c.u c.f (lvalue_type l)) y.1))
-          (gives_one (tree.Decay l) (place_known l) (Some (Pointing (Element (lvalue_type l)))) (subst (λ z. IsStorable z (Some (Pointing (Element (lvalue_type l))))) (sym (known_by_type at parens constant t (tree.Decay l) refl)) (points_inside t (lvalue_type l) y.0))))
-        (plan_address l depth p (x.0, looked.1, looked.2) k)
+      (narrows depth depth 0 _ (lvalue_type l) (lvalue_type l) (place_there l (Behind (tree.Decay l))) (stands_itself c.u.structs c.u.model.pointer (lvalue_type l)) wide (subst (λ n. 0 < n) (sym wide) (ltb-true 0 (size c.u c.f (lvalue_type l)) y.1))
+      (gives_one (tree.Decay l) (place_known l) (Some (Pointing (Element (lvalue_type l)))) (subst (λ z. IsStorable z (Some (Pointing (Element (lvalue_type l))))) (sym (known_by_type at parens constant t (tree.Decay l) refl)) (points_inside t (lvalue_type l) y.0))))
+      (plan_address l depth p (x.0, looked.1, looked.2) k)
 
   -- ---- pointers that are moved
 
@@ -168,13 +168,12 @@ module _ {c : Site} {L : Labels → Type 0} {start : State} {count : ℕ} (s : S
 
   pub shift_comes : (backward : Bool) (n : ℕ) (a b : TermTree) → Looked (tree.Shift backward n a b) → Goal (tree.Shift backward n a b)
   shift_comes backward n a b looked =
-      let form = tree.Shift backward n a b in
       let x = and_parts (moves c.u c.f t n && same_type (term_type (pointer_of a b)) t) (is_typed_term c.u c.f a && is_typed_term c.u c.f b) looked.0 in
       let y = and_parts (moves c.u c.f t n) (same_type (term_type (pointer_of a b)) t) x.0 in
       let m = moved c t n y.0 in
       let z = two_looked c depth a b x.1 looked.1 looked.2 in
       let gives : Gives depth (Some (Pointing (Element m.inner))) (Both a b) (Behind (tree.Shift backward n a b)) =
-        gives_goal used depth (Typed at t parens constant (tree.Shift backward n a b)) (Some (Pointing (Element m.inner))) (Both a b) before (two_agree depth (jobs.behind depth 1) z.next (term_known a) (term_known b) before) (storable_is _ _ (known_by_type at parens constant t (tree.Shift backward n a b) refl ∙ ap type_known m.is)) in
+      gives_goal used depth (Typed at t parens constant (tree.Shift backward n a b)) (Some (Pointing (Element m.inner))) (Both a b) before (two_agree depth (jobs.behind depth 1) z.next (term_known a) (term_known b) before) (storable_is _ _ (known_by_type at parens constant t (tree.Shift backward n a b) refl ∙ ap type_known m.is)) in
       comes_do (Behind (tree.Shift backward n a b)) _ _ (moved_act backward n a b m (term_type a) z.next (type_is (term_type (pointer_of a b)) t y.1 ∙ m.is) gives) (plan_value b (jobs.behind depth 1) _ z.right (plan_value a depth p z.left k))
 
 -- ---- conversions

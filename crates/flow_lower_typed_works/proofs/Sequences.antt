@@ -17,9 +17,9 @@ use Rattle.flow_lower_typed.specs.KnownValues.{term_known, below}
 use Rattle.flow_lower_typed.specs.TypedPieces.{State}
 use Rattle.flow_lower_typed.specs.TypedTerms.{fits, is_typed_term}
 use Rattle.flow_lower_typed.proofs.KeptKnowledge.{kept_same}
-use Rattle.flow_lower_typed_works.proofs.KnownTables.{agrees_same, agrees_below}
+use Rattle.flow_lower_typed_works.proofs.KnownTables.{at_most, agrees_same, agrees_below}
 use Rattle.flow_lower_typed_works.proofs.PlannedWorks.{Site, Labels, Planned, Comes, plan_unused}
-use Rattle.flow_lower_typed_works.proofs.FormGoals.{at_most, term_goal, arm_goal, comes_to, plan_arm, known_by_type, fitting}
+use Rattle.flow_lower_typed_works.proofs.FormGoals.{term_goal, arm_goal, comes_to, plan_arm, known_by_type, fitting}
 use Rattle.flow_lower_typed_works.proofs.Numbers.{IsLookedForm}
 
 module _ {c : Site} {L : Labels → Type 0} {start : State} {count : ℕ} (s : SettingView) (at : Place) (t : Ty) (parens : ℕ) (constant : Option ℤ) (depth : ℕ) (used : Bool) (before : Temporaries) (p : Plan) (k : Planned c L start count (Some before) p) where
