@@ -43,7 +43,7 @@ module _ (u : UnitView) (f : FunctionView) (used : Bool) (names : List NameView)
   done_if_stronger true s r (Some k) a weaker d = done_stronger s r a k weaker d
   done_if_stronger false s r q a weaker d = weaker_trans s r q weaker d
 
-  piece_stronger : (s r q : State) (p : PieceView) → IsWeaker s r → IsTypedPiece u f used names labels r p q → IsTypedPiece u f used names labels s p q
+  pub piece_stronger : (s r q : State) (p : PieceView) → IsWeaker s r → IsTypedPiece u f used names labels r p q → IsTypedPiece u f used names labels s p q
   piece_stronger s r None (Do x) weaker d = d
   piece_stronger s r (Some k) (Do x) weaker d = done_stronger s r x.does k weaker d
   piece_stronger s r q (DoIfUsed x) weaker d = done_if_stronger used s r q x.does weaker d

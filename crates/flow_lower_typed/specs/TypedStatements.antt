@@ -1,14 +1,14 @@
 -- Statements and functions whose pointers point to what their types say.
-use Rattle.std.specs.Prelude.{◌≡◌, ℕ, zero, ◌==◌, Bool, true, false, ◌&&◌, nat_lt, List, Option, Some, None, slice_get}
+use Rattle.std.specs.Prelude.{◌≡◌, ℕ, zero, ◌==◌, Bool, true, false, ◌&&◌, ◌||◌, nat_lt, List, Option, Some, None, slice_get}
 use Rattle.std.specs.List.{list_all}
 use Rattle.c_layout.specs.CheckedTrees as tree
 use Rattle.c_layout.specs.CheckedTrees.{TermTree, LvalueTree, StatementTree, StatementTrees, StoreTree, StoreValue, StoreCopy, StoreText, statement_trees}
 use Rattle.c_layout.specs.CheckedUnits.{FunctionView, UnitView}
 use Rattle.c_layout.specs.Types.{Ty, same_type}
 use Rattle.flow_lower_functions.specs.Functions.{local_type}
-use Rattle.flow_lower_tasks.specs.TermKinds.{term_type, lvalue_type}
+use Rattle.flow_lower_tasks.specs.TermKinds.{term_type, lvalue_type, is_void}
 use Rattle.flow_lower_typed.specs.TypedObjects.{begins}
-use Rattle.flow_lower_typed.specs.TypedTerms.{is_struct, is_stored_as, size, is_typed_term, is_typed_place}
+use Rattle.flow_lower_typed.specs.TypedTerms.{is_struct, is_scalar, parameter_types, is_stored_as, size, is_typed_term, is_typed_place}
 
 module _ (u : UnitView) (f : FunctionView) where
   -- a structure of the type is copied
@@ -56,5 +56,9 @@ module _ (u : UnitView) (f : FunctionView) where
     are_typed_statements tree.NoMore = true
     are_typed_statements (tree.And first rest) = is_typed_statement first && are_typed_statements rest
 
+-- parameters are scalars, and a result is one
+abbrev pub has_scalars : FunctionView → Bool
+has_scalars f = list_all is_scalar (parameter_types f) && (is_void f.returns || is_scalar f.returns)
+
 abbrev pub is_typed_function : UnitView → FunctionView → Bool
-is_typed_function u f = are_typed_statements u f (statement_trees f.body)
+is_typed_function u f = has_scalars f && are_typed_statements u f (statement_trees f.body)

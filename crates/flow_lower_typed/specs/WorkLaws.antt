@@ -60,7 +60,7 @@ module _ (u : UnitView) (f : FunctionView) (used : Bool) (names : List NameView)
 -- ---- the laws
 
 abbrev pub WorksAreTyped : Type 0
-WorksAreTyped = (u : UnitView) (f : FunctionView) (calls : ℕ → Bool) (s : SettingView) → IsSettingOf u s → (p : Plan) (j : Job) (ps : List PieceView) (q : Plan) → Makes s p (j ∷ []) ps q → IsLookedAt u f calls j
+WorksAreTyped = (u : UnitView) (f : FunctionView) (calls : ℕ → Bool) (s : SettingView) → IsSettingOf u s → (p : Plan) (j : Job) (ps : List PieceView) (q : Plan) → Makes s p (j ∷ []) ps q → p.jobs ≡ [] → IsLookedAt u f calls j
     → (used : Bool) (names : List NameView) → Extends q.names names → (before : Temporaries) → Labelled p.labels q.labels (λ labels. KeepsTo u f used names before labels j ps)
 
 -- the template of a function that passes the looks keeps to what is known

@@ -1,0 +1,6 @@
+pub mod LabelKnowledge
+pub mod ShallowTerms
+pub mod StoredValues
+pub mod NumberedLabels
+pub mod FollowingWorks
+pub mod FollowingParts

@@ -1,0 +1,4 @@
+//! Units that pass the look at types have typed runs.
+#![tactic(auto)]
+
+mod theorems;
