@@ -1,12 +1,11 @@
 -- A copy of a typed template comes on the stack: its parameters are known, and its labels as the template says.
-use Rattle.std.proofs.Common.{◌≡◌, ◌≤◌, ◌<◌, ◌⊎◌, inl, inr, ℕ, zero, suc, ◌+◌, ◌-◌, Bool, true, false, cond, nat_lt, List, [], ◌∷◌, ◌++◌, length, replicate, Option, Some, None, slice_get, refl, arith, ap, sym, subst, ◌∙◌, length-append}
+use Rattle.std.proofs.Common.{◌≡◌, ◌≤◌, ◌<◌, inr, ℕ, zero, suc, ◌+◌, ◌-◌, cond, nat_lt, List, ◌∷◌, ◌++◌, length, replicate, Option, Some, None, slice_get, refl, arith, ap, sym, ◌∙◌, length-append}
 use Rattle.std.proofs.lemmas.Bool.{lt-ltb, le-ltb}
 use Rattle.c_layout.specs.CheckedUnits.{FunctionView, UnitView}
 use Rattle.c_layout.specs.Types.{Ty}
 use Rattle.flow_lower.specs.Openings as o
 use Rattle.flow_lower.specs.Openings.{Made, CopyView}
-use Rattle.flow_lower_bases.specs.BaseTables.{known, found_in}
-use Rattle.flow_lower_plain_works.specs.LeadingPieces.{Marked, NoLabel}
+use Rattle.flow_lower_bases.specs.BaseTables.{known}
 use Rattle.flow_lower_tasks.specs.Pieces.{TemplateView}
 use Rattle.flow_lower_tasks.specs.declared.template_pieces.OwnCall.{OwnCall}
 use Rattle.flow_program_types.specs.TypedPrograms.{IsKept}
@@ -15,7 +14,7 @@ use Rattle.flow_lower_typed.specs.ProgramLaws.{IsTypedFunction}
 use Rattle.flow_lower_typed.specs.TypedBases.{HasTypes, HasLocalTypes}
 use Rattle.flow_lower_typed.specs.TypedPieces.{parameters_known, result_known}
 use Rattle.flow_lower_typed_programs.proofs.LiftedKnowledge.{lifted}
-use Rattle.flow_lower_typed_programs.proofs.TypedBlocks.{Grows, grows_same, Awaited, IsTypedMade, made_awaited, made_labels}
+use Rattle.flow_lower_typed_programs.proofs.TypedBlocks.{grows_same, Awaited, made_labels}
 use Rattle.flow_lower_typed_programs.proofs.TypedCopies.{AreStanding, standing_more, Holds, holds_awaited, Opens}
 
 -- ---- lists
@@ -75,7 +74,7 @@ module _ (u : UnitView) (ts : List (Option TemplateView)) where
       standing_more u ts types types (grows_same (slice_get types)) at all (length m.labels) (length (m.labels ++ zeros)) (no_less (length m.labels) (length zeros) (length (m.labels ++ zeros)) count) old (Some (lifted call.depth outer (result_known call.used f))) stack standing,
     );
     holds = holds_awaited u ts types all (Awaited stack) (Awaited (o.copied call (length m.labels) f t ∷ stack)) (λ l x. inr x) now (o.with_labels t.labels m)
-      (record { count = h.count; first = h.first; last = h.last; made = made_labels u at (Awaited stack) h.count h.count h.first h.last m.blocks m.edges m.labels all old zeros types now m.ready h.made });
+        (record { count = h.count; first = h.first; last = h.last; made = made_labels u at (Awaited stack) h.count h.count h.first h.last m.blocks m.edges m.labels all old zeros types now m.ready h.made });
   }
     where
       labels : ℕ → Temporaries

@@ -1,5 +1,5 @@
 -- A block begins at a label: before it no more is known than at the label.
-use Rattle.std.proofs.Common.{◌≡◌, ◌<◌, ◌⊎◌, inl, inr, ℕ, suc, ◌+◌, ◌-◌, Bool, true, false, cond, List, [], ◌∷◌, ◌++◌, length, Option, Some, None, refl, arith, ap, sym, subst, ◌∙◌}
+use Rattle.std.proofs.Common.{◌≡◌, ◌<◌, ◌⊎◌, inl, inr, ℕ, suc, ◌+◌, ◌-◌, Bool, true, false, cond, List, [], ◌∷◌, ◌++◌, length, Option, Some, refl, arith, ap, sym, subst, ◌∙◌}
 use Rattle.std.specs.List.{slice_set}
 use Rattle.std.proofs.lemmas.List.{length-set}
 use Rattle.cc_base.specs.declared.diagnostics.Place.{Place}
@@ -14,11 +14,10 @@ use Rattle.flow_program_types.specs.TypedPrograms.{IsKept}
 use Rattle.flow_program_types.specs.TypedStates.{Temporaries}
 use Rattle.flow_lower_typed.specs.TypedActs as typed
 use Rattle.flow_lower_typed.specs.TypedBases.{HasTypes}
-use Rattle.flow_lower_typed.specs.TypedPieces.{State, Leads, IsWeaker}
 use Rattle.flow_lower_typed.proofs.KeptKnowledge.{kept_same}
 use Rattle.flow_lower_typed_programs.proofs.LiftedKnowledge.{lifted, kept_lifted}
 use Rattle.flow_lower_typed_programs.proofs.TypedBlocks.{changed, changed_here, Awaited, IsTypedEdge, IsTypedMade, made_step, made_edge, made_closing, made_ended, made_labelled}
-use Rattle.flow_lower_typed_programs.proofs.TypedCopies.{lifted_state, lead_lifted, behind_copy, HasNames, IsTypedCopy, AreStanding, Holds, HoldsIn, enter, Opens}
+use Rattle.flow_lower_typed_programs.proofs.TypedCopies.{behind_copy, HasNames, IsTypedCopy, AreStanding, Holds, Opens}
 
 none_ready : (ss : List Step) → is_none ss ≡ true → ss ≡ []
 none_ready [] is = refl

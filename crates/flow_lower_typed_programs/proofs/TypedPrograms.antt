@@ -2,25 +2,22 @@
 use Rattle.std.proofs.Common.{◌≡◌, ◌<◌, ◌⊎◌, inl, inr, ℕ, zero, suc, Bool, true, false, cond, nat_le, List, [], ◌∷◌, length, get_or, Option, Some, None, slice_get, refl, arith, ap, sym, subst, ◌∙◌}
 use Rattle.std.specs.List.{Contains}
 use Rattle.std.proofs.lemmas.Option.{same_Some, slice_get-get_or}
-use Rattle.cc_base.specs.declared.diagnostics.Place.{Place}
-use Rattle.c_layout.specs.CheckedUnits.{FunctionView, UnitView}
+use Rattle.c_layout.specs.CheckedUnits.{UnitView}
 use Rattle.c_layout.specs.Types.{Ty}
 use Rattle.flow_lower.specs.Openings as o
-use Rattle.flow_lower.specs.Openings.{Made, CopyView, Opened}
+use Rattle.flow_lower.specs.Openings.{Made, Opened}
 use Rattle.flow_lower_tasks.specs.Acts.{Step}
 use Rattle.flow_lower_tasks.specs.Pieces.{TemplateView}
 use Rattle.flow_program_types.specs.TypedPrograms.{IsKept, IsTypedWay}
 use Rattle.flow_program_types.specs.TypedStates.{Temporaries}
 use Rattle.flow_program_views.specs.ProgramViews.{BlockView, EdgeView}
-use Rattle.template_runs_layouts.specs.LowTemporaries.{IsActLow}
 use Rattle.flow_lower_typed.specs.KnownValues.{nothing}
-use Rattle.flow_lower_typed.specs.ProgramLaws.{steps_of, steps_in, HasLowSteps, IsTypedOpening, OpenedProgramsAreTyped}
+use Rattle.flow_lower_typed.specs.ProgramLaws.{steps_of, steps_in, HasLowSteps, IsTypedOpening}
 use Rattle.flow_lower_typed.specs.TypedActs.{IsTypedAct}
-use Rattle.flow_lower_typed.specs.TypedBases.{NamesAreTyped}
 use Rattle.flow_lower_typed.specs.TypedPieces.{State}
-use Rattle.flow_lower_typed.proofs.KeptKnowledge.{kept_same, kept_trans, way_between}
+use Rattle.flow_lower_typed.proofs.KeptKnowledge.{way_between}
 use Rattle.flow_lower_typed_programs.specs.TypedOpenings.{TypedNamesMakeTypedOpenings}
-use Rattle.flow_lower_typed_programs.proofs.TypedBlocks.{AllEdges, edges_more, grows_same, Awaited, IsSettled, IsTypedEdge, StepKeeps, AreTypedSteps, IsTypedMade}
+use Rattle.flow_lower_typed_programs.proofs.TypedBlocks.{AllEdges, grows_same, Awaited, IsSettled, IsTypedEdge, StepKeeps, AreTypedSteps}
 use Rattle.flow_lower_typed_programs.proofs.TypedCopies.{Holds, HoldsIn, Opens}
 use Rattle.flow_lower_typed_programs.proofs.TypedRuns.{opens_whole}
 

@@ -1,29 +1,27 @@
 -- All turns of the opening, from the entry on.
-use Rattle.std.proofs.Common.{◌≡◌, ◌≤◌, ◌⊎◌, inl, inr, ℕ, zero, suc, ◌+◌, ◌-◌, ◌^◌, Bool, true, false, cond, nat_lt, List, [], ◌∷◌, length, replicate, Option, Some, None, slice_get, refl, arith, ap, sym, subst, ◌∙◌}
+use Rattle.std.proofs.Common.{◌≡◌, ◌≤◌, inl, inr, ℕ, zero, suc, ◌-◌, ◌^◌, cond, nat_lt, List, [], ◌∷◌, length, Option, Some, None, slice_get, refl, arith, ap, sym, subst, ◌∙◌}
 use Rattle.std.proofs.lemmas.Bool.{le-ltb}
 use Rattle.cc_base.specs.declared.diagnostics.Place.{Place}
 use Rattle.c_layout.specs.CheckedUnits.{FunctionView, UnitView}
 use Rattle.c_layout.specs.Types.{Ty}
 use Rattle.flow_lower.specs.Openings as o
 use Rattle.flow_lower.specs.Openings.{Made, CopyView, Opened, placed}
-use Rattle.flow_lower_bases.specs.BaseTables.{known}
 use Rattle.flow_lower_plain_works.specs.LeadingPieces.{AllTo, Marks, Marked, NoLabel}
 use Rattle.flow_lower_functions.specs.Functions.{local_type}
 use Rattle.flow_lower_tasks.specs.Acts.{Step}
 use Rattle.flow_lower_tasks.specs.Pieces.{ExitView, PieceView, Do, DoIfUsed, End, Mark, Call, TemplateView}
 use Rattle.flow_lower_tasks.specs.Works.{behind}
 use Rattle.flow_lower_tasks.specs.declared.template_pieces.OwnCall.{OwnCall}
-use Rattle.flow_program_types.specs.TypedPrograms.{IsKept}
 use Rattle.flow_program_types.specs.TypedStates.{Temporaries}
 use Rattle.flow_lower_typed.specs.KnownValues.{type_known, nothing}
 use Rattle.flow_lower_typed.specs.ProgramLaws.{AreThere, AreTypedFunctions}
 use Rattle.flow_lower_typed.specs.TypedBases.{HasTypes, HasOwnTypes, NamesAreTyped}
-use Rattle.flow_lower_typed.specs.TypedPieces.{State, Leads, parameters_known, result_known, IsTypedCall, IsTypedPiece, AreTypedPieces}
+use Rattle.flow_lower_typed.specs.TypedPieces.{State, parameters_known, result_known, IsTypedCall, IsTypedPiece, AreTypedPieces}
 use Rattle.flow_lower_typed.proofs.KeptKnowledge.{kept_same}
 use Rattle.flow_lower_typed_programs.proofs.LiftedKnowledge.{lifted, kept_entry, passed_lifted, returned_lifted}
 use Rattle.flow_lower_typed_programs.proofs.TypedBlocks.{Awaited}
 use Rattle.flow_lower_typed_programs.proofs.TypedCalls.{none_known, replicate_long, opens_entered}
-use Rattle.flow_lower_typed_programs.proofs.TypedCopies.{lead_lifted, behind_copy, HasNames, IsTypedCopy, IsStanding, AreStanding, Holds, HoldsIn, enter, holds_in_awaited, Opens}
+use Rattle.flow_lower_typed_programs.proofs.TypedCopies.{lead_lifted, behind_copy, HasNames, IsTypedCopy, IsStanding, AreStanding, Holds, enter, holds_in_awaited, Opens}
 use Rattle.flow_lower_typed_programs.proofs.TypedLabels.{standing_marked, opens_marked}
 use Rattle.flow_lower_typed_programs.proofs.TypedTurns.{IsNext, entered_from, opens_done, opens_if_used, opens_closed}
 

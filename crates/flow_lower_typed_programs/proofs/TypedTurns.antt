@@ -1,38 +1,28 @@
 -- Each turn of the opening leaves a program whose instructions and edges keep to what is known.
-use Rattle.std.proofs.Common.{◌≡◌, ◌≤◌, ◌<◌, ◌⊎◌, inl, inr, ℕ, zero, suc, ◌+◌, ◌-◌, Bool, true, false, cond, nat_lt, List, [], ◌∷◌, ◌++◌, length, replicate, Option, Some, None, slice_get, refl, arith, ap, sym, subst, ◌∙◌, length-append}
-use Rattle.std.specs.List.{slice_set}
-use Rattle.std.proofs.lemmas.Bool.{lt-ltb, le-ltb}
-use Rattle.std.proofs.lemmas.List.{length-set}
-use Rattle.std.proofs.lemmas.Option.{same_Some}
+use Rattle.std.proofs.Common.{◌≡◌, ◌≤◌, ◌<◌, inl, inr, ℕ, suc, ◌+◌, ◌-◌, Bool, true, false, cond, List, [], ◌∷◌, length, Option, Some, None, slice_get, refl, arith, sym, subst}
 use Rattle.cc_base.specs.declared.diagnostics.Place.{Place}
-use Rattle.c_layout.specs.CheckedUnits.{FunctionView, UnitView}
+use Rattle.c_layout.specs.CheckedUnits.{UnitView}
 use Rattle.c_layout.specs.Types.{Ty}
 use Rattle.flow_lower.specs.MovedActs.{own_base, moved}
 use Rattle.flow_lower.specs.Openings as o
-use Rattle.flow_lower.specs.Openings.{Made, CopyView, Placed, Opened, placed, is_none}
-use Rattle.flow_lower_bases.specs.BaseTables.{TableView, known, found_in}
-use Rattle.flow_lower_plain_works.specs.LeadingPieces.{AllTo, Marks, Marked, NoLabel}
-use Rattle.flow_lower_tasks.specs.Acts as acts
+use Rattle.flow_lower.specs.Openings.{CopyView, Placed, placed}
+use Rattle.flow_lower_bases.specs.BaseTables.{TableView}
+use Rattle.flow_lower_plain_works.specs.LeadingPieces.{AllTo, Marked, NoLabel}
 use Rattle.flow_lower_tasks.specs.Acts.{Act, Step}
-use Rattle.flow_lower_tasks.specs.Pieces.{ExitView, PieceView, Do, DoIfUsed, End, Mark, Call, Always, TemplateView}
-use Rattle.flow_lower_tasks.specs.Works.{behind}
-use Rattle.flow_lower_tasks.specs.declared.template_pieces.OwnCall.{OwnCall}
+use Rattle.flow_lower_tasks.specs.Pieces.{ExitView, TemplateView}
 use Rattle.flow_program_types.specs.TypedPrograms.{IsKept, IsTypedWay}
 use Rattle.flow_program_types.specs.TypedStates.{Temporaries}
-use Rattle.flow_program_views.specs.ProgramViews.{BlockView, EdgeView}
-use Rattle.flow_lower_typed.specs.ProgramLaws.{AreThere, IsTypedFunction, AreTypedFunctions}
-use Rattle.flow_lower_typed.specs.TypedActs as typed
+use Rattle.flow_program_views.specs.ProgramViews.{EdgeView}
 use Rattle.flow_lower_typed.specs.TypedActs.{IsTypedAct}
-use Rattle.flow_lower_typed.specs.TypedBases.{HasTypes, HasOwnTypes, NamesAreTyped}
-use Rattle.flow_lower_typed.specs.TypedPieces.{State, Leads, IsWeaker, base_type, parameters_known, result_known, IsDone, IsEnded, IsTypedCall, DoneIf, IsTypedPiece, AreTypedPieces, AreTypedExits, IsTypedTemplate}
+use Rattle.flow_lower_typed.specs.TypedBases.{HasOwnTypes, NamesAreTyped}
+use Rattle.flow_lower_typed.specs.TypedPieces.{State, Leads, IsWeaker, base_type, IsDone, IsEnded, DoneIf, AreTypedExits}
 use Rattle.flow_lower_typed.proofs.KeptKnowledge.{kept_same, way_between}
 use Rattle.flow_lower_typed_programs.proofs.LiftedActs.{act_lifted, way_lifted}
-use Rattle.flow_lower_typed_programs.proofs.LiftedKnowledge.{lifted, kept_lifted, passed_lifted, returned_lifted}
-use Rattle.flow_lower_typed_programs.proofs.TypedBlocks.{changed, changed_here, Grows, grows_same, grows_twice, Awaited, IsSettled, IsTypedEdge, StepKeeps, IsTypedMade, made_more, made_step, made_edge, made_labels, made_closing, made_ended, made_labelled}
-use Rattle.flow_lower_typed_programs.proofs.TypedCopies.{lifted_state, lead_lifted, weaker_lifted, behind_copy, HasNames, CanName, IsTypedCopy, IsStanding, AreStanding, standing_more, Holds, HoldsIn, enter, holds_awaited, holds_in_awaited, Opens, IsNamed, own_named, way_named}
+use Rattle.flow_lower_typed_programs.proofs.LiftedKnowledge.{lifted}
+use Rattle.flow_lower_typed_programs.proofs.TypedBlocks.{changed, changed_here, Grows, grows_same, grows_twice, Awaited, IsTypedEdge, StepKeeps, IsTypedMade, made_more, made_step, made_edge, made_closing, made_ended}
+use Rattle.flow_lower_typed_programs.proofs.TypedCopies.{lifted_state, lead_lifted, weaker_lifted, behind_copy, CanName, IsTypedCopy, AreStanding, standing_more, Holds, HoldsIn, enter, Opens, IsNamed, own_named, way_named}
 
 module _ (u : UnitView) (ts : List (Option TemplateView)) (laws : NamesAreTyped) (own : HasOwnTypes u) where
-
   -- ---- instructions
 
   module _ (stack : List CopyView) (at : ℕ → Temporaries) (outer : Temporaries) (labels : ℕ → Temporaries) (s r : State) (count bound : ℕ) (first last : ℕ → Temporaries) where
@@ -175,8 +165,8 @@ module _ (u : UnitView) (ts : List (Option TemplateView)) (laws : NamesAreTyped)
     exit_made e es types p can k left =
         let new = o.edge_to count (e.to + p.within.labels) (o.way_moved u e.taken p) in
         let x = way_named u ts laws own (λ more q. IsClosing more q × IsLeft es q.within × IsEdgeIn new q)
-          (λ few more q b locals grows y. (closing_stays few more q b locals grows y.0, left_stays es q.within locals y.1, record { there = y.2.there; room = y.2.room; way = y.2.way; leads = y.2.leads }))
-          e.taken types p can (k, record { to = left.to.1; knows = left.knows; exits = left.exits.1 }, exit_typed e es types p k left) in
+        (λ few more q b locals grows y. (closing_stays few more q b locals grows y.0, left_stays es q.within locals y.1, record { there = y.2.there; room = y.2.room; way = y.2.way; leads = y.2.leads }))
+        e.taken types p can (k, record { to = left.to.1; knows = left.knows; exits = left.exits.1 }, exit_typed e es types p k left) in
         let q = o.with_way u e.taken p in
         let t = x.holds.0 in
         record {
@@ -227,7 +217,7 @@ module _ (u : UnitView) (ts : List (Option TemplateView)) (laws : NamesAreTyped)
       let kept : IsKept (last h.count) later = subst (λ z. IsKept z later) (sym known) (kept_same later) in
       let E = IsLeft stack at outer labels h.count h.first last later is.behind exits in
       let a = acted stack at outer labels None None h.count h.count h.first h.last E (left_stays stack at outer labels h.count h.first last later is.behind exits) x.at x.does types p is.done.before is.behind k.can
-        (record { copy = k.copy; weaker = refl; others = k.others; made = h.made }) (record { to = to; knows = kept; exits = is.leads }) is.done.acts in
+      (record { copy = k.copy; weaker = refl; others = k.others; made = h.made }) (record { to = to; knows = kept; exits = is.leads }) is.done.acts in
       let q = o.with_act u x.at x.does p in
       let t = a.holds.0 in
       let made = made_closing u at (Awaited (q.within ∷ stack)) h.count h.first h.last q.program.blocks q.program.edges q.program.labels a.more later q.program.ready t.made in
