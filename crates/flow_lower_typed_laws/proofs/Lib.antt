@@ -4,3 +4,5 @@ pub mod StoredValues
 pub mod NumberedLabels
 pub mod FollowingWorks
 pub mod FollowingParts
+pub mod FollowingSwitches
+pub mod FollowingStatements
