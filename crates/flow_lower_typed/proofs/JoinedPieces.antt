@@ -1,11 +1,11 @@
 -- Typed pieces from more knowledge, to less, and one after the other.
-use Rattle.std.proofs.Common.{◌≡◌, ℕ, Bool, true, false, List, [], ◌∷◌, ◌++◌, Option, Some, None, refl, sym, ap, subst, ◌∙◌}
+use Rattle.std.proofs.Common.{◌≡◌, ℕ, Bool, true, false, List, [], ◌∷◌, ◌++◌, Some, None, refl, subst}
 use Rattle.c_layout.specs.CheckedUnits.{FunctionView, UnitView}
-use Rattle.flow_lower_tasks.specs.Acts.{Act, Step}
+use Rattle.flow_lower_tasks.specs.Acts.{Act}
 use Rattle.flow_lower_tasks.specs.Pieces.{NameView, PieceView, Do, DoIfUsed, End, Mark, Call}
 use Rattle.flow_program_types.specs.TypedPrograms.{IsKept}
 use Rattle.flow_program_types.specs.TypedStates.{Temporaries}
-use Rattle.flow_lower_typed.specs.TypedPieces.{State, Leads, IsWeaker, IsDone, IsEnded, IsTypedCall, DoneIf, IsTypedPiece, AreTypedPieces}
+use Rattle.flow_lower_typed.specs.TypedPieces.{State, Leads, IsWeaker, IsDone, DoneIf, IsTypedPiece, AreTypedPieces}
 use Rattle.flow_lower_typed.proofs.KeptKnowledge.{kept_same, kept_trans}
 
 -- ---- states
