@@ -101,4 +101,4 @@ OpenedProgramsAreTyped = (u : UnitView) (ts : List (Option TemplateView)) (at : 
 -- the objects that have bases at the start of a run are of their types
 abbrev pub FirstObjectsAreTyped : Type 0
 FirstObjectsAreTyped = (u : UnitView) (limits : Limits) (flow : Flow) (o : IsProgramOf u limits flow) → flow.parameters.items ≡ [] → (types : List Ty) → HasTypes u types (program u o.is.templates o.is.entry.at).bases
-    → (b i : ℕ) → start_names u (flow_view flow) b ≡ Some i → (t : Ty) → slice_get types b ≡ Some t → first_types u i ≡ Some t
+    → (b i : ℕ) → start_names u (flow_view flow) b ≡ Some i → (t : Ty) × (slice_get types b ≡ Some t) × (first_types u i ≡ Some t)

@@ -20,14 +20,13 @@ use Rattle.flow_program_types.specs.PointedTypes.{Element, Known, Pointing, is_s
 use Rattle.flow_program_types.specs.TypedPrograms.{IsKept}
 use Rattle.flow_program_types.specs.TypedStates.{Temporaries}
 use Rattle.lib_models_effects.specs.NumberedTables.{set_at}
-use Rattle.ref_machine_looks.proofs.Truths.{never}
 use Rattle.flow_lower_typed.specs.KnownValues.{type_known, nothing, below, with_value, if_used}
 use Rattle.flow_lower_typed.specs.TypedActs as typed
 use Rattle.flow_lower_typed.specs.TypedActs.{IsTypedAct}
 use Rattle.flow_lower_typed.specs.TypedPieces.{State, base_type, parameters_known, result_known}
 use Rattle.flow_lower_typed.specs.TypedTerms.{is_scalar, local_types}
 use Rattle.flow_lower_typed.proofs.KeptKnowledge.{less_same, IsLessIf, less_if_same, kept_same, kept_if, set_kept}
-use Rattle.flow_lower_typed_laws.proofs.StoredValues.{IsScalarOf, scalar_of_type, scalar_local, type_of_object}
+use Rattle.flow_lower_typed_laws.proofs.StoredValues.{never, IsScalarOf, scalar_of_type, scalar_local, type_of_object}
 use Rattle.flow_lower_typed_laws.proofs.FollowingWorks.{Asks, Asked, Looks, IsAround, Flowing, flowing_none, flowing_weaker, flowing_settled, flowing_work, flowing_name, flowing_labels, flowing_do, flowing_mark, flowing_or}
 use Rattle.flow_lower_typed_laws.proofs.FollowingParts.{base_here, addressed, flowing_entered, flowing_left, flowing_stopped}
 use Rattle.flow_lower_typed_laws.proofs.FollowingStatements.{flowing_statements}

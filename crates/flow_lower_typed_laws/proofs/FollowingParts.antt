@@ -30,7 +30,7 @@ use Rattle.flow_program_types.specs.PointedTypes.{Place as PlaceOf}
 use Rattle.flow_program_types.specs.StandingTypes.{AreLaidOut}
 use Rattle.flow_program_types.specs.TypedStates.{Temporaries}
 use Rattle.lib_models_effects.specs.NumberedTables.{set_at}
-use Rattle.ref_machine_looks.proofs.Truths.{both_true}
+use Rattle.flow_lower_units_laws.proofs.CountedLabels.{both_true}
 use Rattle.flow_lower_typed.specs.KnownValues.{nothing, with_value, term_known, place_known}
 use Rattle.flow_lower_typed.specs.ProgramLaws.{TypesStandWhereTheyBegin}
 use Rattle.flow_lower_typed.specs.TypedActs as typed

@@ -30,14 +30,14 @@ use Rattle.flow_lower_tasks.specs.declared.pending_works.Surroundings.{Surroundi
 use Rattle.flow_lower_units.specs.RegularStatements.{is_regular_source, is_regular_statement, are_regular_statements}
 use Rattle.flow_lower_units.specs.RegularTerms.{has_local, is_regular_term, is_regular_place}
 use Rattle.flow_program_types.specs.StandingTypes.{AreLaidOut}
-use Rattle.ref_machine_looks.proofs.Truths.{never, both_true}
+use Rattle.flow_lower_units_laws.proofs.CountedLabels.{both_true}
 use Rattle.flow_lower_typed.specs.KnownValues.{nothing}
 use Rattle.flow_lower_typed.specs.ProgramLaws.{TypesStandWhereTheyBegin}
 use Rattle.flow_lower_typed.specs.TypedPieces.{State}
 use Rattle.flow_lower_typed.specs.TypedStatements.{is_typed_statement, are_typed_statements}
 use Rattle.flow_lower_typed.specs.TypedTerms.{is_stored_as, is_typed_term}
 use Rattle.flow_lower_typed.specs.WorkLaws.{IsLookedAt}
-use Rattle.flow_lower_typed_laws.proofs.StoredValues.{copied_place}
+use Rattle.flow_lower_typed_laws.proofs.StoredValues.{never, copied_place}
 use Rattle.flow_lower_typed_laws.proofs.FollowingWorks.{Asks, Asked, Looks, IsAround, around_more, Goes, Flowing, flowing_none, flowing_raised, flowing_settled, flowing_labels, flowing_scope, flowing_mark, flowing_unused, flowing_condition, flowing_statement}
 use Rattle.flow_lower_typed_laws.proofs.FollowingParts.{flowing_entered, flowing_left, flowing_jump, flowing_leap, flowing_forget, flowing_start, flowing_copied, flowing_list, flowing_giving}
 use Rattle.flow_lower_typed_laws.proofs.FollowingSwitches.{flowing_switch}

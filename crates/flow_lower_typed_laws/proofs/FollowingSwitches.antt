@@ -26,7 +26,7 @@ use Rattle.flow_lower_tasks.specs.declared.pending_works.Landing.{Landing}
 use Rattle.flow_lower_tasks.specs.declared.pending_works.Surroundings.{Surroundings}
 use Rattle.flow_lower_units.specs.RegularStatements.{is_regular_switch, is_regular_named, is_regular_statement}
 use Rattle.flow_lower_units.specs.RegularTerms.{is_regular_term}
-use Rattle.ref_machine_looks.proofs.Truths.{both_true}
+use Rattle.flow_lower_units_laws.proofs.CountedLabels.{both_true}
 use Rattle.flow_lower_typed.specs.KnownValues.{nothing}
 use Rattle.flow_lower_typed.specs.TypedActs as typed
 use Rattle.flow_lower_typed.specs.TypedPieces.{State}

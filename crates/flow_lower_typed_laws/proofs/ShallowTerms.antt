@@ -6,7 +6,7 @@ use Rattle.c_layout.specs.CheckedTrees.{TermTree, TermTrees, Typed, LvalueTree, 
 use Rattle.c_layout.specs.CheckedUnits.{FunctionView, UnitView}
 use Rattle.flow_lower_tasks.specs.TermKinds.{lvalue_type}
 use Rattle.flow_lower_units.specs.RegularTerms.{has_room, are_behind, is_struct, is_regular_term, is_regular_place, are_regular_terms}
-use Rattle.ref_machine_looks.proofs.Truths.{both_true}
+use Rattle.flow_lower_units_laws.proofs.CountedLabels.{both_true}
 
 and_true : (a b : Bool) → a ≡ true → b ≡ true → (a && b) ≡ true
 and_true true true x y = refl

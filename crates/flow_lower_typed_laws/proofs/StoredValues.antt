@@ -13,11 +13,14 @@ use Rattle.flow_lower_units.specs.RegularStatements.{object_type}
 use Rattle.flow_lower_units.specs.RegularStatements.{local_type as type_of_local}
 use Rattle.flow_lower_units.specs.RegularTerms.{has_local}
 use Rattle.flow_program_types.specs.PointedTypes.{Element, Known, Zero, Null, Pointing, is_same, IsOfKind, number_kind, pointer_kind, IsStorable}
-use Rattle.ref_machine_looks.proofs.SameTypes.{type_is}
-use Rattle.ref_machine_looks.proofs.Truths.{never, both_true}
+use Rattle.c_types_laws_stores.proofs.Types.{type_is}
+use Rattle.flow_lower_units_laws.proofs.CountedLabels.{both_true}
 use Rattle.flow_lower_typed.specs.KnownValues.{type_known, term_known}
 use Rattle.flow_lower_typed.specs.TypedStatements.{is_copied_as}
 use Rattle.flow_lower_typed.specs.TypedTerms.{is_struct, is_scalar, is_zero_form, is_null_form, is_stored_as, local_types, is_typed_place, size}
+
+pub never : {A : Type 0} → false ≡ true → A
+never e = absurd (cc)
 
 -- ---- scalars
 

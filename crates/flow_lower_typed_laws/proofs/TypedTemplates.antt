@@ -24,12 +24,11 @@ use Rattle.flow_lower_tasks.specs.declared.template_builder.Dispatch.{Dispatch}
 use Rattle.flow_lower_units.specs.LabelNumbers.{is_numbered}
 use Rattle.flow_lower_units.specs.RegularStatements.{are_regular_statements}
 use Rattle.flow_lower_units.specs.ScopeObjects.{has_own_objects, function_marked}
-use Rattle.flow_lower_units_laws.proofs.CountedLabels.{labels_once, function_labelled}
+use Rattle.flow_lower_units_laws.proofs.CountedLabels.{both_true, labels_once, function_labelled}
 use Rattle.flow_lower_works.specs.Derivations.{is_piece, parts, Makes, nothing, piece, work}
 use Rattle.flow_lower_works.proofs.Derivations.{derived}
 use Rattle.flow_program_types.specs.TypedPrograms.{IsKept}
 use Rattle.flow_program_types.specs.TypedStates.{Temporaries}
-use Rattle.ref_machine_looks.proofs.Truths.{both_true}
 use Rattle.flow_lower_typed.specs.KnownValues as known
 use Rattle.flow_lower_typed.specs.KnownValues.{below as known_below, with_value, term_known, place_known}
 use Rattle.flow_lower_typed.specs.ProgramLaws.{TypesStandWhereTheyBegin}

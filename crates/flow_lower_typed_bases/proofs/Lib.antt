@@ -1,0 +1,4 @@
+pub mod TypedTables
+pub mod NamedTypes
+pub mod OwnTypes
+pub mod FirstTypes

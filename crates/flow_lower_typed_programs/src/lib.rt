@@ -1,0 +1,6 @@
+//! A program that is opened from templates of typed functions has types.
+#![tactic(auto)]
+
+mod theorems;
+
+pub use theorems::typed_names_make_typed_openings;

@@ -1,0 +1,3 @@
+pub mod TypedOperations
+pub mod TypedFlows
+pub mod TypedUnits

@@ -1,0 +1,332 @@
+-- A plain unit that passes the look at types has a program that has types, so that accesses of its run are typed.
+use Rattle.std.proofs.Common.{◌≡◌, ◌≤◌, ◌<◌, ℕ, zero, suc, ◌-◌, ◌^◌, ◌==◌, Bool, true, false, ◌&&◌, List, [], ◌∷◌, map, length, Option, Some, None, slice_get, refl, ap, sym, subst, ◌∙◌, arith}
+use Rattle.std.specs.List.{list_all}
+use Rattle.std.proofs.lemmas.Bool.{and_parts, eqb-true}
+use Rattle.cc_base.specs.declared.limit_table.Limits.{Limits}
+use Rattle.c_layout.specs.CheckedTrees.{statement_trees}
+use Rattle.c_layout.specs.CheckedUnits.{FunctionView, UnitView}
+use Rattle.c_layout.specs.Layout.{size_of_type}
+use Rattle.c_layout.specs.StructViews.{StructView}
+use Rattle.c_layout.specs.Types.{Ty}
+use Rattle.c_layout.specs.declared.data_model.Model.{Model}
+use Rattle.c_layout.specs.declared.shapes.BaseInfo.{BaseInfo}
+use Rattle.c_layout.specs.declared.shapes.Shape.{Shape}
+use Rattle.flow_program.specs.declared.programs.Flow.{Flow}
+use Rattle.flow_program_views.specs.ProgramViews.{BlockView, block, edge, FlowView, flow_view}
+use Rattle.flow_lower.specs.Openings.{ProgramView, joined, template_at, whole, program}
+use Rattle.flow_lower_counts.specs.Preparations.{IsTemplateOf, called, Calls, Reaches, begun, further, IsSettled, IsPrepared}
+use Rattle.flow_lower_counts_parts.specs.declared.function_counts.FunctionCounts.{FunctionCounts}
+use Rattle.flow_lower_functions.specs.Functions.{setting_of, function, no_plan}
+use Rattle.flow_lower_functions.proofs.OneTemplate.{one_finish}
+use Rattle.flow_lower_marks.specs.MarkedLabels.{LabelsAreMarkedBelow}
+use Rattle.flow_lower_plain.specs.PlainStatements.{are_plain_statements}
+use Rattle.flow_lower_plain.specs.PlainUnits.{no_label, is_plain_function, is_plain_if_there, is_plain_from, takes_nothing, is_plain_unit}
+use Rattle.flow_lower_plain.specs.ShortArrays.{has_short_arrays, is_short_local, has_short_objects}
+use Rattle.flow_lower_plain_laws.specs.LeadingTemplates.{TemplatesLeadOn}
+use Rattle.flow_lower_plain_programs.specs.PlainPrograms.{PlainUnitsHavePlainPrograms}
+use Rattle.flow_lower_plain_programs.proofs.SettledLeads.{settled_leads, settled_below}
+use Rattle.flow_lower_plain_programs.proofs.StandingLabels.{function_labels_stand}
+use Rattle.flow_lower_plain_works.specs.LeadingPieces.{Marked, IsLeading, LeadOn, NoLabel, LeadsOn}
+use Rattle.flow_lower_shapes.specs.FirstZeros.{object_shape}
+use Rattle.flow_lower_tasks.specs.Acts.{Step}
+use Rattle.flow_lower_tasks.specs.Pieces.{PieceView, Do, DoIfUsed, End, Mark, Call, TemplateView}
+use Rattle.flow_lower_units.specs.RegularUnits.{is_regular_function}
+use Rattle.flow_lower_units.specs.LabelNumbers.{is_numbered}
+use Rattle.flow_lower_units.specs.ScopeObjects.{has_own_objects}
+use Rattle.flow_lower_units.specs.RegularStatements.{are_regular_statements}
+use Rattle.flow_lower_units_laws.specs.LabelsOnce.{FunctionsAreLabelled}
+use Rattle.flow_lower_units_laws.specs.UnitParts.{FunctionsAreRegular}
+use Rattle.flow_program_machine.specs.FlowStarts.{start_names}
+use Rattle.store_domain_laws_layouts.specs.LaidApart.{has_class_bytes}
+use Rattle.template_runs_layouts.specs.LowTemporaries.{IsActLow}
+use Rattle.template_runs_fit.specs.LowPrograms.{WellFormedProgramsAreLow}
+use Rattle.template_runs_settled.specs.SettledRuns.{LabelsStandOnce}
+use Rattle.template_runs_suited.specs.RegularFunctions.{RegularFunctionsSuit}
+use Rattle.template_runs_units.specs.UnitRuns.{IsProgramOf}
+use Rattle.abstract_steps_single_runs.specs.SingleRuns.{HasTypedAccesses}
+use Rattle.store_domain_sound.proofs.Slices.{get_there}
+use Rattle.store_domain_sound_programs.proofs.ShapedBases.{all_at}
+use Rattle.flow_program_types.specs.StandingTypes.{AreLaidOut}
+use Rattle.flow_program_types.specs.TypedPrograms.{structs_of, IsObjectOf, first_types, Typing, IsTypedProgram, TypedProgramsHaveTypedAccesses}
+use Rattle.flow_lower_typed.specs.TypedBases.{IsMadeOf, HasTypes}
+use Rattle.flow_lower_typed.specs.TypedObjects.{is_typed_object, is_own_function, is_own_object, is_own_literal}
+use Rattle.flow_lower_typed.specs.TypedPieces.{IsTypedTemplate}
+use Rattle.flow_lower_typed.specs.TypedStatements.{is_typed_function}
+use Rattle.flow_lower_typed.specs.TypedUnits.{has_own_types, is_typed_unit}
+use Rattle.flow_lower_typed.specs.WorkLaws.{TemplatesAreTyped}
+use Rattle.flow_lower_typed.specs.ProgramLaws.{TypedObjectsAreTyped, PlainTypesAreOwn, PlainLocalsAreOwn, SettledTemplatesAreTyped, HasLowSteps, steps_of, IsTypedOpening, AreThere, IsTypedFunction, AreTypedFunctions, OpenedProgramsAreTyped, FirstObjectsAreTyped}
+use Rattle.flow_lower_typed_units.specs.TypedUnitLaws.{TypedUnitsHaveTypedAccesses}
+use Rattle.flow_lower_typed_units.proofs.TypedFlows.{type_at, type_is, typed_steps, typed_edges}
+
+-- all that is composed
+pub record Laws : Type 0 where
+  pub plain : PlainUnitsHavePlainPrograms
+  pub suit : RegularFunctionsSuit
+  pub regular : FunctionsAreRegular
+  pub labelled : FunctionsAreLabelled
+  pub marked : LabelsAreMarkedBelow
+  pub lead : TemplatesLeadOn
+  pub low : WellFormedProgramsAreLow
+  pub typed : TemplatesAreTyped
+  pub settled : SettledTemplatesAreTyped
+  pub own_types : PlainTypesAreOwn
+  pub own_locals : PlainLocalsAreOwn
+  pub objects : TypedObjectsAreTyped
+  pub opened : OpenedProgramsAreTyped
+  pub first : FirstObjectsAreTyped
+  pub programs : TypedProgramsHaveTypedAccesses
+
+-- ---- options
+
+same_function : (f g : FunctionView) → Some f ≡ Some g → f ≡ g
+same_function f g e = cc
+
+joined_there : (o : Option (Option TemplateView)) (t : TemplateView) → joined o ≡ Some t → o ≡ Some (Some t)
+joined_there None t e = absurd (cc)
+joined_there (Some x) t e = ap Some e
+
+-- ---- bases
+
+get_less : {X : Type 0} (xs : List X) (n : ℕ) (x : X) → slice_get xs n ≡ Some x → n < length xs
+get_less [] n x is = absurd (cc)
+get_less (y ∷ xs) zero x is = omega arith
+get_less (y ∷ xs) (suc n) x is = let less = get_less xs n x is in omega (arith, less)
+
+record IsMade (structs : List StructView) (m : Model) (t : Ty) (b : BaseInfo) : Type 0 where
+  size : b.size ≡ size_of_type structs m.pointer t
+  shape : b.shape ≡ object_shape structs m.pointer t
+  kinds : has_class_bytes m t ≡ true
+  small : has_short_arrays structs t ≡ true
+
+made_of : (flow : Flow) (t : Ty) (b : BaseInfo) → IsMade (structs_of flow) flow.model t b → IsObjectOf flow t b
+made_of flow t b made = record { leaves = ap (λ (s : Shape). s.cells) made.shape; size = made.size; kinds = made.kinds; small = made.small }
+
+object_of : (flow : Flow) (u : UnitView) → u.structs ≡ structs_of flow → u.model ≡ flow.model → (t : Ty) (b : BaseInfo) → IsMadeOf u t b → IsObjectOf flow t b
+object_of flow u structures model t b made = made_of flow t b (subst (λ (m : Model). IsMade (structs_of flow) m t b) model
+    (subst (λ (structs : List StructView). IsMade structs u.model t b) structures (record { size = made.size; shape = made.shape; kinds = made.own.kinds; small = made.own.small })))
+
+-- ---- calls of pieces
+
+has_template : List (Option TemplateView) → ℕ → Bool
+has_template ts n = elim (template_at ts n) [ None ↦ false | Some t ↦ true ]
+
+template_there : (ts : List (Option TemplateView)) (n : ℕ) → has_template ts n ≡ true → (t : TemplateView) × (template_at ts n ≡ Some t)
+unfolding has_template
+template_there ts n is = by (template_at ts n) refl is
+  where
+    by : (o : Option TemplateView) → template_at ts n ≡ o → elim o [ None ↦ false | Some t ↦ true ] ≡ true → (t : TemplateView) × (template_at ts n ≡ Some t)
+    by None there e = absurd (cc)
+    by (Some t) there e = (t, there)
+
+there_template : (ts : List (Option TemplateView)) (n : ℕ) (t : TemplateView) → slice_get ts n ≡ Some (Some t) → has_template ts n ≡ true
+unfolding has_template
+there_template ts n t is = ap (λ (o : Option (Option TemplateView)). elim (joined o) [ None ↦ false | Some t ↦ true ]) is
+
+-- what leads on calls whatever all its calls pass
+module _ (calls more : ℕ → Bool) where
+  lead_more : (L : ℕ → Type 0) (ps : List PieceView) → ((m at : ℕ) (p : PieceView) → slice_get ps at ≡ Some p → called p ≡ Some m → more m ≡ true) → LeadOn calls L ps → LeadOn more L ps
+  lead_more L [] all leads = tt
+  lead_more L (Do x ∷ ps) all (one, rest) = (one, lead_more L ps (λ m at. all m (suc at)) rest)
+  lead_more L (DoIfUsed x ∷ ps) all (one, rest) = (one, lead_more L ps (λ m at. all m (suc at)) rest)
+  lead_more L (End x exits ∷ ps) all (one, rest) = (one, lead_more L ps (λ m at. all m (suc at)) rest)
+  lead_more L (Mark l ∷ ps) all (one, rest) = (one, lead_more L ps (λ m at. all m (suc at)) rest)
+  lead_more L (Call c ∷ ps) all (one, rest) = (all c.function 0 (Call c) refl refl, lead_more L ps (λ m at. all m (suc at)) rest)
+
+-- a call that is led on passes the test
+led_call : (calls : ℕ → Bool) (L : ℕ → Type 0) (ps : List PieceView) → LeadOn calls L ps → (m at : ℕ) (p : PieceView) → slice_get ps at ≡ Some p → called p ≡ Some m → calls m ≡ true
+led_call calls L [] leads m at p is call = absurd (cc)
+led_call calls L (x ∷ ps) (one, rest) m (suc at) p is call = led_call calls L ps rest m at p is call
+led_call calls L (Do x ∷ ps) (one, rest) m zero p is call = absurd (cc)
+led_call calls L (DoIfUsed x ∷ ps) (one, rest) m zero p is call = absurd (cc)
+led_call calls L (End x exits ∷ ps) (one, rest) m zero p is call = absurd (cc)
+led_call calls L (Mark l ∷ ps) (one, rest) m zero p is call = absurd (cc)
+led_call calls L (Call c ∷ ps) (one, rest) m zero p is call = subst (λ n. calls n ≡ true) (same c.function m (ap called (some c p is) ∙ call)) one
+  where
+    same : (a b : ℕ) → Some a ≡ Some b → a ≡ b
+    same a b e = cc
+
+    some : (c : _) (p : PieceView) → Some (Call c) ≡ Some p → Call c ≡ p
+    some c p e = cc
+
+module _ (laws : Laws) (u : UnitView) (limits : Limits) (flow : Flow) (o : IsProgramOf u limits flow) (laid : AreLaidOut u.model u.structs) (plain : is_plain_unit u ≡ true) (looked : is_typed_unit u ≡ true) where
+  abbrev ts : List (Option TemplateView)
+  ts = o.is.templates
+
+  prepared : IsPrepared u ts o.is.is_counted.table
+  prepared = o.is.is_counted.is_prepared
+
+  -- ---- looks
+
+  from_entry : is_plain_from u (length u.functions) u.entry ≡ true
+  from_entry = (and_parts (has_short_objects u) _ (and_parts (takes_nothing (slice_get u.functions u.entry)) _ plain).1).1
+
+  functions_typed : list_all (is_typed_function u) u.functions ≡ true
+  functions_typed = (and_parts (list_all (is_typed_function u) u.functions) _ looked).0
+
+  objects_typed : list_all (is_typed_object u) u.objects ≡ true
+  objects_typed = (and_parts (list_all (is_typed_object u) u.objects) _ (and_parts (list_all (is_typed_function u) u.functions) _ looked).1).0
+
+  own_types : has_own_types u ≡ true
+  own_types = (and_parts (list_all (is_typed_object u) u.objects) _ (and_parts (list_all (is_typed_function u) u.functions) _ looked).1).1
+
+  own_functions : list_all (is_own_function u) u.functions ≡ true
+  own_functions = (and_parts (list_all (is_own_function u) u.functions) (list_all (is_own_object u) u.objects && list_all (is_own_literal u) u.literals) own_types).0
+
+  takes_none : (x : Option FunctionView) (f : FunctionView) → x ≡ Some f → takes_nothing x ≡ true → f.parameters ≡ 0
+  takes_none None f is e = absurd (cc)
+  takes_none (Some g) f is e = ap (λ (h : FunctionView). h.parameters) (sym (same_function g f is)) ∙ eqb-true g.parameters 0 e
+
+  -- ---- functions that the entry reaches
+
+  abbrev IsPlain : ℕ → Type 0
+  IsPlain n = (depth : ℕ) × ((f : FunctionView) → slice_get u.functions n ≡ Some f → is_plain_function u (is_plain_from u depth) f ≡ true)
+
+  plain_from : (depth n : ℕ) → is_plain_from u depth n ≡ true → IsPlain n
+  plain_from zero n is = absurd (cc)
+  plain_from (suc depth) n is = (depth, λ f there. by (slice_get u.functions n) f there is)
+    where
+      by : (x : Option FunctionView) (f : FunctionView) → x ≡ Some f → is_plain_if_there u (is_plain_from u depth) x ≡ true → is_plain_function u (is_plain_from u depth) f ≡ true
+      by None f there e = absurd (cc)
+      by (Some g) f there e = subst (λ h. is_plain_function u (is_plain_from u depth) h ≡ true) (same_function g f there) e
+
+  -- what a template of a plain function is
+  record Known (depth n : ℕ) (f : FunctionView) (t : TemplateView) : Type 0 where
+    once : LabelsStandOnce t
+    leads : LeadsOn (is_plain_from u depth) t
+
+  statements_plain : (calls : ℕ → Bool) (f : FunctionView) → is_plain_function u calls f ≡ true → are_plain_statements calls no_label false (statement_trees f.body) ≡ true
+  statements_plain calls f e = (and_parts (list_all (is_short_local u.structs) f.locals && has_short_arrays u.structs f.returns) (are_plain_statements calls no_label false (statement_trees f.body)) e).1
+
+  numbered : (f : FunctionView) → is_regular_function u f ≡ true → is_numbered f ≡ true
+  numbered f e = (and_parts (is_numbered f) (has_own_objects f && are_regular_statements u f false false (statement_trees f.body)) e).0
+
+  known_of : (depth n : ℕ) (f : FunctionView) (t : TemplateView) → IsTemplateOf u n f t → t.labels ≤ 2 ^ 32 - 1 → is_plain_function u (is_plain_from u depth) f ≡ true → Known depth n f t
+  known_of depth n f t is few own =
+      let regular = laws.regular u n f o.regular is.stands in
+      let labelled = laws.labelled f (numbered f regular) in
+      let stand = function_labels_stand u f (n == u.entry) t is.is_template few labelled (laws.suit u f regular) in
+      record {
+        once = laws.marked u.structs u.model.pointer u.model.int f (n == u.entry) t is.is_template labelled few;
+        leads = laws.lead (is_plain_from u depth) u.structs u.model.pointer u.model.int f (n == u.entry) t is.is_template labelled few stand (statements_plain (is_plain_from u depth) f own);
+      }
+
+  -- a function has one template, which has labels of 32 bits where the entry reaches it
+  few_labels : (n : ℕ) (f : FunctionView) (t : TemplateView) → Reaches u n → IsTemplateOf u n f t → t.labels ≤ 2 ^ 32 - 1
+  few_labels n f t reached is =
+      let (s, c, there, counted) = prepared.all n reached in
+      let k = prepared.are_settled n s there in
+      let same : k.function ≡ f = same_function k.function f (sym k.is_template.stands ∙ is.stands) in
+      let one = one_finish (setting_of u.structs u.model.pointer u.model.int f (n == u.entry)) (function (setting_of u.structs u.model.pointer u.model.int f (n == u.entry)) f (no_plan f.labels)) k.template t (subst (λ (g : FunctionView). IsTemplateOf u n g k.template) same k.is_template).is_template is.is_template in
+      subst (λ (x : TemplateView). x.labels ≤ 2 ^ 32 - 1) one k.few
+
+  reached_plain : (n : ℕ) → Reaches u n → IsPlain n
+  reached_plain n begun = plain_from (length u.functions) u.entry from_entry
+  reached_plain m (further n _ f t reached is calls) =
+      let (depth, own) = reached_plain n reached in
+      let (at, p, there, call) = calls in
+      let k = known_of depth n f t is (few_labels n f t reached is) (own f is.stands) in
+      plain_from depth m (led_call (is_plain_from u depth) NoLabel t.pieces k.leads.pieces m at p there call)
+
+  -- ---- typed functions
+
+  pieces_there : (L : ℕ → Type 0) (ps : List PieceView) → LeadOn (has_template ts) L ps → AreThere u ts ps
+  pieces_there L [] leads = tt
+  pieces_there L (Do x ∷ ps) (one, rest) = pieces_there L ps rest
+  pieces_there L (DoIfUsed x ∷ ps) (one, rest) = pieces_there L ps rest
+  pieces_there L (End x exits ∷ ps) (one, rest) = pieces_there L ps rest
+  pieces_there L (Mark l ∷ ps) (one, rest) = pieces_there L ps rest
+  pieces_there L (Call c ∷ ps) (one, rest) =
+      let (t, there) = template_there ts c.function one in
+      let k = prepared.are_settled c.function t (joined_there (slice_get ts c.function) t there) in
+      ((k.function, t, k.is_template.stands, there), pieces_there L ps rest)
+
+  -- of a function that is settled
+  settled_typed : (n : ℕ) (t : TemplateView) → IsSettled u n t → (f : FunctionView) → slice_get u.functions n ≡ Some f → IsTypedFunction u ts f t
+  settled_typed n t k f there =
+      let same : k.function ≡ f = same_function k.function f (sym k.is_template.stands ∙ there) in
+      let is : IsTemplateOf u n f k.template = subst (λ (g : FunctionView). IsTemplateOf u n g k.template) same k.is_template in
+      let (depth, own) = reached_plain n k.reached in
+      let calls = is_plain_from u depth in
+      let known = known_of depth n f k.template is k.few (own f there) in
+      let regular = laws.regular u n f o.regular there in
+      let typed = all_at (is_typed_function u) u.functions n f functions_typed there in
+      let owned = all_at (is_own_function u) u.functions n f own_functions there in
+      let pieces = λ (used : Bool). laws.settled u f calls used k.template k.table k.are_counts k.all_counted known.leads known.once
+          (laws.typed u f calls (n == u.entry) k.template laid is.is_template k.few typed regular (statements_plain calls f (own f there)) used) in
+      let all_there = λ (m at : ℕ) (p : PieceView) (is_at : slice_get k.template.pieces at ≡ Some p) (call : called p ≡ Some m). reached_there m (further n m f k.template k.reached is (at, p, is_at, call)) in
+      let leads_there : LeadsOn (has_template ts) k.template = record { pieces = lead_more calls (has_template ts) NoLabel k.template.pieces all_there known.leads.pieces; names = known.leads.names } in
+      subst (IsTypedFunction u ts f) (sym k.settles) (record {
+        calls = calls;
+        pieces = pieces;
+        leads = settled_leads k.table k.template known.once calls known.leads;
+        room = settled_below k.table k.template known.once;
+        there = pieces_there NoLabel _ (settled_leads k.table k.template known.once (has_template ts) leads_there).pieces;
+        locals = laws.own_locals u calls f (own f there) owned;
+      })
+    where
+      reached_there : (m : ℕ) → Reaches u m → has_template ts m ≡ true
+      reached_there m reached = let (s, c, is, counted) = prepared.all m reached in there_template ts m s is
+
+  functions_are_typed : AreTypedFunctions u ts
+  functions_are_typed n f t there is = settled_typed n t (prepared.are_settled n t (joined_there (slice_get ts n) t is)) f there
+
+  -- ---- the program
+
+  abbrev p : ProgramView
+  p = program u ts o.is.entry.at
+
+  low_steps : HasLowSteps p
+  low_steps b at x there =
+      let low = laws.low limits flow o.good o.room in
+      by (slice_get p.blocks b) refl there (λ v is there. low.steps b at v x (ap (λ bs. slice_get bs b) (ap (λ (w : FlowView). w.blocks) o.is.opens) ∙ is) there)
+    where
+      by : (v : Option BlockView) → slice_get p.blocks b ≡ v → slice_get (steps_of v) at ≡ Some x → ((w : BlockView) → slice_get p.blocks b ≡ Some w → slice_get w.steps at ≡ Some x → IsActLow x.does) → IsActLow x.does
+      by None e is low = absurd (cc)
+      by (Some w) e is low = low w e is
+
+  opening : IsTypedOpening u p
+  opening = laws.opened u ts o.is.entry.at (laws.own_types u plain own_types) functions_are_typed o.is.entry o.is.is_counted.is_entry
+      (takes_none (slice_get u.functions u.entry) o.is.entry o.is.is_counted.is_entry (and_parts (takes_nothing (slice_get u.functions u.entry)) _ plain).0) o.is.ends low_steps
+
+  structures : u.structs ≡ structs_of flow
+  structures = sym (ap (λ (w : FlowView). w.structs) o.is.opens)
+
+  model : u.model ≡ flow.model
+  model = sym (ap (λ (w : FlowView). w.model) o.is.opens)
+
+  parameters : flow.parameters.items ≡ []
+  parameters = (laws.plain u limits flow o plain).parameters
+
+  base_typed : (b : ℕ) (base : BaseInfo) → slice_get flow.bases.items b ≡ Some base → IsObjectOf flow (type_at opening.types b) base
+  base_typed b base there =
+      let here : slice_get p.bases.bases b ≡ Some base = ap (λ (bs : List BaseInfo). slice_get bs b) (sym (ap (λ (w : FlowView). w.bases) o.is.opens)) ∙ there in
+      let (t, is) = get_there opening.types b (subst (λ n. b < n) (sym opening.bases.numbered) (get_less p.bases.bases b base here)) in
+      subst (λ s. IsObjectOf flow s base) (type_is opening.types b t is) (object_of flow u structures model t base (opening.bases.made b t base is here))
+
+  named : (b i : ℕ) → start_names u (flow_view flow) b ≡ Some i → first_types u i ≡ Some (type_at opening.types b)
+  named b i is =
+      let (t, there, first) = laws.first u limits flow o parameters opening.types opening.bases b i is in
+      first ∙ ap Some (type_is opening.types b t there)
+
+  typed_program : IsTypedProgram flow u (record { objects = type_at opening.types; known = opening.known })
+  typed_program = record {
+    laid = subst (λ (m : Model). AreLaidOut m (structs_of flow)) model (subst (AreLaidOut u.model) structures laid);
+    structures = structures;
+    model = model;
+    bases = base_typed;
+    first = laws.objects u laid objects_typed;
+    named = named;
+    parameters = parameters;
+    begins = opening.begins;
+    steps = typed_steps flow p (ap (λ (w : FlowView). w.blocks) o.is.opens) u structures model opening;
+    edges = typed_edges flow p (ap (λ (w : FlowView). w.blocks) o.is.opens) u structures model opening limits o.good (ap (λ (w : FlowView). w.edges) o.is.opens);
+  }
+
+  pub typed_accesses : HasTypedAccesses flow u
+  typed_accesses = laws.programs flow u _ typed_program
+
+pub typed_units : Laws → TypedUnitsHaveTypedAccesses
+typed_units laws u limits flow o laid plain looked =
+    let structures : structs_of flow ≡ u.structs = ap (λ (w : FlowView). w.structs) o.is.opens in
+    let model : flow.model ≡ u.model = ap (λ (w : FlowView). w.model) o.is.opens in
+    typed_accesses laws u limits flow o (subst (λ (m : Model). AreLaidOut m u.structs) model (subst (AreLaidOut flow.model) structures laid)) plain looked
