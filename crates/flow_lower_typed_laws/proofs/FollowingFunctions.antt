@@ -8,26 +8,25 @@ use Rattle.c_layout.specs.CheckedUnits.{FunctionView, UnitView}
 use Rattle.c_layout.specs.Types.{Ty, Int, Pointer, Array, Struct, Void}
 use Rattle.flow_lower_functions.specs.Functions.{local_type, argument, arguments, result_entered, parameters, result_loaded, outcome, outermost, body, entry, called, no_plan, numbers_from}
 use Rattle.flow_lower_plain_laws.proofs.LeadingStatements.{list}
-use Rattle.flow_lower_statements.specs.ScopeJumps.{all_entered, all_left}
+use Rattle.flow_lower_statements.specs.ScopeJumps.{all_entered}
 use Rattle.flow_lower_tasks.specs.Acts as acts
-use Rattle.flow_lower_tasks.specs.Pieces.{Local, Outcome, Do, DoIfUsed, Mark}
+use Rattle.flow_lower_tasks.specs.Pieces.{Local, Outcome, Mark}
 use Rattle.flow_lower_tasks.specs.TermKinds.{scalar_of, is_void}
 use Rattle.flow_lower_tasks.specs.Works as jobs
-use Rattle.flow_lower_tasks.specs.Plans.{Plan, with_work, with_name, with_labels, begun}
+use Rattle.flow_lower_tasks.specs.Plans.{Plan, with_labels, begun}
 use Rattle.flow_lower_tasks.specs.Settings.{SettingView}
 use Rattle.flow_lower_tasks.specs.declared.template_builder.Dispatch.{Dispatch}
 use Rattle.flow_program_types.specs.PointedTypes.{Element, Known, Pointing, is_same, IsLess, IsStorable}
 use Rattle.flow_program_types.specs.TypedPrograms.{IsKept}
 use Rattle.flow_program_types.specs.TypedStates.{Temporaries}
 use Rattle.lib_models_effects.specs.NumberedTables.{set_at}
-use Rattle.ref_machine_looks.proofs.Truths.{never}
 use Rattle.flow_lower_typed.specs.KnownValues.{type_known, nothing, below, with_value, if_used}
 use Rattle.flow_lower_typed.specs.TypedActs as typed
 use Rattle.flow_lower_typed.specs.TypedActs.{IsTypedAct}
 use Rattle.flow_lower_typed.specs.TypedPieces.{State, base_type, parameters_known, result_known}
 use Rattle.flow_lower_typed.specs.TypedTerms.{is_scalar, local_types}
-use Rattle.flow_lower_typed.proofs.KeptKnowledge.{less_same, IsLessIf, less_if_same, kept_same, kept_nothing, kept_if, set_kept}
-use Rattle.flow_lower_typed_laws.proofs.StoredValues.{IsScalarOf, scalar_of_type, scalar_local, type_of_object}
+use Rattle.flow_lower_typed.proofs.KeptKnowledge.{less_same, IsLessIf, less_if_same, kept_same, kept_if, set_kept}
+use Rattle.flow_lower_typed_laws.proofs.StoredValues.{never, IsScalarOf, scalar_of_type, scalar_local, type_of_object}
 use Rattle.flow_lower_typed_laws.proofs.FollowingWorks.{Asks, Asked, Looks, IsAround, Flowing, flowing_none, flowing_weaker, flowing_settled, flowing_work, flowing_name, flowing_labels, flowing_do, flowing_mark, flowing_or}
 use Rattle.flow_lower_typed_laws.proofs.FollowingParts.{base_here, addressed, flowing_entered, flowing_left, flowing_stopped}
 use Rattle.flow_lower_typed_laws.proofs.FollowingStatements.{flowing_statements}
@@ -108,8 +107,8 @@ module _ (u : UnitView) (f : FunctionView) (few : f.parameters ≤ length f.loca
   argument_stored bases n less =
       let x = parameter_scalar n less in
       typed.stores_in f.parameters n (scalar_of (local_type f n)) None (local_type f n) (type_known (local_type f n))
-          (record { known = Pointing (Element (local_type f n)); target = Element (local_type f n); has = pointed_here f n; less = is_same (Element (local_type f n)); is = refl }) x.kind
-          (subst (λ o. IsStorable (type_known (local_type f n)) o) (sym (pointed_parameter f n n less)) x.storable) (pointed_kept f n)
+      (record { known = Pointing (Element (local_type f n)); target = Element (local_type f n); has = pointed_here f n; less = is_same (Element (local_type f n)); is = refl }) x.kind
+      (subst (λ o. IsStorable (type_known (local_type f n)) o) (sym (pointed_parameter f n n less)) x.storable) (pointed_kept f n)
 
   module _ {calls : ℕ → Bool} {s : SettingView} {ds : List Dispatch} {used : Bool} {K : Asks} {first top : ℕ} where
     flowing_argument : {low : ℕ} {from : State} (at : Place) (n : ℕ) (p : Plan) → n < f.parameters → Flowing u f calls s ds used K first top low from (Some (parameters_known f)) p
@@ -163,10 +162,10 @@ module _ {u : UnitView} {f : FunctionView} {calls : ℕ → Bool} {s : SettingVi
   flowing_loaded true at p x k =
       let there = flowing_work (Some (addressed (Element f.returns))) _ _ (λ names last extends few labels meets. record { before = nothing; leads = kept_same nothing; acts = typed.gives_address 0 (length p.names) f.returns (base_here u f names Outcome p f.returns extends refl) (kept_same (addressed (Element f.returns))) }) (flowing_name Outcome p k) in
       let taken = flowing_work (Some (result_known true f)) _ _ (λ names last extends few labels meets. record {
-          before = addressed (Element f.returns);
-          leads = kept_same (addressed (Element f.returns));
-          acts = typed.loads 0 0 (scalar_of f.returns) f.returns (type_known f.returns) (record { known = Pointing (Element f.returns); target = Element f.returns; has = refl; less = is_same (Element f.returns); is = refl }) x.kind (result_kept (type_known f.returns) (addressed (Element f.returns)));
-        }) there in
+        before = addressed (Element f.returns);
+        leads = kept_same (addressed (Element f.returns));
+        acts = typed.loads 0 0 (scalar_of f.returns) f.returns (type_known f.returns) (record { known = Pointing (Element f.returns); target = Element f.returns; has = refl; less = is_same (Element f.returns); is = refl }) x.kind (result_kept (type_known f.returns) (addressed (Element f.returns)));
+      }) there in
       flowing_do (result_known true f) _ _ (λ names extends. typed.leaves_object _ (kept_same (result_known true f))) taken
   flowing_loaded false at p x k =
       let there = flowing_work (Some nothing) _ _ (λ names last extends few labels meets. kept_same nothing) (flowing_name Outcome p k) in

@@ -1,17 +1,17 @@
 -- Parts of typed statements keep to what is known.
-use Rattle.std.proofs.Common.{◌≡◌, ◌≤◌, ◌<◌, ℕ, ◌+◌, ◌==◌, Bool, true, false, ◌&&◌, cond, nat_lt, List, [], ◌∷◌, length, Option, Some, None, slice_get, refl, ap, sym, subst, ◌∙◌}
+use Rattle.std.proofs.Common.{◌≡◌, ◌≤◌, ℕ, ◌==◌, Bool, true, ◌&&◌, nat_lt, List, [], ◌∷◌, length, Option, Some, None, refl, ap, sym, subst, ◌∙◌}
 use Rattle.std.specs.List.{list_all}
 use Rattle.cc_base.specs.declared.diagnostics.Place.{Place}
 use Rattle.c_layout.specs.CheckedTrees.{TermTree, LvalueTree, StoreTree, StoreValue, StoreCopy, StoreText}
 use Rattle.c_layout.specs.CheckedUnits.{FunctionView, UnitView}
-use Rattle.c_layout.specs.Types.{Ty, Struct}
+use Rattle.c_layout.specs.Types.{Ty}
 use Rattle.c_layout.specs.declared.checked_tree.checked_terms.ObjectRef.TheVariants as ref
 use Rattle.flow_lower_expressions.specs.Branches.{jump}
 use Rattle.flow_lower_functions.specs.Functions.{local_type}
-use Rattle.flow_lower_plain.specs.PlainTerms.{is_plain_term, is_plain_place, is_plain_option}
+use Rattle.flow_lower_plain.specs.PlainTerms.{is_plain_option}
 use Rattle.flow_lower_plain.specs.PlainStatements.{is_plain_store, are_plain_stores}
 use Rattle.flow_lower_statements.specs.ScopeJumps.{entered, left, all_entered, all_left, around, objects, way, leap}
-use Rattle.flow_lower_statements.specs.PlainStatements.{stored, all_stored, cleared, forget, address, start_scalar, start_struct, start_text, start_list}
+use Rattle.flow_lower_statements.specs.PlainStatements.{stored, all_stored, cleared, forget, address, start_scalar, start_struct, start_list}
 use Rattle.flow_lower_statements.specs.Jumps.{stopped, exit, given, giving, end_behind, outcome}
 use Rattle.flow_lower_tasks.specs.Acts as acts
 use Rattle.flow_lower_tasks.specs.Pieces.{NameView, Local, Outcome, Do}
@@ -23,22 +23,22 @@ use Rattle.flow_lower_tasks.specs.Settings.{SettingView}
 use Rattle.flow_lower_tasks.specs.declared.pending_works.Landing.{Landing}
 use Rattle.flow_lower_tasks.specs.declared.pending_works.Surroundings.{Surroundings}
 use Rattle.flow_lower_tasks.specs.declared.template_builder.Dispatch.{Dispatch}
-use Rattle.flow_lower_units.specs.RegularStatements.{is_regular_result, is_regular_source, is_regular_store}
-use Rattle.flow_lower_units.specs.RegularTerms.{has_local, is_regular_term, is_regular_place}
-use Rattle.flow_program_types.specs.PointedTypes.{Target, Element, Pointing, target_type, IsOfKind, IsStorable, is_same}
+use Rattle.flow_lower_units.specs.RegularStatements.{is_regular_result, is_regular_store}
+use Rattle.flow_lower_units.specs.RegularTerms.{has_local, is_regular_place}
+use Rattle.flow_program_types.specs.PointedTypes.{Target, Element, Pointing, target_type, is_same}
 use Rattle.flow_program_types.specs.PointedTypes.{Place as PlaceOf}
 use Rattle.flow_program_types.specs.StandingTypes.{AreLaidOut}
 use Rattle.flow_program_types.specs.TypedStates.{Temporaries}
 use Rattle.lib_models_effects.specs.NumberedTables.{set_at}
-use Rattle.ref_machine_looks.proofs.Truths.{both_true}
-use Rattle.flow_lower_typed.specs.KnownValues.{nothing, below, with_value, term_known, place_known}
+use Rattle.flow_lower_units_laws.proofs.CountedLabels.{both_true}
+use Rattle.flow_lower_typed.specs.KnownValues.{nothing, with_value, term_known, place_known}
 use Rattle.flow_lower_typed.specs.ProgramLaws.{TypesStandWhereTheyBegin}
 use Rattle.flow_lower_typed.specs.TypedActs as typed
 use Rattle.flow_lower_typed.specs.TypedActs.{IsTypedAct}
 use Rattle.flow_lower_typed.specs.TypedObjects.{begins}
 use Rattle.flow_lower_typed.specs.TypedPieces.{State, name_type_or, base_type}
 use Rattle.flow_lower_typed.specs.TypedStatements.{is_copied_as, is_typed_store, is_typed_result}
-use Rattle.flow_lower_typed.specs.TypedTerms.{is_stored_as, is_typed_term, is_typed_place}
+use Rattle.flow_lower_typed.specs.TypedTerms.{is_stored_as, is_typed_term}
 use Rattle.flow_lower_typed.specs.WorkLaws.{Extends, IsLookedAt}
 use Rattle.flow_lower_typed.proofs.KeptKnowledge.{kept_same, kept_nothing}
 use Rattle.flow_lower_typed_laws.proofs.ShallowTerms.{shallow_term}

@@ -1,5 +1,5 @@
 -- Typed statements keep to what is known: nothing is known before and behind them.
-use Rattle.std.proofs.Common.{◌≡◌, ◌≤◌, ◌<◌, ◌⊎◌, inl, inr, ℕ, ◌+◌, ◌-◌, ◌^◌, Bool, true, false, ◌&&◌, List, [], ◌∷◌, ◌++◌, length, get_or, Option, Some, None, refl, arith, ap, sym, subst, ◌∙◌, length-append}
+use Rattle.std.proofs.Common.{◌≡◌, ◌≤◌, ◌<◌, inl, inr, ℕ, ◌+◌, ◌-◌, ◌^◌, Bool, true, ◌&&◌, List, [], ◌∷◌, ◌++◌, length, get_or, Some, refl, arith, ap, sym, subst, ◌∙◌, length-append}
 use Rattle.std.specs.List.{list_all}
 use Rattle.std.proofs.lemmas.Bool.{ltb-true}
 use Rattle.cc_base.specs.declared.diagnostics.Place.{Place}
@@ -11,12 +11,12 @@ use Rattle.flow_lower_functions.specs.Functions.{local_type}
 use Rattle.flow_lower_growth.specs.Growth.{Grows}
 use Rattle.flow_lower_growth.proofs.Growth.{grows_not, grows_work}
 use Rattle.flow_lower_growth.proofs.GrowingStatements.{grows_dispatch_of, grows_statement}
-use Rattle.flow_lower_plain.specs.PlainTerms.{is_plain_term, is_plain_option}
+use Rattle.flow_lower_plain.specs.PlainTerms.{is_plain_term}
 use Rattle.flow_lower_plain.specs.PlainStatements.{stands_or, stands_among, is_plain_statement, are_plain_statements}
 use Rattle.flow_lower_plain_laws.proofs.LeadingForms.{Within, within_before}
 use Rattle.flow_lower_plain_laws.proofs.LeadingStatements.{list}
 use Rattle.flow_lower_plain_laws.proofs.LeadingSwitches.{own_dispatch, begins_dispatches, own_there}
-use Rattle.flow_lower_statements.specs.ScopeJumps.{all_entered, all_left}
+use Rattle.flow_lower_statements.specs.ScopeJumps.{all_entered}
 use Rattle.flow_lower_statements.specs.PlainStatements.{all_statements, in_scope, block}
 use Rattle.flow_lower_statements.specs.Loops.{selection, two_way_selection, part}
 use Rattle.flow_lower_statements.specs.Switches.{no_dispatch, dispatch_at, begin_switch, switch}
@@ -30,15 +30,14 @@ use Rattle.flow_lower_tasks.specs.declared.pending_works.Surroundings.{Surroundi
 use Rattle.flow_lower_units.specs.RegularStatements.{is_regular_source, is_regular_statement, are_regular_statements}
 use Rattle.flow_lower_units.specs.RegularTerms.{has_local, is_regular_term, is_regular_place}
 use Rattle.flow_program_types.specs.StandingTypes.{AreLaidOut}
-use Rattle.flow_program_types.specs.TypedStates.{Temporaries}
-use Rattle.ref_machine_looks.proofs.Truths.{never, both_true}
+use Rattle.flow_lower_units_laws.proofs.CountedLabels.{both_true}
 use Rattle.flow_lower_typed.specs.KnownValues.{nothing}
 use Rattle.flow_lower_typed.specs.ProgramLaws.{TypesStandWhereTheyBegin}
 use Rattle.flow_lower_typed.specs.TypedPieces.{State}
 use Rattle.flow_lower_typed.specs.TypedStatements.{is_typed_statement, are_typed_statements}
 use Rattle.flow_lower_typed.specs.TypedTerms.{is_stored_as, is_typed_term}
 use Rattle.flow_lower_typed.specs.WorkLaws.{IsLookedAt}
-use Rattle.flow_lower_typed_laws.proofs.StoredValues.{copied_place}
+use Rattle.flow_lower_typed_laws.proofs.StoredValues.{never, copied_place}
 use Rattle.flow_lower_typed_laws.proofs.FollowingWorks.{Asks, Asked, Looks, IsAround, around_more, Goes, Flowing, flowing_none, flowing_raised, flowing_settled, flowing_labels, flowing_scope, flowing_mark, flowing_unused, flowing_condition, flowing_statement}
 use Rattle.flow_lower_typed_laws.proofs.FollowingParts.{flowing_entered, flowing_left, flowing_jump, flowing_leap, flowing_forget, flowing_start, flowing_copied, flowing_list, flowing_giving}
 use Rattle.flow_lower_typed_laws.proofs.FollowingSwitches.{flowing_switch}
@@ -85,8 +84,7 @@ module _ {u : UnitView} {f : FunctionView} {calls : ℕ → Bool} {count : ℕ} 
       let b = both_true (is_plain_term calls e) (is_plain_statement calls (stands_or second x.later) x.breaks first && is_plain_statement calls x.later x.breaks second) x.plain in
       let b2 = both_true (is_plain_statement calls (stands_or second x.later) x.breaks first) (is_plain_statement calls x.later x.breaks second) b.1 in
       let c = both_true (is_regular_term u f true 0 e) (is_regular_statement u f x.inside x.looped first && is_regular_statement u f x.inside x.looped second) x.regular in
-      let c2 = both_true (is_regular_statement u f x.inside x.looped first) (is_regular_statement u f x.inside x.looped second) c.1 in
-      (
+      let c2 = both_true (is_regular_statement u f x.inside x.looped first) (is_regular_statement u f x.inside x.looped second) c.1 in (
         (a.0, b.0, c.0),
         record { typed = a2.0; later = stands_or second x.later; breaks = x.breaks; plain = b2.0; inside = x.inside; looped = x.looped; regular = c2.0; numbered = x.numbered.0 },
         record { typed = a2.1; later = x.later; breaks = x.breaks; plain = b2.1; inside = x.inside; looped = x.looped; regular = c2.1; numbered = x.numbered.1 },
@@ -109,6 +107,27 @@ same_le a = omega arith
 through : (a b c : ℕ) → a ≤ b → b ≤ c → a ≤ c
 through a b c x y = omega (arith, x, y)
 
+none_three : 0 < 3
+none_three = omega arith
+
+one_three : 1 < 3
+one_three = omega arith
+
+two_three : 2 < 3
+two_three = omega arith
+
+none_four : 0 < 4
+none_four = omega arith
+
+one_four : 1 < 4
+one_four = omega arith
+
+two_four : 2 < 4
+two_four = omega arith
+
+three_four : 3 < 4
+three_four = omega arith
+
 new_label : (K : Asks) (a n i last : ℕ) → i < n → a + n ≤ last → Asked K a last (a + i) nothing
 new_label K a n i last less le = inr (new_from a i, new_below a n i last le less, refl)
 
@@ -121,7 +140,7 @@ module _ {u : UnitView} {f : FunctionView} {calls : ℕ → Bool} {s : SettingVi
   flowing_statements tree.NoMore around p looks within k = k
   flowing_statements {count = count} {chosen = chosen} (tree.And i rest) around p looks within k =
       flowing_statements rest around (with_work (jobs.Statement i around) p) (rest_looks i rest looks) within
-          (flowing_statement i around p (λ last few. record { count = count; chosen = chosen; looks = first_looks i rest looks; within = within last few }) k)
+      (flowing_statement i around p (λ last few. record { count = count; chosen = chosen; looks = first_looks i rest looks; within = within last few }) k)
 
 -- ---- statements by their form
 
@@ -152,23 +171,23 @@ module _ (u : UnitView) (f : FunctionView) (calls : ℕ → Bool) (s : SettingVi
   comes_if : {count : ℕ} {chosen : Bool} (e : TermTree) (body : StatementTree) → Looks u f calls count chosen (tree.If e body) → IsAround f s ds K b count chosen around.on_break.label around.choice → Comes p → Comes (selection e body around p)
   comes_if e body g x k =
       let y = if_looks e body g in
-      let marked = flowing_mark p.labels (with_labels 3 p) (λ last few. this_label K p.labels 3 last (omega arith) few) (flowing_labels 3 p k) in
-      let tested = flowing_condition e _ _ y.0 (λ last few. new_label K p.labels 3 1 last (omega arith) few) (λ last few. new_label K p.labels 3 2 last (omega arith) few) marked in
-      let body_marked = flowing_mark (p.labels + 1) _ (λ last few. new_label K p.labels 3 1 last (omega arith) few) tested in
+      let marked = flowing_mark p.labels (with_labels 3 p) (λ last few. this_label K p.labels 3 last none_three few) (flowing_labels 3 p k) in
+      let tested = flowing_condition e _ _ y.0 (λ last few. new_label K p.labels 3 1 last one_three few) (λ last few. new_label K p.labels 3 2 last two_three few) marked in
+      let body_marked = flowing_mark (p.labels + 1) _ (λ last few. new_label K p.labels 3 1 last one_three few) tested in
       let done = flowing_statement body around _ (λ last few. part_goes body last y.1 x) body_marked in
-      labels_from _ 3 (flowing_mark (p.labels + 2) _ (λ last few. new_label K p.labels 3 2 last (omega arith) few) done)
+      labels_from _ 3 (flowing_mark (p.labels + 2) _ (λ last few. new_label K p.labels 3 2 last two_three few) done)
 
   comes_else : {count : ℕ} {chosen : Bool} (e : TermTree) (one other : StatementTree) → Looks u f calls count chosen (tree.IfElse e one other) → IsAround f s ds K b count chosen around.on_break.label around.choice → Comes p → Comes (two_way_selection s e one other around p)
   comes_else e one other g x k =
       let y = else_looks e one other g in
-      let marked = flowing_mark p.labels (with_labels 4 p) (λ last few. this_label K p.labels 4 last (omega arith) few) (flowing_labels 4 p k) in
-      let tested = flowing_condition e _ _ y.0 (λ last few. new_label K p.labels 4 1 last (omega arith) few) (λ last few. new_label K p.labels 4 2 last (omega arith) few) marked in
-      let first_marked = flowing_mark (p.labels + 1) _ (λ last few. new_label K p.labels 4 1 last (omega arith) few) tested in
+      let marked = flowing_mark p.labels (with_labels 4 p) (λ last few. this_label K p.labels 4 last none_four few) (flowing_labels 4 p k) in
+      let tested = flowing_condition e _ _ y.0 (λ last few. new_label K p.labels 4 1 last one_four few) (λ last few. new_label K p.labels 4 2 last two_four few) marked in
+      let first_marked = flowing_mark (p.labels + 1) _ (λ last few. new_label K p.labels 4 1 last one_four few) tested in
       let first_done = flowing_statement one around _ (λ last few. part_goes one last y.1 x) first_marked in
-      let led = flowing_jump s.at (p.labels + 3) _ (λ last few. new_label K p.labels 4 3 last (omega arith) few) first_done in
-      let second_marked = flowing_mark (p.labels + 2) _ (λ last few. new_label K p.labels 4 2 last (omega arith) few) led in
+      let led = flowing_jump s.at (p.labels + 3) _ (λ last few. new_label K p.labels 4 3 last three_four few) first_done in
+      let second_marked = flowing_mark (p.labels + 2) _ (λ last few. new_label K p.labels 4 2 last two_four few) led in
       let done = flowing_statement other around _ (λ last few. part_goes other last y.2 x) second_marked in
-      labels_from _ 4 (flowing_mark (p.labels + 3) _ (λ last few. new_label K p.labels 4 3 last (omega arith) few) done)
+      labels_from _ 4 (flowing_mark (p.labels + 3) _ (λ last few. new_label K p.labels 4 3 last three_four few) done)
 
 -- ---- switches that are begun
 
@@ -236,7 +255,7 @@ module _ (u : UnitView) (f : FunctionView) (calls : ℕ → Bool) (s : SettingVi
           let within = within_before ds d.after (switch s at e cases body around p) grows known in
           let begun_ = begun_there (length cases) around.scope p in
           flowing_switch u f calls s ds used K top b at e cases has_default values body around p none (through d.after.labels _ (2 ^ 32 - 1) grows.labels few) (sym (within (length p.dispatches) begun_) ∙ own_there (length cases) around.scope p)
-              (less_on (length p.dispatches) _ top begun_ (through (length d.after.dispatches) _ top (dispatches_grow d.after _ grows) high)) (record { count = g.count; chosen = g.chosen; looks = x; within = w })
+          (less_on (length p.dispatches) _ top begun_ (through (length d.after.dispatches) _ top (dispatches_grow d.after _ grows) high)) (record { count = g.count; chosen = g.chosen; looks = x; within = w })
       by (tree.Case n body) few known high grown before x w =
           let asked = subst (λ (d : Dispatch). K (behind d.cases n) nothing) (sym (same_dispatch around.choice p (w.begun x.numbered.1) there before)) (w.cases n x.numbered.0) in
           comes_labelled u f calls s ds used K top b (up grown high) around p _ body asked (record { typed = x.typed; later = x.later; breaks = x.breaks; plain = x.plain; inside = x.inside; looped = x.looped; regular = x.regular; numbered = x.numbered.2 }) w start

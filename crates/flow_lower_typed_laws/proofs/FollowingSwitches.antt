@@ -1,5 +1,5 @@
 -- Typed switches keep to what is known: nothing is known at the labels of their cases.
-use Rattle.std.proofs.Common.{◌≡◌, ◌≤◌, ◌<◌, ◌⊎◌, inl, inr, ℕ, suc, ◌+◌, ◌-◌, ◌^◌, ℤ, Bool, true, false, cond, List, [], ◌∷◌, ◌++◌, map, length, get_or, Option, Some, None, refl, arith, ap, sym, subst, ◌∙◌}
+use Rattle.std.proofs.Common.{◌≡◌, ◌≤◌, ◌<◌, inl, inr, ℕ, suc, ◌+◌, ◌-◌, ◌^◌, ℤ, Bool, true, false, cond, List, [], ◌∷◌, ◌++◌, map, length, get_or, Option, Some, None, refl, arith, ap, sym, subst, ◌∙◌}
 use Rattle.cc_base.specs.declared.diagnostics.Place.{Place}
 use Rattle.c_layout.specs.CheckedTrees as tree
 use Rattle.c_layout.specs.CheckedTrees.{TermTree, StatementTree}
@@ -19,14 +19,14 @@ use Rattle.flow_lower_statements.specs.declared.switch_statements.CaseArm.{CaseA
 use Rattle.flow_lower_tasks.specs.Pieces.{ExitView}
 use Rattle.flow_lower_tasks.specs.Works as jobs
 use Rattle.flow_lower_tasks.specs.Works.{behind}
-use Rattle.flow_lower_tasks.specs.Plans.{Plan, with_work, with_labels, with_dispatch, begun, name_of_object}
+use Rattle.flow_lower_tasks.specs.Plans.{Plan, with_labels, with_dispatch, begun, name_of_object}
 use Rattle.flow_lower_tasks.specs.Settings.{SettingView}
 use Rattle.flow_lower_tasks.specs.declared.template_builder.Dispatch.{Dispatch}
 use Rattle.flow_lower_tasks.specs.declared.pending_works.Landing.{Landing}
 use Rattle.flow_lower_tasks.specs.declared.pending_works.Surroundings.{Surroundings}
 use Rattle.flow_lower_units.specs.RegularStatements.{is_regular_switch, is_regular_named, is_regular_statement}
 use Rattle.flow_lower_units.specs.RegularTerms.{is_regular_term}
-use Rattle.ref_machine_looks.proofs.Truths.{both_true}
+use Rattle.flow_lower_units_laws.proofs.CountedLabels.{both_true}
 use Rattle.flow_lower_typed.specs.KnownValues.{nothing}
 use Rattle.flow_lower_typed.specs.TypedActs as typed
 use Rattle.flow_lower_typed.specs.TypedPieces.{State}
@@ -34,7 +34,7 @@ use Rattle.flow_lower_typed.specs.TypedStatements.{is_typed_statement}
 use Rattle.flow_lower_typed.specs.TypedTerms.{is_typed_term}
 use Rattle.flow_lower_typed.specs.WorkLaws.{IsLookedAt}
 use Rattle.flow_lower_typed.proofs.KeptKnowledge.{kept_same}
-use Rattle.flow_lower_typed_laws.proofs.FollowingWorks.{Asks, Asked, Looks, IsAround, Goes, Flowing, flowing_none, flowing_raised, flowing_settled, flowing_name, flowing_labels, flowing_end, flowing_mark, flowing_value, flowing_statement, flowing_or}
+use Rattle.flow_lower_typed_laws.proofs.FollowingWorks.{Asks, Asked, Looks, Goes, Flowing, flowing_none, flowing_raised, flowing_settled, flowing_name, flowing_labels, flowing_end, flowing_mark, flowing_value, flowing_statement, flowing_or}
 use Rattle.flow_lower_typed_laws.proofs.FollowingParts.{flowing_leap}
 
 -- ---- the edges of cases
@@ -235,7 +235,7 @@ module _ (u : UnitView) (f : FunctionView) (calls : ℕ → Bool) (s : SettingVi
       let lands : (last : ℕ) → low ≤ last → A last landing.label = λ last le. landed (A last) (choice_at s d.begun.choice).fallback d.begun.dispatch d.begun.after (subst (A last) (sym (begins_fallback n around.scope p)) (fallback_there last le)) (end_there last le) in
       let first_from : p.labels ≤ d.after.labels = begun_from p.labels n d.after.labels labels in
       let arms : (last : ℕ) → low ≤ last → AreArms (A last) a.arms = λ last le. arms_asked K p.labels last s around.scope p.labels 0 d.begun.dispatch.cases number cases d.after (begins_cases n around.scope p ∙ first_behind p.labels n d.after.labels labels few)
-          (λ i less. case_there last le i (none_before i n less)) first_from (through a.after.labels low last grown_other le) in
+      (λ i less. case_there last le i (none_before i n less)) first_from (through a.after.labels low last grown_other le) in
       let to_other : (last : ℕ) → low ≤ last → A last other.to = λ last le. target_asked K p.labels last s around.scope landing a.after (through p.labels d.after.labels a.after.labels first_from grown) le (lands last le) in
       let exits : (last : ℕ) → low ≤ last → AllTo (A last) (dispatch_exits a.arms cases found.base other.to) = λ last le. all_and (A last) (map (case_exit found.base) a.arms) _ (to_arms (A last) a.arms found.base (arms last le)) (to_other last le) in
       let own : get_or ds d.begun.choice no_dispatch ≡ own_dispatch n p = ap (λ c. get_or ds c no_dispatch) (begins_choice n around.scope p) ∙ known in

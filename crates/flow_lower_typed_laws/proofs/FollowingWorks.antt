@@ -1,5 +1,5 @@
 -- Works that keep to what is known: between two of them so much is known of temporaries.
-use Rattle.std.proofs.Common.{◌≡◌, ◌≤◌, ◌<◌, ◌⊎◌, inl, inr, ℕ, zero, suc, ◌+◌, Bool, true, false, cond, List, [], ◌∷◌, ◌++◌, length, get_or, Option, Some, None, slice_get, refl, arith, sym, subst}
+use Rattle.std.proofs.Common.{◌≡◌, ◌≤◌, ◌<◌, ◌⊎◌, ℕ, zero, suc, ◌+◌, Bool, true, false, cond, List, [], ◌∷◌, ◌++◌, length, get_or, Some, None, slice_get, refl, arith, sym, subst}
 use Rattle.c_layout.specs.CheckedTrees.{TermTree, LvalueTree, StatementTree}
 use Rattle.c_layout.specs.CheckedUnits.{FunctionView, UnitView}
 use Rattle.flow_lower_plain.specs.PlainStatements.{is_plain_statement}
@@ -7,7 +7,7 @@ use Rattle.flow_lower_plain_works.specs.LeadingPieces.{AllTo}
 use Rattle.flow_lower_plain_works.proofs.LeadingWorks.{all_more}
 use Rattle.flow_lower_statements.specs.Switches.{no_dispatch}
 use Rattle.flow_lower_tasks.specs.Acts.{Step}
-use Rattle.flow_lower_tasks.specs.Pieces.{NameView, ExitView, PieceView, Do, DoIfUsed, End, Mark, Call, Way, Always, When, Case, Other, NoLine, Line}
+use Rattle.flow_lower_tasks.specs.Pieces.{NameView, ExitView, Do, End, Mark, Way, Always, When, Case, Other, NoLine, Line}
 use Rattle.flow_lower_tasks.specs.Works as jobs
 use Rattle.flow_lower_tasks.specs.Works.{Job, behind}
 use Rattle.flow_lower_tasks.specs.Plans.{Plan, with_work, with_name, with_labels, with_scope}
@@ -20,7 +20,7 @@ use Rattle.flow_program_types.specs.TypedPrograms.{IsKept, IsTypedWay}
 use Rattle.flow_program_types.specs.TypedStates.{Temporaries}
 use Rattle.flow_lower_typed.specs.KnownValues.{nothing, below, with_value, term_known, place_known}
 use Rattle.flow_lower_typed.specs.TypedActs.{IsTypedAct}
-use Rattle.flow_lower_typed.specs.TypedPieces.{State, Leads, IsWeaker, IsDone, IsEnded, AreTypedExits, IsTypedPiece, base_type}
+use Rattle.flow_lower_typed.specs.TypedPieces.{State, Leads, IsWeaker, AreTypedExits, IsTypedPiece, base_type}
 use Rattle.flow_lower_typed.specs.TypedStatements.{is_typed_statement}
 use Rattle.flow_lower_typed.specs.WorkLaws.{Extends, IsLookedAt}
 use Rattle.flow_lower_typed.proofs.KeptKnowledge.{kept_same, kept_nothing}
@@ -221,7 +221,7 @@ module _ {u : UnitView} {f : FunctionView} {calls : ℕ → Bool} {s : SettingVi
       → Flowing u f calls s ds used K first top low from (Some nothing) p → Flowing u f calls s ds used K first top low from None (with_work (jobs.Ready (End x exits)) p)
   flowing_end x exits p acts asked k = flowing_work None (jobs.Ready (End x exits)) p
       (λ names last extends few labels meets.
-        record { behind = nothing; done = record { before = nothing; leads = kept_same nothing; acts = acts names }; leads = exits_typed u f used names labels exits (all_more (λ l. Asked K first last l nothing) (λ l. labels l ≡ nothing) exits (λ l is. meets l nothing is) (asked last few)) }) k
+      record { behind = nothing; done = record { before = nothing; leads = kept_same nothing; acts = acts names }; leads = exits_typed u f used names labels exits (all_more (λ l. Asked K first last l nothing) (λ l. labels l ≡ nothing) exits (λ l is. meets l nothing is) (asked last few)) }) k
 
   pub flowing_mark : {low : ℕ} {from : State} (l : ℕ) (p : Plan) → ((last : ℕ) → low ≤ last → Asked K first last l nothing) → Flowing u f calls s ds used K first top low from (Some nothing) p → Flowing u f calls s ds used K first top low from (Some nothing) (with_work (jobs.Ready (Mark l)) p)
   flowing_mark l p asked k = flowing_work (Some nothing) (jobs.Ready (Mark l)) p (λ names last extends few labels meets. (subst (λ k. IsKept nothing k) (sym (meets l nothing (asked last few))) (kept_same nothing), kept_nothing (labels l))) k

@@ -1,5 +1,5 @@
 -- What is known at labels, where works have the labels from a number on to another one.
-use Rattle.std.proofs.Common.{◌≡◌, ◌≤◌, ◌<◌, ℕ, Bool, true, false, cond, nat_lt, arith, ap, ◌∙◌}
+use Rattle.std.proofs.Common.{◌≡◌, ◌≤◌, ◌<◌, ℕ, cond, nat_lt, arith, ap, ◌∙◌}
 use Rattle.std.proofs.lemmas.Bool.{lt-ltb, le-ltb}
 use Rattle.flow_program_types.specs.TypedStates.{Temporaries}
 use Rattle.flow_lower_typed.specs.KnownValues.{nothing}

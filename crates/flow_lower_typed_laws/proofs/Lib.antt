@@ -6,3 +6,5 @@ pub mod FollowingWorks
 pub mod FollowingParts
 pub mod FollowingSwitches
 pub mod FollowingStatements
+pub mod FollowingFunctions
+pub mod TypedTemplates

@@ -1,12 +1,12 @@
 -- Terms that have room behind a temporary more have it without that one too.
-use Rattle.std.proofs.Common.{◌≡◌, ◌≤◌, ℕ, ◌+◌, ◌-◌, ◌^◌, Bool, true, false, ◌&&◌, not, nat_le, refl, arith}
+use Rattle.std.proofs.Common.{◌≡◌, ◌≤◌, ℕ, ◌+◌, ◌-◌, ◌^◌, Bool, true, false, ◌&&◌, not, refl, arith}
 use Rattle.std.proofs.lemmas.Bool.{leb-true, le-leb}
 use Rattle.c_layout.specs.CheckedTrees as tree
 use Rattle.c_layout.specs.CheckedTrees.{TermTree, TermTrees, Typed, LvalueTree, Designates}
 use Rattle.c_layout.specs.CheckedUnits.{FunctionView, UnitView}
 use Rattle.flow_lower_tasks.specs.TermKinds.{lvalue_type}
 use Rattle.flow_lower_units.specs.RegularTerms.{has_room, are_behind, is_struct, is_regular_term, is_regular_place, are_regular_terms}
-use Rattle.ref_machine_looks.proofs.Truths.{both_true}
+use Rattle.flow_lower_units_laws.proofs.CountedLabels.{both_true}
 
 and_true : (a b : Bool) → a ≡ true → b ≡ true → (a && b) ≡ true
 and_true true true x y = refl
@@ -56,7 +56,7 @@ module _ (u : UnitView) (f : FunctionView) where
     shallow_term used d (Typed at t parens constant (tree.Logical sign a b)) is = and_map (is_regular_term u f true (d + 1) a) (is_regular_term u f true (d + 1) b) (is_regular_term u f true d a) (is_regular_term u f true d b) (λ x. shallow_term true d a x) (λ x. shallow_term true d b x) is
     shallow_term used d (Typed at t parens constant (tree.Conditional c a b)) is =
         and_map (is_regular_term u f true (d + 1) c) (is_regular_term u f used (d + 1) a && is_regular_term u f used (d + 1) b) (is_regular_term u f true d c) (is_regular_term u f used d a && is_regular_term u f used d b) (λ x. shallow_term true d c x)
-            (λ y. and_map (is_regular_term u f used (d + 1) a) (is_regular_term u f used (d + 1) b) (is_regular_term u f used d a) (is_regular_term u f used d b) (λ x. shallow_term used d a x) (λ x. shallow_term used d b x) y) is
+        (λ y. and_map (is_regular_term u f used (d + 1) a) (is_regular_term u f used (d + 1) b) (is_regular_term u f used d a) (is_regular_term u f used d b) (λ x. shallow_term used d a x) (λ x. shallow_term used d b x) y) is
     shallow_term used d (Typed at t parens constant (tree.Comma a b)) is = and_map (is_regular_term u f false (d + 1) a) (is_regular_term u f used (d + 1) b) (is_regular_term u f false d a) (is_regular_term u f used d b) (λ x. shallow_term false d a x) (λ x. shallow_term used d b x) is
     shallow_term used d (Typed at t parens constant (tree.Assign l a)) is = place_and_term d l a (λ x. shallow_place d l x) (λ x. shallow_term true (d + 1) a x) is
     shallow_term used d (Typed at t parens constant (tree.Compound sign kind l a)) is =
@@ -76,7 +76,7 @@ module _ (u : UnitView) (f : FunctionView) where
     shallow_place d (Designates at t parens (tree.Member outer offset)) is = shallow_place d outer is
     shallow_place d (Designates at t parens (tree.Copied target source)) is =
         and_map (is_struct (lvalue_type target)) (are_behind (d + 1) (is_regular_place u f (d + 1) target) (is_regular_place u f ((d + 1) + 1) source)) (is_struct (lvalue_type target)) (are_behind d (is_regular_place u f d target) (is_regular_place u f (d + 1) source)) (λ x. x)
-            (λ y. behind_map d (is_regular_place u f (d + 1) target) (is_regular_place u f ((d + 1) + 1) source) (is_regular_place u f d target) (is_regular_place u f (d + 1) source) (λ x. shallow_place d target x) (λ x. shallow_place (d + 1) source x) y) is
+        (λ y. behind_map d (is_regular_place u f (d + 1) target) (is_regular_place u f ((d + 1) + 1) source) (is_regular_place u f d target) (is_regular_place u f (d + 1) source) (λ x. shallow_place d target x) (λ x. shallow_place (d + 1) source x) y) is
     shallow_place d (Designates at t parens (tree.Then left right)) is = and_map (is_regular_term u f false (d + 1) left) (is_regular_place u f (d + 1) right) (is_regular_term u f false d left) (is_regular_place u f d right) (λ x. shallow_term false d left x) (λ x. shallow_place d right x) is
 
     shallow_terms : (d : ℕ) (es : TermTrees) → are_regular_terms u f (d + 1) es ≡ true → are_regular_terms u f d es ≡ true

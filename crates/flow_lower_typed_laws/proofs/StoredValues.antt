@@ -2,7 +2,7 @@
 use Rattle.std.proofs.Common.{◌≡◌, ◌≤◌, ◌<◌, ℕ, zero, suc, Bool, true, false, ◌&&◌, cond, nat_lt, List, [], ◌∷◌, take, Option, Some, None, length, slice_get, refl, arith, sym, subst}
 use Rattle.std.specs.List.{list_all}
 use Rattle.std.proofs.lemmas.Bool.{ltb-true}
-use Rattle.c_layout.specs.CheckedTrees.{TermTree, Typed, FormTree, LvalueTree}
+use Rattle.c_layout.specs.CheckedTrees.{TermTree, Typed, LvalueTree}
 use Rattle.c_layout.specs.CheckedUnits.{LocalView, FunctionView, UnitView}
 use Rattle.c_layout.specs.Layout.{size_of_type}
 use Rattle.c_layout.specs.Types.{Ty, Int, Pointer, Array, Struct, Void, same_type}
@@ -12,12 +12,15 @@ use Rattle.flow_lower_tasks.specs.TermKinds.{scalar_of, term_type, lvalue_type}
 use Rattle.flow_lower_units.specs.RegularStatements.{object_type}
 use Rattle.flow_lower_units.specs.RegularStatements.{local_type as type_of_local}
 use Rattle.flow_lower_units.specs.RegularTerms.{has_local}
-use Rattle.flow_program_types.specs.PointedTypes.{Element, Known, Zero, Null, Pointing, is_same, IsLess, IsOfKind, number_kind, pointer_kind, IsStorable}
-use Rattle.ref_machine_looks.proofs.SameTypes.{type_is}
-use Rattle.ref_machine_looks.proofs.Truths.{never, both_true}
+use Rattle.flow_program_types.specs.PointedTypes.{Element, Known, Zero, Null, Pointing, is_same, IsOfKind, number_kind, pointer_kind, IsStorable}
+use Rattle.c_types_laws_stores.proofs.Types.{type_is}
+use Rattle.flow_lower_units_laws.proofs.CountedLabels.{both_true}
 use Rattle.flow_lower_typed.specs.KnownValues.{type_known, term_known}
 use Rattle.flow_lower_typed.specs.TypedStatements.{is_copied_as}
 use Rattle.flow_lower_typed.specs.TypedTerms.{is_struct, is_scalar, is_zero_form, is_null_form, is_stored_as, local_types, is_typed_place, size}
+
+pub never : {A : Type 0} → false ≡ true → A
+never e = absurd (cc)
 
 -- ---- scalars
 

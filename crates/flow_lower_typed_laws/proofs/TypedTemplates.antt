@@ -1,16 +1,15 @@
 -- Works that keep to what is known come to pieces that do, and so templates of typed functions do.
-use Rattle.std.proofs.Common.{◌≡◌, ◌≤◌, ◌<◌, ◌⊎◌, inl, inr, ℕ, ◌+◌, ◌-◌, ◌^◌, ◌==◌, Bool, true, false, ◌&&◌, ◌||◌, cond, nat_lt, nat_le, List, [], ◌∷◌, ◌++◌, take, length, Option, Some, None, slice_get, is_some, refl, arith, ap, sym, subst, ◌∙◌}
+use Rattle.std.proofs.Common.{◌≡◌, ◌≤◌, ◌<◌, inl, inr, ℕ, ◌+◌, ◌-◌, ◌^◌, ◌==◌, Bool, true, false, ◌&&◌, ◌||◌, cond, nat_lt, nat_le, List, [], ◌∷◌, take, length, Some, None, is_some, refl, arith, ap, sym, subst, ◌∙◌}
 use Rattle.std.specs.List.{list_all}
 use Rattle.std.proofs.lemmas.Bool.{eq-eqb, eqb-true, leb-true, ltb-true}
 use Rattle.std.proofs.lemmas.List.{append-nil}
-use Rattle.c_layout.specs.CheckedTrees.{statement_trees, StatementTree}
+use Rattle.c_layout.specs.CheckedTrees.{statement_trees}
 use Rattle.c_layout.specs.CheckedUnits.{FunctionView, UnitView}
 use Rattle.flow_lower_debts.specs.Marks.{below, all_labels_in, all_cases_in, all_defaults_in, IsLabelled}
 use Rattle.flow_lower_functions.specs.Functions.{function, entry, called, setting_of, no_plan, IsTemplate}
 use Rattle.flow_lower_functions.specs.Turns.{planless}
 use Rattle.flow_lower_growth.specs.Growth.{Grows}
 use Rattle.flow_lower_growth.proofs.GrowingWorks.{grows, grows_parts, jobs_none}
-use Rattle.flow_lower_plain.specs.PlainStatements.{are_plain_statements}
 use Rattle.flow_lower_plain.specs.PlainUnits.{no_label}
 use Rattle.flow_lower_plain_laws.proofs.LeadingForms.{Within, within_before}
 use Rattle.flow_lower_plain_laws.proofs.LeadingStatements.{list}
@@ -21,31 +20,27 @@ use Rattle.flow_lower_tasks.specs.Settings.{SettingView}
 use Rattle.flow_lower_tasks.specs.TermKinds.{is_void}
 use Rattle.flow_lower_tasks.specs.Works as jobs
 use Rattle.flow_lower_tasks.specs.Works.{Job}
-use Rattle.flow_lower_tasks.specs.declared.pending_works.Surroundings.{Surroundings}
 use Rattle.flow_lower_tasks.specs.declared.template_builder.Dispatch.{Dispatch}
 use Rattle.flow_lower_units.specs.LabelNumbers.{is_numbered}
 use Rattle.flow_lower_units.specs.RegularStatements.{are_regular_statements}
-use Rattle.flow_lower_units.specs.RegularUnits.{is_regular_function}
 use Rattle.flow_lower_units.specs.ScopeObjects.{has_own_objects, function_marked}
-use Rattle.flow_lower_units_laws.proofs.CountedLabels.{labels_once, function_labelled}
+use Rattle.flow_lower_units_laws.proofs.CountedLabels.{both_true, labels_once, function_labelled}
 use Rattle.flow_lower_works.specs.Derivations.{is_piece, parts, Makes, nothing, piece, work}
 use Rattle.flow_lower_works.proofs.Derivations.{derived}
-use Rattle.flow_program_types.specs.StandingTypes.{AreLaidOut}
 use Rattle.flow_program_types.specs.TypedPrograms.{IsKept}
 use Rattle.flow_program_types.specs.TypedStates.{Temporaries}
-use Rattle.ref_machine_looks.proofs.Truths.{both_true}
 use Rattle.flow_lower_typed.specs.KnownValues as known
 use Rattle.flow_lower_typed.specs.KnownValues.{below as known_below, with_value, term_known, place_known}
 use Rattle.flow_lower_typed.specs.ProgramLaws.{TypesStandWhereTheyBegin}
-use Rattle.flow_lower_typed.specs.TypedPieces.{State, Leads, IsWeaker, AreTypedPieces, IsTypedTemplate, parameters_known, result_known}
-use Rattle.flow_lower_typed.specs.TypedStatements.{has_scalars, are_typed_statements, is_typed_function}
+use Rattle.flow_lower_typed.specs.TypedPieces.{State, Leads, AreTypedPieces, IsTypedTemplate, parameters_known, result_known}
+use Rattle.flow_lower_typed.specs.TypedStatements.{has_scalars, are_typed_statements}
 use Rattle.flow_lower_typed.specs.TypedTerms.{is_scalar, local_types, parameter_types}
-use Rattle.flow_lower_typed.specs.WorkLaws.{Extends, Labelled, IsSettingOf, IsLookedAt, WorksAreTyped, TemplatesAreTyped}
+use Rattle.flow_lower_typed.specs.WorkLaws.{Extends, Labelled, IsSettingOf, WorksAreTyped, TemplatesAreTyped}
 use Rattle.flow_lower_typed.proofs.KeptKnowledge.{kept_nothing}
 use Rattle.flow_lower_typed.proofs.JoinedPieces.{pieces_stronger, pieces_joined, pieces_weaker}
 use Rattle.flow_lower_typed_laws.proofs.LabelKnowledge.{parted, parted_first, parted_last, joined, labelled_more, new_labels}
 use Rattle.flow_lower_typed_laws.proofs.NumberedLabels.{IsNumbered, all_numbered}
-use Rattle.flow_lower_typed_laws.proofs.FollowingWorks.{Asks, Meets, Asked, Looks, Goes, Follows, Flow, Flowing, leads_nothing, extends_less}
+use Rattle.flow_lower_typed_laws.proofs.FollowingWorks.{Asks, Meets, Asked, Looks, Follows, Flow, Flowing, leads_nothing, extends_less}
 use Rattle.flow_lower_typed_laws.proofs.FollowingStatements.{dispatches_grow, flowing_by_form}
 use Rattle.flow_lower_typed_laws.proofs.FollowingFunctions.{AreBelow, numbers_below, entry_asks, called_asks, flowing_entry, flowing_called}
 
@@ -54,6 +49,9 @@ through a b c x y = omega (arith, x, y)
 
 same_le : (a : ℕ) → a ≤ a
 same_le a = omega arith
+
+from_zero : (a : ℕ) → 0 + a ≤ a
+from_zero a = omega arith
 
 no_piece : {A : Type 0} → true ≡ false → A
 no_piece e = absurd (cc)
@@ -88,8 +86,8 @@ module _ (u : UnitView) (f : FunctionView) (calls : ℕ → Bool) (s : SettingVi
       by (jobs.Address l depth) other made inside (before, leads, looked, same) = from before (with_value depth (place_known l) before) leads same (typed u f calls s setting p (jobs.Address l depth) ps q (once (jobs.Address l depth) other made) none looked used names extends before)
       by (jobs.Condition e d) other made inside (looked, yes_, no_, same) =
           labelled_more (λ labels t meets. subst (AreTypedPieces u f used names labels m ps) (sym same)
-              (pieces_stronger u f used names labels m (Some known.nothing) None ps (leads_nothing m)
-              (t (subst (λ k. IsKept (known_below d.depth known.nothing) k) (sym (meets d.targets.yes known.nothing yes_)) (kept_nothing _)) (subst (λ k. IsKept (known_below d.depth known.nothing) k) (sym (meets d.targets.no known.nothing no_)) (kept_nothing _)))))
+          (pieces_stronger u f used names labels m (Some known.nothing) None ps (leads_nothing m)
+          (t (subst (λ k. IsKept (known_below d.depth known.nothing) k) (sym (meets d.targets.yes known.nothing yes_)) (kept_nothing _)) (subst (λ k. IsKept (known_below d.depth known.nothing) k) (sym (meets d.targets.no known.nothing no_)) (kept_nothing _)))))
           (typed u f calls s setting p (jobs.Condition e d) ps q (once (jobs.Condition e d) other made) none looked used names extends known.nothing)
       by (jobs.Statement i around) other made inside (goes, same) =
           let d = statement s i around p in
@@ -144,8 +142,11 @@ body_numbered : (f : FunctionView) → IsLabelled f → IsNumbered f.labels 0 fa
 body_numbered f x = all_numbered f.labels 0 false (statement_trees f.body) (λ n some. number_below n f.labels (all_labels_in n (statement_trees f.body)) (x.labels n) some) (λ n some. absurd (none_some (all_cases_in n (statement_trees f.body)) (x.cases n) some)) (λ some. absurd (none_some (all_defaults_in (statement_trees f.body)) x.defaults some)) x.switches
 
 -- what is known at the labels of a called function: at the first one its arguments, at those of its works what they ask
+abbrev first_labels : FunctionView → ℕ → Temporaries
+first_labels f l = cond (l == f.labels + 1) (parameters_known f) known.nothing
+
 abbrev called_labels : FunctionView → ℕ → (ℕ → Temporaries) → ℕ → Temporaries
-called_labels f last own = parted last (λ l. cond (l == f.labels + 1) (parameters_known f) known.nothing) own
+called_labels f last own = parted last (first_labels f) own
 
 not_same : (l n : ℕ) → l ≤ n → (l == n + 1) ≡ false
 not_same l n le = by (l == n + 1) refl
@@ -192,16 +193,13 @@ module _ (u : UnitView) (f : FunctionView) (calls : ℕ → Bool) (s : SettingVi
       let x = flowing_called u f calls s last.dispatches used (length p.dispatches) looks end_is there scalars result below_ in
       let y = planned (called_asks f) ((f.labels + 1) + 1) ((f.labels + 1) + 2) (Some (parameters_known f)) (Some (result_known used f)) p last x made few same in
       let labels = called_labels f p.labels y.own in
-      record { labels = labels; pieces = y.is labels (λ l from to. parted_last p.labels _ y.own l from) (λ l k is. by p.labels y.own x.room l k is) }
+      record { labels = labels; pieces = y.is labels (λ l from to. parted_last p.labels (first_labels f) y.own l from) (λ l k is. by p.labels y.own x.room l k is) }
     where
       less : (l n last : ℕ) → l ≤ n → (n + 1) + 2 ≤ last → l < last
       less l n last le few = omega (arith, le, few)
 
       this_less : (l n last : ℕ) → l ≡ n + 1 → (n + 1) + 2 ≤ last → l < last
       this_less l n last e few = omega (arith, e, few)
-
-      first_labels : ℕ → Temporaries
-      first_labels l = cond (l == f.labels + 1) (parameters_known f) known.nothing
 
       later : (l n : ℕ) → (n + 1) + 1 ≤ l → (l == n + 1) ≡ false
       later l n from = by_ (l == n + 1) refl
@@ -217,9 +215,9 @@ module _ (u : UnitView) (f : FunctionView) (calls : ℕ → Bool) (s : SettingVi
       at b l e = ap (λ b. cond b (parameters_known f) known.nothing) e
 
       by : (last : ℕ) (own : ℕ → Temporaries) → (f.labels + 1) + 2 ≤ last → (l : ℕ) (k : Temporaries) → Asked (called_asks f) ((f.labels + 1) + 1) last l k → called_labels f last own l ≡ k
-      by last own few l k (inl (inl x)) = parted_first last _ own l (less l f.labels last x.0 few) ∙ at false l (not_same l f.labels x.0) ∙ sym x.1
-      by last own few l k (inl (inr x)) = parted_first last _ own l (this_less l f.labels last x.0 few) ∙ at true l (eq-eqb l (f.labels + 1) x.0) ∙ sym x.1
-      by last own few l k (inr x) = parted_first last _ own l x.1 ∙ at false l (later l f.labels x.0) ∙ sym x.2
+      by last own few l k (inl (inl x)) = parted_first last (first_labels f) own l (less l f.labels last x.0 few) ∙ at false l (not_same l f.labels x.0) ∙ sym x.1
+      by last own few l k (inl (inr x)) = parted_first last (first_labels f) own l (this_less l f.labels last x.0 few) ∙ at true l (eq-eqb l (f.labels + 1) x.0) ∙ sym x.1
+      by last own few l k (inr x) = parted_first last (first_labels f) own l x.1 ∙ at false l (later l f.labels x.0) ∙ sym x.2
 
 -- ---- templates
 
@@ -250,4 +248,4 @@ templates_are_typed typed stand u f calls is_entry t laid is few look regular pl
     by false is =
         let s = setting_of u.structs u.model.pointer u.model.int f false in
         let d = derived s (function s f (no_plan f.labels)) t is in
-        called_typed u f calls s used t typed stand (record { laid = laid; structs = refl; pointer = refl }) refl d.last looks there scalars.0 scalars.1 (numbers_below 0 f.parameters f.parameters (same_le (0 + f.parameters))) d.pieces (subst (λ n. n ≤ 2 ^ 32 - 1) d.labels few) d.names
+        called_typed u f calls s used t typed stand (record { laid = laid; structs = refl; pointer = refl }) refl d.last looks there scalars.0 scalars.1 (numbers_below 0 f.parameters f.parameters (from_zero f.parameters)) d.pieces (subst (λ n. n ≤ 2 ^ 32 - 1) d.labels few) d.names
