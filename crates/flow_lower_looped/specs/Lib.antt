@@ -1,0 +1,3 @@
+pub mod LoopedStatements
+pub mod LoopedUnits
+pub mod CalmTemplates
