@@ -9,10 +9,12 @@ use Rattle.flow_lower.specs.Openings.{ProgramView, template_at, program, whole}
 use Rattle.flow_lower_counts.specs.Preparations.{are_counted, AreCounts}
 use Rattle.flow_lower_counts.specs.SettledTemplates.{settled}
 use Rattle.flow_lower_counts_parts.specs.declared.function_counts.FunctionCounts.{FunctionCounts}
-use Rattle.flow_lower_plain.specs.PlainUnits.{is_plain_unit, is_plain_function}
+use Rattle.flow_lower_plain.specs.ShortArrays.{has_short_objects}
+use Rattle.flow_lower_looped.specs.CalmTemplates.{IsCalm}
+use Rattle.flow_lower_looped.specs.LoopedUnits.{is_looped_function}
 use Rattle.flow_lower_debts.specs.Marks.{all_marked}
 use Rattle.flow_lower_debts.specs.Marks.{below as label_is_below}
-use Rattle.flow_lower_plain_works.specs.LeadingPieces.{LeadsOn, Marked, NoLabel}
+use Rattle.flow_lower_plain_works.specs.LeadingPieces.{Marked, NoLabel}
 use Rattle.flow_lower_tasks.specs.Acts.{Step}
 use Rattle.flow_lower_tasks.specs.Pieces.{PieceView, Call, TemplateView}
 use Rattle.flow_program.specs.declared.programs.Flow.{Flow}
@@ -38,18 +40,22 @@ TypesStandWhereTheyBegin = (u : UnitView) → AreLaidOut u.model u.structs → (
 abbrev pub TypedObjectsAreTyped : Type 0
 TypedObjectsAreTyped = (u : UnitView) → AreLaidOut u.model u.structs → list_all (is_typed_object u) u.objects ≡ true → HasTypedObjects u
 
-abbrev pub PlainTypesAreOwn : Type 0
-PlainTypesAreOwn = (u : UnitView) → is_plain_unit u ≡ true → has_own_types u ≡ true → HasOwnTypes u
+abbrev pub ShortTypesAreOwn : Type 0
+ShortTypesAreOwn = (u : UnitView) → has_short_objects u ≡ true → has_own_types u ≡ true → HasOwnTypes u
 
-abbrev pub PlainLocalsAreOwn : Type 0
-PlainLocalsAreOwn = (u : UnitView) (calls : ℕ → Bool) (f : FunctionView) → is_plain_function u calls f ≡ true → is_own_function u f ≡ true → HasOwnLocals u f
+abbrev pub LoopedLocalsAreOwn : Type 0
+LoopedLocalsAreOwn = (u : UnitView) (calls : ℕ → Bool) (f : FunctionView) → is_looped_function u calls f ≡ true → is_own_function u f ≡ true → HasOwnLocals u f
 
 -- ---- settled templates
 
 -- each of a template's labels is marked once at most, and all are numbers below their count
 abbrev pub SettledTemplatesAreTyped : Type 0
-SettledTemplatesAreTyped = (u : UnitView) (f : FunctionView) (calls : ℕ → Bool) (used : Bool) (t : TemplateView) (table : List (Option FunctionCounts)) → AreCounts u table → are_counted table t.pieces ≡ true → LeadsOn calls t → ((l : ℕ) → all_marked l t.pieces ≤ label_is_below l t.labels)
+SettledTemplatesAreTyped = (u : UnitView) (f : FunctionView) (calls : ℕ → Bool) (used : Bool) (t : TemplateView) (table : List (Option FunctionCounts)) → AreCounts u table → are_counted table t.pieces ≡ true → IsCalm calls t → ((l : ℕ) → all_marked l t.pieces ≤ label_is_below l t.labels)
     → IsTypedTemplate u f used t → IsTypedTemplate u f used (settled table t)
+
+-- and stay calm
+abbrev pub SettledTemplatesAreCalm : Type 0
+SettledTemplatesAreCalm = (calls : ℕ → Bool) (t : TemplateView) (table : List (Option FunctionCounts)) → ((l : ℕ) → all_marked l t.pieces ≤ label_is_below l t.labels) → IsCalm calls t → IsCalm calls (settled table t)
 
 -- ---- programs
 
@@ -82,7 +88,7 @@ AreThere u ts (p ∷ ps) = AreThere u ts ps
 pub record IsTypedFunction (u : UnitView) (ts : List (Option TemplateView)) (f : FunctionView) (t : TemplateView) : Type 0 where
   pub calls : ℕ → Bool
   pub pieces : (used : Bool) → IsTypedTemplate u f used t
-  pub leads : LeadsOn calls t
+  pub calm : IsCalm calls t
   pub room : (l : ℕ) → Marked t.pieces NoLabel l → l < t.labels
   pub there : AreThere u ts t.pieces
   pub locals : HasOwnLocals u f

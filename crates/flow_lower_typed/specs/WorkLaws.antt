@@ -9,8 +9,7 @@ use Rattle.flow_lower_tasks.specs.Works.{Job}
 use Rattle.flow_lower_tasks.specs.Plans.{Plan}
 use Rattle.flow_lower_tasks.specs.Settings.{SettingView}
 use Rattle.flow_lower_plain.specs.PlainTerms.{is_plain_term, is_plain_place}
-use Rattle.flow_lower_plain.specs.PlainStatements.{are_plain_statements}
-use Rattle.flow_lower_plain.specs.PlainUnits.{no_label}
+use Rattle.flow_lower_looped.specs.LoopedStatements.{are_looped_statements}
 use Rattle.flow_lower_units.specs.RegularTerms.{is_regular_term, is_regular_place}
 use Rattle.flow_lower_units.specs.RegularUnits.{is_regular_function}
 use Rattle.flow_lower_works.specs.Derivations.{Makes}
@@ -66,5 +65,5 @@ WorksAreTyped = (u : UnitView) (f : FunctionView) (calls : ℕ → Bool) (s : Se
 -- the template of a function that passes the looks keeps to what is known
 abbrev pub TemplatesAreTyped : Type 0
 TemplatesAreTyped = (u : UnitView) (f : FunctionView) (calls : ℕ → Bool) (is_entry : Bool) (t : TemplateView) → AreLaidOut u.model u.structs
-    → IsTemplate u.structs u.model.pointer u.model.int f is_entry t → t.labels ≤ 2 ^ 32 - 1 → is_typed_function u f ≡ true → is_regular_function u f ≡ true → are_plain_statements calls no_label false (statement_trees f.body) ≡ true
+    → IsTemplate u.structs u.model.pointer u.model.int f is_entry t → t.labels ≤ 2 ^ 32 - 1 → is_typed_function u f ≡ true → is_regular_function u f ≡ true → are_looped_statements calls (statement_trees f.body) ≡ true
     → (used : Bool) → IsTypedTemplate u f used t

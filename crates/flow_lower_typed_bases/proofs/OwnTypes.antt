@@ -1,4 +1,4 @@
--- The types of plain units and functions are the data model's own, with short arrays alone.
+-- The types of units and functions without long arrays are the data model's own, with short arrays alone.
 use Rattle.std.proofs.Common.{◌≡◌, ℕ, suc, ◌+◌, true, ◌&&◌, length, Option, Some, None, slice_get, refl, ap, ◌∙◌, arith}
 use Rattle.c_layout.specs.CheckedUnits.{LocalView, LiteralView, UnitView}
 use Rattle.flow_lower_counts_parts.specs.SharedObjects.{literal_type}
@@ -8,7 +8,7 @@ use Rattle.flow_lower_plain_works.proofs.LeadingWorks.{both}
 use Rattle.flow_lower_plain_programs.proofs.NamedBases.{of_all}
 use Rattle.flow_lower_typed.specs.TypedBases.{IsOwnType}
 use Rattle.flow_lower_typed.specs.TypedObjects.{is_own_local, is_own_object, is_own_literal}
-use Rattle.flow_lower_typed.specs.ProgramLaws.{PlainTypesAreOwn, PlainLocalsAreOwn}
+use Rattle.flow_lower_typed.specs.ProgramLaws.{ShortTypesAreOwn, LoopedLocalsAreOwn}
 
 one_more : (n : ℕ) → n + 1 ≡ suc n
 one_more n = omega arith
@@ -17,18 +17,18 @@ one_more n = omega arith
 short_literal : (u : UnitView) (l : LiteralView) → is_short_literal l ≡ true → has_short_arrays u.structs (literal_type u.model.char_signed (length l.bytes)) ≡ true
 short_literal u l e = ap (λ depth. has_short_arrays_within depth u.structs (literal_type u.model.char_signed (length l.bytes))) (one_more (length u.structs)) ∙ ap (λ b. (b && true) && true) e
 
-pub types_own : PlainTypesAreOwn
-types_own u plain own =
-    let short = both _ _ (both _ _ (both _ _ plain).1).0 in
+pub types_own : ShortTypesAreOwn
+types_own u few own =
+    let short = both _ _ few in
     let kinds = both _ _ (both _ _ own).1 in
     record {
       objects = λ i o is. record { kinds = of_all (is_own_object u) u.objects i o kinds.0 is; small = of_all (is_short_object u.structs) u.objects i o short.0 is };
       literals = λ i l is. record { kinds = of_all (is_own_literal u) u.literals i l kinds.1 is; small = short_literal u l (of_all is_short_literal u.literals i l short.1 is) };
     }
 
-pub locals_own : PlainLocalsAreOwn
-locals_own u calls f plain own slot = by (slice_get f.locals slot) refl
+pub locals_own : LoopedLocalsAreOwn
+locals_own u calls f looped own slot = by (slice_get f.locals slot) refl
   where
     by : (o : Option LocalView) → slice_get f.locals slot ≡ o → IsOwnType u (type_or o f.returns)
-    by None is = record { kinds = (both _ _ own).0; small = (both _ _ (both _ _ plain).0).1 }
-    by (Some l) is = record { kinds = of_all (is_own_local u) f.locals slot l (both _ _ own).1 is; small = of_all (is_short_local u.structs) f.locals slot l (both _ _ (both _ _ plain).0).0 is }
+    by None is = record { kinds = (both _ _ own).0; small = (both _ _ (both _ _ looped).0).1 }
+    by (Some l) is = record { kinds = of_all (is_own_local u) f.locals slot l (both _ _ own).1 is; small = of_all (is_short_local u.structs) f.locals slot l (both _ _ (both _ _ looped).0).0 is }

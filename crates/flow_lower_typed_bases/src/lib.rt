@@ -4,5 +4,5 @@
 mod theorems;
 
 pub use theorems::{
-    first_objects_are_typed, names_are_typed, plain_locals_are_own, plain_types_are_own,
+    first_objects_are_typed, looped_locals_are_own, names_are_typed, short_types_are_own,
 };
