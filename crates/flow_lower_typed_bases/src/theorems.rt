@@ -1,5 +1,6 @@
 //! Each base that a name is given has the type of what is named, from the first objects of a unit on.
-ghost use Rattle.flow_lower_typed.specs.ProgramLaws.{FirstObjectsAreTyped, PlainLocalsAreOwn, PlainTypesAreOwn};
+ghost use Rattle.flow_lower_typed.specs.ProgramLaws.{PlainLocalsAreOwn, PlainTypesAreOwn};
+ghost use Rattle.flow_lower_typed_bases.specs.FirstObjects.{FirstObjectsAreTyped};
 ghost use Rattle.flow_lower_typed.specs.TypedBases.{NamesAreTyped};
 
 /// A name that is given a base, or had one, has one of its type; the bases before keep theirs.
