@@ -2,7 +2,6 @@
 use Rattle.std.specs.Prelude.{◌≡◌, ◌≤◌, ◌<◌, ℕ, suc, Bool, true, List, [], ◌∷◌, length, Option, Some, None, slice_get}
 use Rattle.std.specs.List.{Contains, list_all}
 use Rattle.cc_base.specs.declared.diagnostics.Place.{Place}
-use Rattle.cc_base.specs.declared.limit_table.Limits.{Limits}
 use Rattle.c_layout.specs.CheckedUnits.{FunctionView, UnitView}
 use Rattle.c_layout.specs.Types.{Ty}
 use Rattle.flow_lower.specs.Openings.{ProgramView, template_at, program, whole}
@@ -17,14 +16,11 @@ use Rattle.flow_lower_debts.specs.Marks.{below as label_is_below}
 use Rattle.flow_lower_plain_works.specs.LeadingPieces.{Marked, NoLabel}
 use Rattle.flow_lower_tasks.specs.Acts.{Step}
 use Rattle.flow_lower_tasks.specs.Pieces.{PieceView, Call, TemplateView}
-use Rattle.flow_program.specs.declared.programs.Flow.{Flow}
-use Rattle.flow_program_machine.specs.FlowStarts.{start_names}
 use Rattle.flow_program_types.specs.StandingTypes.{AreLaidOut, Stands}
-use Rattle.flow_program_types.specs.TypedPrograms.{IsTypedWay, HasTypedObjects, first_types}
+use Rattle.flow_program_types.specs.TypedPrograms.{IsTypedWay, HasTypedObjects}
 use Rattle.flow_program_types.specs.TypedStates.{Temporaries}
-use Rattle.flow_program_views.specs.ProgramViews.{BlockView, EdgeView, flow_view}
+use Rattle.flow_program_views.specs.ProgramViews.{BlockView, EdgeView}
 use Rattle.template_runs_layouts.specs.LowTemporaries.{IsActLow}
-use Rattle.template_runs_units.specs.UnitRuns.{IsProgramOf}
 use Rattle.flow_lower_typed.specs.TypedActs.{IsTypedAct}
 use Rattle.flow_lower_typed.specs.TypedBases.{HasTypes, HasOwnTypes, HasOwnLocals}
 use Rattle.flow_lower_typed.specs.TypedObjects.{begins, is_typed_object, is_own_function}
@@ -101,10 +97,3 @@ AreTypedFunctions u ts = (n : ℕ) (f : FunctionView) (t : TemplateView) → sli
 abbrev pub OpenedProgramsAreTyped : Type 0
 OpenedProgramsAreTyped = (u : UnitView) (ts : List (Option TemplateView)) (at : Place) → HasOwnTypes u → AreTypedFunctions u ts → (f : FunctionView) → slice_get u.functions u.entry ≡ Some f → f.parameters ≡ 0
     → (whole u ts at).stack ≡ [] → HasLowSteps (program u ts at) → IsTypedOpening u (program u ts at)
-
--- ---- first objects
-
--- the objects that have bases at the start of a run are of their types
-abbrev pub FirstObjectsAreTyped : Type 0
-FirstObjectsAreTyped = (u : UnitView) (limits : Limits) (flow : Flow) (o : IsProgramOf u limits flow) → flow.parameters.items ≡ [] → (types : List Ty) → HasTypes u types (program u o.is.templates o.is.entry.at).bases
-    → (b i : ℕ) → start_names u (flow_view flow) b ≡ Some i → (t : Ty) × (slice_get types b ≡ Some t) × (first_types u i ≡ Some t)

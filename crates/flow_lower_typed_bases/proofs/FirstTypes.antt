@@ -17,7 +17,7 @@ use Rattle.lib_models_effects.specs.UnitStarts.{base_instance, literal_instance}
 use Rattle.store_domain_sound.proofs.Slices.{get_right}
 use Rattle.template_runs_openings.proofs.ListPlaces.{some_same, left_of}
 use Rattle.flow_lower_typed.specs.TypedBases.{HasTypes}
-use Rattle.flow_lower_typed.specs.ProgramLaws.{FirstObjectsAreTyped}
+use Rattle.flow_lower_typed_bases.specs.FirstObjects.{FirstObjectsAreTyped}
 
 -- what a table has at a number was put there, or stood there before
 put_cases : (f : Names) (n x m y : ℕ) → put_at f n x m ≡ Some y → ((m ≡ n) × (x ≡ y)) ⊎ (f m ≡ Some y)

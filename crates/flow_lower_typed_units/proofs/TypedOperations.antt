@@ -1,35 +1,17 @@
 -- Operations are typed as their acts are.
-use Rattle.std.proofs.Common.{◌≡◌, ℕ, true, Option, Some, subst}
+use Rattle.std.proofs.Common.{◌≡◌, ℕ, Option, Some, subst}
 use Rattle.c_layout.specs.Types.{Ty}
-use Rattle.c_layout.specs.declared.library_functions.LibFn.{LibFn}
-use Rattle.c_layout.specs.declared.library_functions.LibFn.TheVariants.{Isalpha, Isdigit, Isspace, Isupper, Islower, Isalnum, Toupper, Tolower, Putchar, Exit, Abort}
 use Rattle.flow_program.specs.declared.machine_instructions.Operation.{Operation}
 use Rattle.flow_program.specs.declared.machine_instructions.Operation.TheVariants as op
 use Rattle.flow_program.specs.declared.programs.Flow.{Flow}
 use Rattle.flow_lower_tasks.specs.Acts.{act}
-use Rattle.flow_lower_plain.specs.PlainTerms.{is_plain_library}
 use Rattle.flow_program_types.specs.PointedTypes.{Element, Pointing}
 use Rattle.flow_program_types.specs.StandingTypes.{Stands}
 use Rattle.flow_program_types.specs.TypedPrograms as program
 use Rattle.flow_program_types.specs.TypedPrograms.{structs_of, Gives, IsTypedOperation}
 use Rattle.flow_program_types.specs.TypedStates.{Temporaries}
-use Rattle.abstract_steps_single.specs.SingleLaws.{IsPlainFunction}
 use Rattle.flow_lower_typed.specs.TypedActs as typed
 use Rattle.flow_lower_typed.specs.TypedActs.{IsTypedAct}
-
-plain_function : (name : LibFn) → is_plain_library name ≡ true → IsPlainFunction name
-plain_function Isalpha e = tt
-plain_function Isdigit e = tt
-plain_function Isspace e = tt
-plain_function Isupper e = tt
-plain_function Islower e = tt
-plain_function Isalnum e = tt
-plain_function Toupper e = tt
-plain_function Tolower e = tt
-plain_function Putchar e = tt
-plain_function Exit e = tt
-plain_function Abort e = tt
-plain_function other e = absurd (cc)
 
 module _ (flow : Flow) (bases : ℕ → Option Ty) (objects : ℕ → Ty) (same : (b : ℕ) (t : Ty) → bases b ≡ Some t → t ≡ objects b) (before after : Temporaries) where
   points : (temp : ℕ) (t : Ty) → typed.PointsTo (structs_of flow) flow.model.pointer bases before after temp t → program.PointsTo flow objects before after temp t
@@ -60,7 +42,7 @@ module _ (flow : Flow) (bases : ℕ → Option Ty) (objects : ℕ → Ty) (same 
   typed_operation (op.Convert to from old new) (typed.to_number _ _ _ kind g) = program.to_number to from old kind g
   typed_operation (op.Convert to from old new) (typed.to_null _ _ kind is g) = program.to_null to from kind is g
   typed_operation (op.Convert to from old new) (typed.to_pointer _ _ g) = program.to_pointer to from g
-  typed_operation (op.Library to name arguments newest size) (typed.calls _ _ _ _ _ plain g) = program.calls to name arguments newest size (plain_function name plain) g
+  typed_operation (op.Library to name arguments newest size) (typed.calls _ _ _ _ _ plain g) = program.calls to name arguments newest size plain g
   typed_operation (op.Enter base) (typed.enters _ k) = program.enters base k
   typed_operation (op.Leave base) (typed.leaves_object _ k) = program.leaves_object base k
   typed_operation (op.Forget base) (typed.forgets _ k) = program.forgets base k

@@ -45,13 +45,15 @@ use Rattle.abstract_steps_single_runs.specs.SingleRuns.{HasTypedAccesses}
 use Rattle.store_domain_sound.proofs.Slices.{get_there}
 use Rattle.store_domain_sound_programs.proofs.ShapedBases.{all_at}
 use Rattle.flow_program_types.specs.StandingTypes.{AreLaidOut}
-use Rattle.flow_program_types.specs.TypedPrograms.{structs_of, IsObjectOf, first_types, IsTypedProgram, TypedProgramsHaveTypedAccesses}
+use Rattle.flow_program_types.specs.TypedPrograms.{structs_of, IsObjectOf, first_types, IsTypedProgram}
+use Rattle.flow_program_types_runs.specs.TypedRuns.{TypedProgramsHaveTypedAccesses}
 use Rattle.flow_lower_typed.specs.TypedBases.{IsMadeOf}
 use Rattle.flow_lower_typed.specs.TypedObjects.{is_typed_object, is_own_function, is_own_object, is_own_literal}
 use Rattle.flow_lower_typed.specs.TypedStatements.{is_typed_function}
 use Rattle.flow_lower_typed.specs.TypedUnits.{has_own_types, is_typed_unit}
 use Rattle.flow_lower_typed.specs.WorkLaws.{TemplatesAreTyped}
-use Rattle.flow_lower_typed.specs.ProgramLaws.{TypedObjectsAreTyped, PlainTypesAreOwn, PlainLocalsAreOwn, SettledTemplatesAreTyped, HasLowSteps, steps_of, IsTypedOpening, AreThere, IsTypedFunction, AreTypedFunctions, OpenedProgramsAreTyped, FirstObjectsAreTyped}
+use Rattle.flow_lower_typed.specs.ProgramLaws.{TypedObjectsAreTyped, PlainTypesAreOwn, PlainLocalsAreOwn, SettledTemplatesAreTyped, HasLowSteps, steps_of, IsTypedOpening, AreThere, IsTypedFunction, AreTypedFunctions, OpenedProgramsAreTyped}
+use Rattle.flow_lower_typed_bases.specs.FirstObjects.{FirstObjectsAreTyped}
 use Rattle.flow_lower_typed_units.specs.TypedUnitLaws.{TypedUnitsHaveTypedAccesses}
 use Rattle.flow_lower_typed_units.proofs.TypedFlows.{type_at, type_is, typed_steps, typed_edges}
 

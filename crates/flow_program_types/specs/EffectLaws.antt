@@ -1,9 +1,8 @@
 -- What effects on memory do to pointers that have types, where they go on.
-use Rattle.std.specs.Prelude.{◌≡◌, ℕ, ◌+◌, ◌<◌, ◌≤◌, ℤ, pos, Bool, true, List, Option, Some, None, length, slice_get}
+use Rattle.std.specs.Prelude.{◌≡◌, ℕ, ◌+◌, ◌<◌, ℤ, Bool, true, List, Option, Some, None, length}
 use Rattle.cc_base.specs.declared.int_types.IntType.{IntType}
 use Rattle.c_layout.specs.CheckedUnits.{UnitView}
 use Rattle.c_layout.specs.Layout.{size_of_type}
-use Rattle.c_layout.specs.Leaves.{leaves_of}
 use Rattle.c_layout.specs.Models.{is_model}
 use Rattle.c_layout.specs.StructViews.{StructView}
 use Rattle.c_layout.specs.Types.{Ty, Struct}
@@ -11,9 +10,8 @@ use Rattle.c_layout.specs.declared.data_model.Model.{Model}
 use Rattle.c_layout.specs.declared.leaf_lists.Leaf.{Leaf}
 use Rattle.flow_program.specs.declared.machine_instructions.Scalar as declared
 use Rattle.flow_program.specs.declared.machine_instructions.Scalar.TheVariants as of
-use Rattle.lib_models_memory.specs.Bytes.{MachinePointer, null}
-use Rattle.lib_models_memory.specs.Instances.{Memory}
-use Rattle.lib_models_memory.specs.Scalars.{Scalar, integer, pointer}
+use Rattle.lib_models_memory.specs.Bytes.{MachinePointer}
+use Rattle.lib_models_memory.specs.Scalars.{Scalar, pointer}
 use Rattle.lib_models_effects.specs.Worlds.{World, goes}
 use Rattle.lib_models_effects.specs.Accesses.{load, store}
 use Rattle.lib_models_effects.specs.NumberedTables.{put_at}
@@ -23,7 +21,7 @@ use Rattle.lib_models_effects.specs.StructCopies.{copy_struct}
 use Rattle.lib_models_effects.specs.Tests.{SideTest, pass_test, pass_case}
 use Rattle.lib_models_effects.specs.Touches.{storage_at}
 use Rattle.lib_models_effects.specs.UnitStarts.{start_world}
-use Rattle.flow_program_types.specs.StandingTypes.{AreLaidOut, Stands}
+use Rattle.flow_program_types.specs.StandingTypes.{Stands}
 use Rattle.flow_program_types.specs.PointedTypes.{Target, Element, target_type, Known, Pointing, Points, Has, IsOfKind}
 use Rattle.flow_program_types.specs.TypedStates.{AreDeclared, IsTypedMemory}
 use Rattle.flow_program_types.specs.TypedPrograms.{first_types, HasTypedObjects}

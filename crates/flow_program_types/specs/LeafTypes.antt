@@ -1,11 +1,10 @@
 -- The leaves of a type are its scalars, where each array has few elements.
-use Rattle.std.specs.Prelude.{◌≡◌, ℕ, ◌+◌, ◌<◌, true, List, Option, Some, slice_get}
+use Rattle.std.specs.Prelude.{◌≡◌, ℕ, ◌+◌, ◌<◌, true, List, Some, slice_get}
 use Rattle.c_layout.specs.Leaves.{leaves_of}
 use Rattle.c_layout.specs.StructViews.{StructView}
-use Rattle.c_layout.specs.Types.{Ty, Int, Pointer, Array, Struct, Void}
+use Rattle.c_layout.specs.Types.{Ty}
 use Rattle.c_layout.specs.declared.data_model.Model.{Model}
 use Rattle.c_layout.specs.declared.leaf_lists.Leaf.{Leaf}
-use Rattle.flow_program.specs.declared.machine_instructions.Scalar.{Scalar}
 use Rattle.flow_lower_tasks.specs.TermKinds.{scalar_of}
 use Rattle.flow_lower_plain.specs.ShortArrays.{has_short_arrays}
 use Rattle.lib_models_memory.specs.ScalarSizes.{class_bytes}

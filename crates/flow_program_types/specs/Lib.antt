@@ -6,4 +6,3 @@ pub mod TypedStates
 pub mod TypedPrograms
 pub mod EffectLaws
 pub mod CopyLaws
-pub use Rattle.abstract_steps_single_runs.specs.SingleRuns

@@ -1,5 +1,5 @@
 -- To which part of a type each of its bytes belongs, by elements and members: to a scalar, or to a structure of a kind.
-use Rattle.std.specs.Prelude.{ℕ, zero, suc, ◌-◌, ◌==◌, Bool, ◌&&◌, cond, nat_lt, nat_le, List, [], ◌∷◌, Option, Some, None, length}
+use Rattle.std.specs.Prelude.{ℕ, zero, suc, ◌-◌, ◌==◌, ◌&&◌, cond, nat_lt, nat_le, List, [], ◌∷◌, Option, Some, None, length}
 use Rattle.std.specs.Option.{option_or}
 use Rattle.c_layout.specs.Layout.{size_of_type}
 use Rattle.c_layout.specs.StructViews.{FieldView, StructView, struct_at}

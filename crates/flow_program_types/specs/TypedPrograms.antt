@@ -17,9 +17,10 @@ use Rattle.flow_program.specs.declared.machine_instructions.Operation.TheVariant
 use Rattle.flow_program.specs.declared.machine_instructions.Scalar.{Scalar}
 use Rattle.flow_program.specs.declared.machine_instructions.Scalar.TheVariants as of
 use Rattle.flow_program.specs.declared.programs.Flow.{Flow}
+use Rattle.flow_lower_plain.specs.PlainTerms.{is_plain_library}
 use Rattle.flow_lower_plain.specs.ShortArrays.{has_short_arrays}
 use Rattle.flow_lower_counts_parts.specs.SharedObjects.{literal_type}
-use Rattle.flow_lower_tasks.specs.Pieces.{Way, Always, When, Case, Other, NoLine, Line}
+use Rattle.flow_lower_tasks.specs.Pieces.{Way, When}
 use Rattle.flow_program_machine.specs.FlowStarts.{start_names}
 use Rattle.flow_program_machine.specs.FlowEdges.{edges_of}
 use Rattle.flow_program_machine.specs.FlowSteps.{block_of}
@@ -29,7 +30,6 @@ use Rattle.lib_models_effects.specs.NumberedTables.{set_at}
 use Rattle.lib_models_effects.specs.UnitStarts.{base_instance}
 use Rattle.rule_checks.specs.AdmittedRules.{instructions_of}
 use Rattle.store_domain_laws_layouts.specs.LaidApart.{has_class_bytes}
-use Rattle.abstract_steps_single_runs.specs.SingleRuns.{IsPlainOperation, HasTypedAccesses}
 use Rattle.flow_program_types.specs.TypeBytes.{scalar_byte}
 use Rattle.flow_program_types.specs.StandingTypes.{AreLaidOut, Stands}
 use Rattle.flow_program_types.specs.PointedTypes.{Target, Element, Place, target_type, Known, Zero, Null, Pointing, IsLess, Points, IsOfKind, IsStorable}
@@ -93,7 +93,7 @@ module _ (flow : Flow) (objects : ℕ → Ty) (before after : Temporaries) where
     -- 0 is null, a pointer to each type; a pointer stays as it is
     to_null : (to from : ℕ) (kind : IntType) → before from ≡ Some Zero → Gives to (Some Null) before after → IsTypedOperation (op.Convert to from (of.Int kind) of.Pointer)
     to_pointer : (to from : ℕ) → Gives to (before from) before after → IsTypedOperation (op.Convert to from of.Pointer of.Pointer)
-    calls : (to : Option ℕ) (name : _) (arguments : _) (newest : _) (size : _) → IsPlainOperation (op.Library to name arguments newest size) → GivesIf to None before after → IsTypedOperation (op.Library to name arguments newest size)
+    calls : (to : Option ℕ) (name : _) (arguments : _) (newest : _) (size : _) → is_plain_library name ≡ true → GivesIf to None before after → IsTypedOperation (op.Library to name arguments newest size)
     enters : (base : ℕ) → IsKept before after → IsTypedOperation (op.Enter base)
     leaves_object : (base : ℕ) → IsKept before after → IsTypedOperation (op.Leave base)
     forgets : (base : ℕ) → IsKept before after → IsTypedOperation (op.Forget base)
@@ -164,9 +164,3 @@ pub record IsTypedProgram (flow : Flow) (u : UnitView) (typing : Typing) : Type 
   pub steps : (block at : ℕ) (i : Instruction) → slice_get (instructions_of flow block) at ≡ Some i → IsTypedOperation flow typing.objects (typing.known block at) (typing.known block (suc at)) i.operation
   -- an edge is taken behind an instruction that ends its block
   pub edges : (block at : ℕ) (i : Instruction) (e : EdgeView) → slice_get (instructions_of flow block) at ≡ Some i → (leads i.operation ≡ On → ⊥) → Contains (edges_of (flow_view flow) (block_of (flow_view flow) block)) e → IsTypedWay e.taken (typing.known block (suc at)) (typing.known e.to 0)
-
--- ---- the law
-
--- in the run of a typed program under no numbers of the outside each access is of the type of what lies there
-abbrev pub TypedProgramsHaveTypedAccesses : Type 0
-TypedProgramsHaveTypedAccesses = (flow : Flow) (u : UnitView) (typing : Typing) → IsTypedProgram flow u typing → HasTypedAccesses flow u

@@ -16,7 +16,7 @@ use Rattle.flow_program_types_layouts.specs.TypeBytes.{ScalarByte, own_struct, m
 use Rattle.flow_program_types_layouts.specs.StandingTypes.{AreLaidOut, Stands}
 use Rattle.flow_program_types_layouts.specs.LeafTypes.{IsLeafOf, HasScalar}
 use Rattle.flow_program_types_layouts.specs.TypedPrograms.{structs_of}
-use Rattle.flow_program_types_layouts.specs.CopyLaws.{StructuresHaveLeaves}
+use Rattle.flow_program_types_leaves.specs.StructureLeaves.{StructuresHaveLeaves}
 use Rattle.flow_program_types_leaves.proofs.ByteEnds.{scalar_ends}
 use Rattle.flow_program_types_leaves.proofs.ScalarLeaves.{scalars_are_leaves, leaves_are_scalars}
 use Rattle.flow_program_types_leaves.proofs.EmptyTypes.{no_bytes}

@@ -1,5 +1,5 @@
 //! Where arrays have few elements, the leaves of a type are its scalars, and those of a structure in it are its own.
-ghost use Rattle.flow_program_types_layouts.specs.CopyLaws.{StructuresHaveLeaves};
+ghost use Rattle.flow_program_types_leaves.specs.StructureLeaves.{StructuresHaveLeaves};
 ghost use Rattle.flow_program_types_layouts.specs.LeafTypes.{ScalarsAreLeaves, LeavesAreScalars};
 
 /// Each byte of a scalar is one of a leaf, and each leaf is a scalar, alone at its place, where structures of a data model

@@ -13,7 +13,7 @@ use Rattle.c_layout.specs.declared.checked_tree.checked_units.StaticValue.TheVar
 use Rattle.lib_models_memory.specs.Labels.{no_labels}
 use Rattle.lib_models_memory.specs.Bytes.{into, Content, number, Byte}
 use Rattle.lib_models_memory.specs.Instances.{automatic, Instance, Memory, bytes_of}
-use Rattle.lib_models_effects.specs.Worlds.{World, goes, world_of, behind, done, drawn_in, drawn_from, drawn}
+use Rattle.lib_models_effects.specs.Worlds.{World, goes, world_of, done, drawn_in, drawn_from, drawn}
 use Rattle.lib_models_effects.specs.ObjectEffects.{fresh, all_of, characters}
 use Rattle.lib_models_effects.specs.ScalarBytes.{bits_in, refilled}
 use Rattle.lib_models_effects.specs.Touches.{storage_of, is_allocated}

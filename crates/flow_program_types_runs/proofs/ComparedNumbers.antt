@@ -1,5 +1,5 @@
 -- Comparisons of numbers, and conversions, which keep memory.
-use Rattle.std.proofs.Common.{ℤ, pos, refl}
+use Rattle.std.proofs.Common.{pos, refl}
 use Rattle.std.specs.Ordering.{int_eq}
 use Rattle.cc_base.specs.declared.integer_operators.Rel.{Rel}
 use Rattle.flow_program.specs.declared.machine_instructions.Scalar as declared

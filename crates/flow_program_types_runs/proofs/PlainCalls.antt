@@ -1,12 +1,12 @@
 -- Calls of the few functions that plain programs call leave memory as it is.
-use Rattle.std.proofs.Common.{ℕ, List, Option, Some}
+use Rattle.std.proofs.Common.{◌≡◌, ℕ, true, List, Option, Some}
 use Rattle.c_layout.specs.declared.data_model.Model.{Model}
 use Rattle.c_layout.specs.declared.library_functions.LibFn.{LibFn}
 use Rattle.c_layout.specs.declared.library_functions.LibFn.TheVariants as f
 use Rattle.lib_models_memory.specs.Scalars.{Scalar}
 use Rattle.lib_models_effects.specs.LibraryCalls.{putchar, character_call, with_result, library}
 use Rattle.lib_models_effects.specs.Worlds.{World, Reply, goes}
-use Rattle.abstract_steps_single.specs.SingleLaws.{IsPlainFunction}
+use Rattle.flow_lower_plain.specs.PlainTerms.{is_plain_library}
 use Rattle.ref_machine_memory.specs.GoingWorlds.{Keeps, Same, Tells, Told}
 use Rattle.ref_machine_memory.proofs.Calling.{putchar_tells, character_call_tells}
 use Rattle.ref_machine_memory.proofs.Replies.{when_behind}
@@ -18,7 +18,7 @@ module _ (w : World) where
   character_keeps : (name : LibFn) (vs : List Scalar) → Keeps w.memory (with_result (character_call name vs w))
   character_keeps name vs = result_keeps (character_call name vs w) (character_call_tells name vs w)
 
-pub library_keeps : (m : Model) (size : Option ℕ) (name : LibFn) → IsPlainFunction name → (vs : List Scalar) (w : World) → Keeps w.memory (library m size name vs w)
+pub library_keeps : (m : Model) (size : Option ℕ) (name : LibFn) → is_plain_library name ≡ true → (vs : List Scalar) (w : World) → Keeps w.memory (library m size name vs w)
 library_keeps m size f.Putchar plain vs w = result_keeps w (putchar vs w) (putchar_tells vs w)
 library_keeps m size f.Exit plain vs w = tt
 library_keeps m size f.Abort plain vs w = tt
@@ -30,4 +30,4 @@ library_keeps m size f.Islower plain vs w = character_keeps w f.Islower vs
 library_keeps m size f.Isalnum plain vs w = character_keeps w f.Isalnum vs
 library_keeps m size f.Toupper plain vs w = character_keeps w f.Toupper vs
 library_keeps m size f.Tolower plain vs w = character_keeps w f.Tolower vs
-library_keeps m size _ plain vs w = absurd plain
+library_keeps m size _ plain vs w = absurd (cc)

@@ -2,7 +2,8 @@
 use Rattle.flow_program_types.specs.StandingTypes.{TypesStandInThemselves, StandingIsTransitive, ElementsStand}
 use Rattle.flow_program_types.specs.LeafTypes.{ScalarsAreLeaves}
 use Rattle.flow_program_types.specs.EffectLaws.{NarrowsAreTyped, ShiftsAreTyped, LoadsAreTyped, StoresKeepTypes, CopiesKeepTypes, EntersKeepTypes, LeavesKeepTypes, ForgetsKeepTypes, ClearsKeepTypes, SpellsKeepTypes, TestsKeepTypes, CasesKeepTypes, StartsAreTyped}
-use Rattle.flow_program_types.specs.CopyLaws.{StructuresAreApart, StructuresHaveLeaves}
+use Rattle.flow_program_types.specs.CopyLaws.{StructuresAreApart}
+use Rattle.flow_program_types_leaves.specs.StructureLeaves.{StructuresHaveLeaves}
 
 pub record TypeLaws : Type 0 where
   pub themselves : TypesStandInThemselves

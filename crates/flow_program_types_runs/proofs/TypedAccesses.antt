@@ -22,7 +22,7 @@ use Rattle.flow_program_machine.specs.FlowStates.{Standing}
 use Rattle.store_domain_sound.specs.Scalars.{signed_in}
 use Rattle.abstract_steps_single_copies.specs.TypedAccesses.{IsAtLeaf, PointsToKind}
 use Rattle.abstract_steps_single_copies.specs.TypedCopies.{PointsToStruct, AreOneOrApart}
-use Rattle.flow_program_types.specs.SingleRuns.{IsTypedStep}
+use Rattle.abstract_steps_single_runs.specs.SingleRuns.{IsTypedStep}
 use Rattle.flow_program_types.specs.TypeBytes.{scalar_byte}
 use Rattle.flow_program_types.specs.StandingTypes.{AreLaidOut, Stands}
 use Rattle.flow_program_types.specs.LeafTypes.{HasLeaf}

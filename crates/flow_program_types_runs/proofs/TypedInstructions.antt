@@ -1,5 +1,5 @@
 -- Each instruction of a typed program that does not end its block leaves a typed state, where the run goes on.
-use Rattle.std.proofs.Common.{◌≡◌, ℕ, suc, ◌+◌, ◌*◌, ◌<◌, Bool, Option, Some, None, List, length, arith, subst, sym, refl, ap, ◌∙◌, inl, inr}
+use Rattle.std.proofs.Common.{◌≡◌, ℕ, suc, ◌+◌, ◌*◌, ◌<◌, Bool, true, Option, Some, None, List, length, arith, subst, sym, refl, ap, ◌∙◌, inl, inr}
 use Rattle.std.specs.Prelude.{pos, slice_get}
 use Rattle.std.specs.Ordering.{int_eq}
 use Rattle.std.proofs.lemmas.Bool.{cases_eq}
@@ -33,7 +33,7 @@ use Rattle.flow_program_views.specs.ProgramViews.{FlowView, flow_view}
 use Rattle.flow_program_machine.specs.FlowStates.{Standing, if_some, put, next, size_in, base_size}
 use Rattle.flow_program_machine.specs.FlowActs.{giving, making, keeping, storing, put_result, calling, with_amount, addressing, enter, entering, leaving, changing, struct_leaves, struct_size}
 use Rattle.flow_program_machine.specs.FlowSteps.{act_step}
-use Rattle.abstract_steps_single.specs.SingleLaws.{IsPlainFunction}
+use Rattle.flow_lower_plain.specs.PlainTerms.{is_plain_library}
 use Rattle.ref_machine_memory.specs.GoingWorlds.{WhenGoing, Keeps, Same}
 use Rattle.ref_machine_memory.proofs.Replies.{when_more, when_behind, when_either}
 use Rattle.ref_machine_memory.proofs.Computing.{binary_keeps, unary_keeps, negation_keeps, difference_keeps, compare_keeps}
@@ -210,7 +210,7 @@ module _ (laws : TypeLaws) (flow : Flow) (laid : AreLaidOut flow.model (structs_
     result_goes (Some to) gives None w same = tt
     result_goes None kept (Some v) w same = tt
 
-    called : (to : Option ℕ) (name : LibFn) (size : Option ℕ) → IsPlainFunction name → GivesIf to None before after → (vs : List Scalar) → Goes (calling s to (library m size name vs s.world))
+    called : (to : Option ℕ) (name : LibFn) (size : Option ℕ) → is_plain_library name ≡ true → GivesIf to None before after → (vs : List Scalar) → Goes (calling s to (library m size name vs s.world))
     called to name size plain gives vs = when_behind (Same s.world.memory) (IsNext after s) (library m size name vs s.world) (put_result s to) (library_keeps m size name plain vs s.world) (λ r w same. result_goes to gives r w same)
 
     -- ---- objects

@@ -1,7 +1,8 @@
 -- In the run of a typed program under no numbers of the outside each access is of the type of what lies there.
 use Rattle.std.proofs.Common.{suc, subst}
 use Rattle.flow_program_types.specs.TypedStates.{IsTyped}
-use Rattle.flow_program_types.specs.TypedPrograms.{structs_of, TypedProgramsHaveTypedAccesses}
+use Rattle.flow_program_types.specs.TypedPrograms.{structs_of}
+use Rattle.flow_program_types_runs.specs.TypedRuns.{TypedProgramsHaveTypedAccesses}
 use Rattle.flow_program_types_runs.proofs.TypeLaws.{TypeLaws}
 use Rattle.flow_program_types_runs.proofs.TypedAccesses.{access_typed}
 use Rattle.flow_program_types_runs.proofs.TypedRuns.{IsTypedRun, run_typed}
