@@ -29,7 +29,7 @@ use Rattle.flow_lower_typed.proofs.KeptKnowledge.{less_same, IsLessIf, less_if_s
 use Rattle.flow_lower_typed_laws.proofs.StoredValues.{never, IsScalarOf, scalar_of_type, scalar_local, type_of_object}
 use Rattle.flow_lower_typed_laws.proofs.FollowingWorks.{Asks, Asked, Looks, IsAround, Flowing, flowing_none, flowing_weaker, flowing_settled, flowing_work, flowing_name, flowing_labels, flowing_do, flowing_mark, flowing_or}
 use Rattle.flow_lower_typed_laws.proofs.FollowingParts.{base_here, addressed, flowing_entered, flowing_left, flowing_stopped}
-use Rattle.flow_lower_typed_laws.proofs.FollowingStatements.{flowing_statements}
+use Rattle.flow_lower_typed_laws.proofs.FollowingSelections.{flowing_statements}
 
 -- ---- bodies
 
@@ -40,11 +40,11 @@ no_number n less = absurd (no n less)
     no n less = omega (arith, less)
 
 -- no switch is around a body
-pub body_within : (f : FunctionView) (s : SettingView) (ds : List Dispatch) (K : Asks) (top : ℕ) → ((l : ℕ) → l < f.labels → K l nothing) → K s.end nothing → IsAround f s ds K top 0 false s.end 0
-body_within f s ds K top own end = record { own = own; end = end; broken = end; begun = λ is. never is; cases = λ n less. no_number n less; fallback = λ is. never is }
+pub body_within : (f : FunctionView) (s : SettingView) (ds : List Dispatch) (K : Asks) (top : ℕ) → ((l : ℕ) → l < f.labels → K l nothing) → K s.end nothing → IsAround f s ds K top 0 false s.end s.end 0
+body_within f s ds K top own end = record { own = own; end = end; broken = end; continued = end; begun = λ is. never is; cases = λ n less. no_number n less; fallback = λ is. never is }
 
 module _ {u : UnitView} {f : FunctionView} {calls : ℕ → Bool} {s : SettingView} {ds : List Dispatch} {used : Bool} {K : Asks} {first top : ℕ} where
-  flowing_body : {low : ℕ} {from : State} (p : Plan) → Looks u f calls 0 false (list (statement_trees f.body)) → ((last : ℕ) → low ≤ last → IsAround f s ds (Asked K first last) top 0 false s.end 0) → Flowing u f calls s ds used K first top low from (Some nothing) p
+  flowing_body : {low : ℕ} {from : State} (p : Plan) → Looks u f calls 0 false (list (statement_trees f.body)) → ((last : ℕ) → low ≤ last → IsAround f s ds (Asked K first last) top 0 false s.end s.end 0) → Flowing u f calls s ds used K first top low from (Some nothing) p
       → Flowing u f calls s ds used K first top low from (Some nothing) (body s f p)
   flowing_body p looks within k = flowing_left s.at f.scope _ (flowing_statements (statement_trees f.body) (outermost s.end) (all_entered s.at f.scope p) looks within (flowing_entered s.at f.scope p k))
 
@@ -205,7 +205,7 @@ second_below n last le = omega (arith, le)
 module _ (u : UnitView) (f : FunctionView) (calls : ℕ → Bool) (s : SettingView) (ds : List Dispatch) (used : Bool) (top : ℕ) (looks : Looks u f calls 0 false (list (statement_trees f.body))) (end_is : s.end ≡ f.labels) where
   pub flowing_entry : Flowing u f calls s ds used (entry_asks f) (f.labels + 1) top (f.labels + 1) (Some nothing) None (entry s f (no_plan f.labels))
   flowing_entry =
-      let within : (last : ℕ) → f.labels + 1 ≤ last → IsAround f s ds (Asked (entry_asks f) (f.labels + 1) last) top 0 false s.end 0 = λ last few. body_within f s ds (Asked (entry_asks f) (f.labels + 1) last) top (λ l less. inl (less_le l f.labels less, refl)) (inl (same_le s.end f.labels end_is, refl)) in
+      let within : (last : ℕ) → f.labels + 1 ≤ last → IsAround f s ds (Asked (entry_asks f) (f.labels + 1) last) top 0 false s.end s.end 0 = λ last few. body_within f s ds (Asked (entry_asks f) (f.labels + 1) last) top (λ l less. inl (less_le l f.labels less, refl)) (inl (same_le s.end f.labels end_is, refl)) in
       flowing_stopped s.at (body s f (no_plan f.labels)) (flowing_body (no_plan f.labels) looks within (flowing_none (Some nothing) (no_plan f.labels) refl))
 
   pub flowing_called : f.parameters ≤ length f.locals → list_all is_scalar (local_types (take f.parameters f.locals)) ≡ true → (is_void f.returns || is_scalar f.returns) ≡ true → AreBelow f.parameters s.parameters
@@ -213,7 +213,7 @@ module _ (u : UnitView) (f : FunctionView) (calls : ℕ → Bool) (s : SettingVi
   flowing_called few scalars result all =
       let n = f.labels + 1 in
       let p = no_plan f.labels in
-      let within : (last : ℕ) → n + 2 ≤ last → IsAround f s ds (Asked (called_asks f) (n + 1) last) top 0 false s.end 0 = λ last le. body_within f s ds (Asked (called_asks f) (n + 1) last) top (λ l less. inl (inl (less_le l f.labels less, refl))) (inl (inl (same_le s.end f.labels end_is, refl))) in
+      let within : (last : ℕ) → n + 2 ≤ last → IsAround f s ds (Asked (called_asks f) (n + 1) last) top 0 false s.end s.end 0 = λ last le. body_within f s ds (Asked (called_asks f) (n + 1) last) top (λ l less. inl (inl (less_le l f.labels less, refl))) (inl (inl (same_le s.end f.labels end_is, refl))) in
       let start : Flowing u f calls s ds used (called_asks f) (n + 1) top (n + 2) (Some (parameters_known f)) (Some (parameters_known f)) (with_labels 2 p) = flowing_labels 2 p (flowing_none (Some (parameters_known f)) p refl) in
       let marked = flowing_work (Some (parameters_known f)) (jobs.Ready (Mark n)) (with_labels 2 p) (λ names last extends le labels meets. by labels (meets n (parameters_known f) (inl (inr (refl, refl))))) start in
       let entered = flowing_settled _ (flowing_parameters u f few scalars _ all marked) in

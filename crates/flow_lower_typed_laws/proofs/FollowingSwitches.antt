@@ -9,7 +9,7 @@ use Rattle.flow_program.specs.declared.machine_instructions.Scalar.{Scalar}
 use Rattle.flow_program.specs.declared.machine_instructions.Scalar.TheVariants as scalar
 use Rattle.flow_lower_conditions.specs.Tests.{named}
 use Rattle.flow_lower_conditions.specs.declared.branch_tests.NamedObject.{NamedObject}
-use Rattle.flow_lower_plain.specs.PlainStatements.{is_plain_statement}
+use Rattle.flow_lower_looped.specs.LoopedStatements.{is_looped_statement}
 use Rattle.flow_lower_plain.specs.PlainTerms.{is_plain_term}
 use Rattle.flow_lower_plain_laws.proofs.LeadingSwitches.{own_dispatch}
 use Rattle.flow_lower_plain_works.specs.LeadingPieces.{AllTo}
@@ -207,10 +207,10 @@ module _ (u : UnitView) (f : FunctionView) (calls : ℕ → Bool) (s : SettingVi
   body_looks : (count : ℕ) (chosen : Bool) → Looks u f calls count chosen whole → IsLookedAt u f calls (jobs.Value e 0) × Looks u f calls (length cases) true body
   body_looks count chosen g =
       let x = both_true (is_typed_term u f e) (is_typed_statement u f body) g.typed in
-      let y = both_true (is_plain_term calls e) (is_plain_statement calls g.later true body) g.plain in
-      let z = both_true (is_regular_switch u f e) (is_regular_statement u f true g.looped body) g.regular in
+      let y = both_true (is_plain_term calls e) (is_looped_statement calls body) g.looped in
+      let z = both_true (is_regular_switch u f e) (is_regular_statement u f true g.loops body) g.regular in
       let r = both_true (is_regular_named u f (named e)) (is_regular_term u f true 0 e) z.0 in
-      ((x.0, y.0, r.1), record { typed = x.1; later = g.later; breaks = true; plain = y.1; inside = true; looped = g.looped; regular = z.1; numbered = g.numbered })
+      ((x.0, y.0, r.1), record { typed = x.1; looped = y.1; breaks = true; loops = g.loops; regular = z.1; numbered = g.numbered })
 
   pub flowing_switch : p.jobs ≡ [] → (begin_switch (length cases) around.scope p).after.labels ≤ 2 ^ 32 - 1 → get_or ds (length p.dispatches) no_dispatch ≡ own_dispatch (length cases) p → length p.dispatches < top → Goes u f calls s ds K b whole around
       → Flowing u f calls s ds used K p.labels top p.labels (Some nothing) (Some nothing) (switch s at e cases body around p)
@@ -248,6 +248,7 @@ module _ (u : UnitView) (f : FunctionView) (calls : ℕ → Bool) (s : SettingVi
           own = λ l less. inl (g.within.own l less);
           end = inl g.within.end;
           broken = end_there last le;
+          continued = inl g.within.continued;
           begun = λ is. subst (λ c. c < top) (sym (begins_choice n around.scope p)) up;
           cases = λ i less. subst (λ (x : Dispatch). A last (behind x.cases i)) (sym own) (case_there last le i less);
           fallback = λ is. subst (λ (x : Dispatch). A last x.fallback) (sym own) (fallback_there last le);

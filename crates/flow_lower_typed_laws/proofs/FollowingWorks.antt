@@ -2,7 +2,7 @@
 use Rattle.std.proofs.Common.{◌≡◌, ◌≤◌, ◌<◌, ◌⊎◌, ℕ, zero, suc, ◌+◌, Bool, true, false, cond, List, [], ◌∷◌, ◌++◌, length, get_or, Some, None, slice_get, refl, arith, sym, subst}
 use Rattle.c_layout.specs.CheckedTrees.{TermTree, LvalueTree, StatementTree}
 use Rattle.c_layout.specs.CheckedUnits.{FunctionView, UnitView}
-use Rattle.flow_lower_plain.specs.PlainStatements.{is_plain_statement}
+use Rattle.flow_lower_looped.specs.LoopedStatements.{is_looped_statement}
 use Rattle.flow_lower_plain_works.specs.LeadingPieces.{AllTo}
 use Rattle.flow_lower_plain_works.proofs.LeadingWorks.{all_more}
 use Rattle.flow_lower_statements.specs.Switches.{no_dispatch}
@@ -46,29 +46,29 @@ module _ (u : UnitView) (f : FunctionView) (calls : ℕ → Bool) where
   -- a statement that passes the looks
   pub record Looks (count : ℕ) (chosen : Bool) (i : StatementTree) : Type 0 where
     pub typed : is_typed_statement u f i ≡ true
-    pub later : ℕ → Bool
+    pub looped : is_looped_statement calls i ≡ true
     pub breaks : Bool
-    pub plain : is_plain_statement calls later breaks i ≡ true
-    pub inside : Bool
-    pub looped : Bool
-    pub regular : is_regular_statement u f inside looped i ≡ true
+    pub loops : Bool
+    pub regular : is_regular_statement u f breaks loops i ≡ true
     pub numbered : IsNumbered f.labels count chosen i
 
 module _ (f : FunctionView) (s : SettingView) (ds : List Dispatch) (K : Asks) (top count : ℕ) (chosen : Bool) where
   -- where a statement may lead nothing is to be known: the switch around it has so many cases, or there is none
-  pub record IsAround (on_break choice : ℕ) : Type 0 where
+  pub record IsAround (on_break on_continue choice : ℕ) : Type 0 where
     pub own : (l : ℕ) → l < f.labels → K l nothing
     pub end : K s.end nothing
     pub broken : K on_break nothing
+    pub continued : K on_continue nothing
     pub begun : chosen ≡ true → choice < top
     pub cases : (n : ℕ) → n < count → K (behind (get_or ds choice no_dispatch).cases n) nothing
     pub fallback : chosen ≡ true → K (get_or ds choice no_dispatch).fallback nothing
 
-pub around_more : {f : FunctionView} {s : SettingView} {ds : List Dispatch} {K M : Asks} {top higher count : ℕ} {chosen : Bool} {on_break choice : ℕ} → ((l : ℕ) (k : Temporaries) → K l k → M l k) → top ≤ higher → IsAround f s ds K top count chosen on_break choice → IsAround f s ds M higher count chosen on_break choice
-around_more {f = f} {s = s} {ds = ds} {top = top} {higher = higher} {on_break = on_break} {choice = choice} more up x = record {
+pub around_more : {f : FunctionView} {s : SettingView} {ds : List Dispatch} {K M : Asks} {top higher count : ℕ} {chosen : Bool} {on_break on_continue choice : ℕ} → ((l : ℕ) (k : Temporaries) → K l k → M l k) → top ≤ higher → IsAround f s ds K top count chosen on_break on_continue choice → IsAround f s ds M higher count chosen on_break on_continue choice
+around_more {f = f} {s = s} {ds = ds} {top = top} {higher = higher} {on_break = on_break} {on_continue = on_continue} {choice = choice} more up x = record {
   own = λ l less. more l nothing (x.own l less);
   end = more s.end nothing x.end;
   broken = more on_break nothing x.broken;
+  continued = more on_continue nothing x.continued;
   begun = λ is. less_on choice top higher (x.begun is) up;
   cases = λ n less. more (behind (get_or ds choice no_dispatch).cases n) nothing (x.cases n less);
   fallback = λ is. more (get_or ds choice no_dispatch).fallback nothing (x.fallback is);
@@ -84,7 +84,7 @@ module _ (u : UnitView) (f : FunctionView) (calls : ℕ → Bool) (s : SettingVi
     pub count : ℕ
     pub chosen : Bool
     pub looks : Looks u f calls count chosen i
-    pub within : IsAround f s ds K top count chosen around.on_break.label around.choice
+    pub within : IsAround f s ds K top count chosen around.on_break.label around.on_continue.label around.choice
 
   module _ (used : Bool) (names : List NameView) where
     -- what is known before a work and behind it, whatever is known at other labels

@@ -5,6 +5,8 @@ pub mod NumberedLabels
 pub mod FollowingWorks
 pub mod FollowingParts
 pub mod FollowingSwitches
+pub mod FollowingSelections
+pub mod FollowingLoops
 pub mod FollowingStatements
 pub mod FollowingFunctions
 pub mod TypedTemplates

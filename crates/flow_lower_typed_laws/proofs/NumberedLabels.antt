@@ -11,6 +11,9 @@ abbrev mutual
   IsNumbered labels count chosen (tree.Block objects items) = AreNumbered labels count chosen items
   IsNumbered labels count chosen (tree.If e body) = IsNumbered labels count chosen body
   IsNumbered labels count chosen (tree.IfElse e first second) = IsNumbered labels count chosen first × IsNumbered labels count chosen second
+  IsNumbered labels count chosen (tree.While e body) = IsNumbered labels count chosen body
+  IsNumbered labels count chosen (tree.Do body e) = IsNumbered labels count chosen body
+  IsNumbered labels count chosen (tree.For objects first e step body) = AreNumbered labels count chosen first × IsNumbered labels count chosen body
   IsNumbered labels count chosen (tree.Switch at e cases has_default values body) = IsNumbered labels (length cases) true body
   IsNumbered labels count chosen (tree.Case n body) = (n < count) × (chosen ≡ true) × IsNumbered labels count chosen body
   IsNumbered labels count chosen (tree.Default body) = (chosen ≡ true) × IsNumbered labels count chosen body
@@ -62,9 +65,12 @@ module _ (labels : ℕ) where
       numbered count chosen first (λ n some. l n (first_some (labels_in n first) (labels_in n second) some)) (λ n some. c n (first_some (cases_in n first) (cases_in n second) some)) (λ some. d (first_some (defaults_in first) (defaults_in second) some)) x.0,
       numbered count chosen second (λ n some. l n (second_some (labels_in n first) (labels_in n second) some)) (λ n some. c n (second_some (cases_in n first) (cases_in n second) some)) (λ some. d (second_some (defaults_in first) (defaults_in second) some)) x.1,
     )
-    numbered count chosen (tree.While e body) l c d x = tt
-    numbered count chosen (tree.Do body e) l c d x = tt
-    numbered count chosen (tree.For objects first e step body) l c d x = tt
+    numbered count chosen (tree.While e body) l c d x = numbered count chosen body l c d x
+    numbered count chosen (tree.Do body e) l c d x = numbered count chosen body l c d x
+    numbered count chosen (tree.For objects first e step body) l c d x = (
+      all_numbered count chosen first (λ n some. l n (first_some (all_labels_in n first) (labels_in n body) some)) (λ n some. c n (first_some (all_cases_in n first) (cases_in n body) some)) (λ some. d (first_some (all_defaults_in first) (defaults_in body) some)) x.0,
+      numbered count chosen body (λ n some. l n (second_some (all_labels_in n first) (labels_in n body) some)) (λ n some. c n (second_some (all_cases_in n first) (cases_in n body) some)) (λ some. d (second_some (all_defaults_in first) (defaults_in body) some)) x.1,
+    )
     numbered count chosen (tree.Switch at e cases has_default values body) l c d x = numbered (length cases) true body l (λ n some. (below_some n (length cases) (cases_in n body) (x.0.cases n) some, refl)) (λ some. refl) x.1
     numbered count chosen (tree.Case n body) l c d x =
         let this = c n (this_one n (cases_in n body)) in

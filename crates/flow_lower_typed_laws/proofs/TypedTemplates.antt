@@ -10,7 +10,6 @@ use Rattle.flow_lower_functions.specs.Functions.{function, entry, called, settin
 use Rattle.flow_lower_functions.specs.Turns.{planless}
 use Rattle.flow_lower_growth.specs.Growth.{Grows}
 use Rattle.flow_lower_growth.proofs.GrowingWorks.{grows, grows_parts, jobs_none}
-use Rattle.flow_lower_plain.specs.PlainUnits.{no_label}
 use Rattle.flow_lower_plain_laws.proofs.LeadingForms.{Within, within_before}
 use Rattle.flow_lower_plain_laws.proofs.LeadingStatements.{list}
 use Rattle.flow_lower_statements.specs.Statements.{statement}
@@ -222,14 +221,14 @@ module _ (u : UnitView) (f : FunctionView) (calls : ℕ → Bool) (s : SettingVi
 -- ---- templates
 
 pub templates_are_typed : WorksAreTyped → TypesStandWhereTheyBegin → TemplatesAreTyped
-templates_are_typed typed stand u f calls is_entry t laid is few look regular plain used = by is_entry is
+templates_are_typed typed stand u f calls is_entry t laid is few look regular looped used = by is_entry is
   where
     looks : Looks u f calls 0 false (list (statement_trees f.body))
     looks =
         let x = both_true (has_scalars f) (are_typed_statements u f (statement_trees f.body)) look in
         let y = both_true (is_numbered f) (has_own_objects f && are_regular_statements u f false false (statement_trees f.body)) regular in
         let z = both_true (has_own_objects f) (are_regular_statements u f false false (statement_trees f.body)) y.1 in
-        record { typed = x.1; later = no_label; breaks = false; plain = plain; inside = false; looped = false; regular = z.1; numbered = body_numbered f (function_labelled f (labels_once f y.0)) }
+        record { typed = x.1; looped = looped; breaks = false; loops = false; regular = z.1; numbered = body_numbered f (function_labelled f (labels_once f y.0)) }
 
     there : f.parameters ≤ length f.locals
     there =
