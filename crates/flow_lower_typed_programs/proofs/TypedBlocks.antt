@@ -1,14 +1,12 @@
 -- A program while it is opened: each instruction so far keeps to what is known, and each edge leads to a label at which
--- no more is known, and which a copy has marked or is still to mark.
-use Rattle.std.proofs.Common.{◌≡◌, ◌≤◌, ◌<◌, ◌⊎◌, inl, inr, ℕ, zero, suc, ◌+◌, ◌==◌, true, false, List, [], ◌∷◌, ◌++◌, length, get_or, Option, Some, None, slice_get, refl, arith, ap, sym, subst, ◌∙◌, length-append}
+-- no more is known. A label that is still to be marked stands at the first block, before which nothing is known.
+use Rattle.std.proofs.Common.{◌≡◌, ◌≤◌, ◌<◌, ◌⊎◌, inl, inr, ℕ, zero, suc, ◌+◌, ◌-◌, ◌==◌, true, false, List, [], ◌∷◌, ◌++◌, length, replicate, get_or, Option, Some, None, slice_get, refl, arith, ap, sym, subst, ◌∙◌, length-append}
 use Rattle.std.specs.List.{slice_set}
-use Rattle.std.proofs.lemmas.Bool.{cases_eq}
-use Rattle.std.proofs.lemmas.List.{get_or-set_same, get_or-set_other, get_or_append_left, length-set}
+use Rattle.std.proofs.lemmas.Bool.{cases_eq, cases_lt}
+use Rattle.std.proofs.lemmas.List.{get_or-set_same, get_or-set_other, get_or_append_left, get_or-append_right, length-set}
 use Rattle.std.proofs.lemmas.Option.{same_Some, slice_get_within}
 use Rattle.c_layout.specs.CheckedUnits.{UnitView}
 use Rattle.c_layout.specs.Types.{Ty}
-use Rattle.flow_lower.specs.Openings.{CopyView}
-use Rattle.flow_lower_plain_works.specs.LeadingPieces.{Marked, NoLabel}
 use Rattle.flow_lower_tasks.specs.Acts.{Act, Step}
 use Rattle.flow_program_types.specs.PointedTypes.{Known}
 use Rattle.flow_program_types.specs.TypedPrograms.{IsKept, IsTypedWay}
@@ -53,21 +51,34 @@ pub edges_append : (P : EdgeView → Type 0) (xs : List EdgeView) (x : EdgeView)
 edges_append P [] x all one = (one, tt)
 edges_append P (y ∷ xs) x (first, all) one = (first, edges_append P xs x all one)
 
--- a copy is still to mark a label of the program
-abbrev pub Awaited : List CopyView → ℕ → Type 0
-Awaited [] l = ⊥
-Awaited (c ∷ cs) l = ((k : ℕ) × (l ≡ k + c.labels) × Marked c.rest NoLabel k) ⊎ Awaited cs l
-
 -- a label is that of a block so far, before which no more is known
 pub record IsSettled (at : ℕ → Temporaries) (count : ℕ) (first : ℕ → Temporaries) (labels : List ℕ) (l : ℕ) : Type 0 where
   pub there : get_or labels l 0 ≤ count
   pub kept : IsKept (at l) (first (get_or labels l 0))
 
-pub record IsTypedEdge (at : ℕ → Temporaries) (A : ℕ → Type 0) (count bound : ℕ) (first last : ℕ → Temporaries) (labels : List ℕ) (e : EdgeView) : Type 0 where
+pub record IsTypedEdge (at : ℕ → Temporaries) (bound : ℕ) (last : ℕ → Temporaries) (labels : List ℕ) (e : EdgeView) : Type 0 where
   pub there : e.from < bound
   pub room : e.to < length labels
   pub way : IsTypedWay e.taken (last e.from) (at e.to)
-  pub leads : IsSettled at count first labels e.to ⊎ A e.to
+
+-- a label at the first block
+pub settled_first : (at : ℕ → Temporaries) (count : ℕ) (first : ℕ → Temporaries) (labels : List ℕ) (l : ℕ) → ((t : ℕ) → first 0 t ≡ None) → get_or labels l 0 ≡ 0 → IsSettled at count first labels l
+settled_first at count first labels l none is = record { there = subst (λ n. n ≤ count) (sym is) (from_zero count); kept = subst (λ n. IsKept (at l) (first n)) (sym is) (λ t k there. absurd (no k (sym (none t) ∙ there))) }
+  where
+    from_zero : (n : ℕ) → 0 ≤ n
+    from_zero n = omega arith
+
+    no : (k : Known) → None ≡ Some k → ⊥
+    no k e = cc
+
+zero_repeated : (n l : ℕ) → get_or (replicate {A = ℕ} n 0) l 0 ≡ 0
+zero_repeated zero l = refl
+zero_repeated (suc n) zero = refl
+zero_repeated (suc n) (suc l) = zero_repeated n l
+
+-- new labels stand at the first block
+zero_behind : (labels : List ℕ) (n l : ℕ) → length labels ≤ l → get_or (labels ++ replicate n 0) l 0 ≡ 0
+zero_behind labels n l more = get_or-append_right labels (replicate n 0) (length labels) l 0 refl more ∙ zero_repeated n (l - length labels)
 
 -- ---- instructions
 
@@ -95,67 +106,59 @@ module _ (u : UnitView) where
   -- ---- programs
 
   -- by the parts of a program: so many blocks ended, and edges come from blocks below a number
-  pub record IsTypedMade (types : List Ty) (at : ℕ → Temporaries) (A : ℕ → Type 0) (count bound : ℕ) (first last : ℕ → Temporaries) (now : Temporaries) (blocks : List BlockView) (edges : List EdgeView) (labels : List ℕ) (ready : List Step) : Type 0 where
+  pub record IsTypedMade (types : List Ty) (at : ℕ → Temporaries) (count bound : ℕ) (first last : ℕ → Temporaries) (now : Temporaries) (blocks : List BlockView) (edges : List EdgeView) (labels : List ℕ) (ready : List Step) : Type 0 where
     pub counted : length blocks ≡ count
     pub done : (n : ℕ) (b : BlockView) → slice_get blocks n ≡ Some b → AreTypedSteps types (first n) b.steps (last n)
     pub current : AreTypedSteps types (first count) ready now
-    pub leading : AllEdges (IsTypedEdge at A count bound first last labels) edges
+    pub leading : AllEdges (IsTypedEdge at bound last labels) edges
+    pub settled : (l : ℕ) → IsSettled at count first labels l
     pub begins : (t : ℕ) → first 0 t ≡ None
 
-  module _ (at : ℕ → Temporaries) (A : ℕ → Type 0) (count bound : ℕ) (first last : ℕ → Temporaries) (blocks : List BlockView) (edges : List EdgeView) (labels : List ℕ) where
-    pub made_more : (types more : List Ty) (now : Temporaries) (ready : List Step) → Grows (slice_get types) (slice_get more) → IsTypedMade types at A count bound first last now blocks edges labels ready → IsTypedMade more at A count bound first last now blocks edges labels ready
+  module _ (at : ℕ → Temporaries) (count bound : ℕ) (first last : ℕ → Temporaries) (blocks : List BlockView) (edges : List EdgeView) (labels : List ℕ) where
+    pub made_more : (types more : List Ty) (now : Temporaries) (ready : List Step) → Grows (slice_get types) (slice_get more) → IsTypedMade types at count bound first last now blocks edges labels ready → IsTypedMade more at count bound first last now blocks edges labels ready
     made_more types more now ready grows m = record {
       counted = m.counted;
       done = λ n b is. steps_more types more grows (first n) (last n) b.steps (m.done n b is);
       current = steps_more types more grows (first count) now ready m.current;
       leading = m.leading;
+      settled = m.settled;
       begins = m.begins;
     }
 
-    pub made_weaker : (types : List Ty) (now less : Temporaries) (ready : List Step) → IsKept now less → IsTypedMade types at A count bound first last now blocks edges labels ready → IsTypedMade types at A count bound first last less blocks edges labels ready
-    made_weaker types now less ready kept m = record { counted = m.counted; done = m.done; current = steps_weaker types (first count) now less ready kept m.current; leading = m.leading; begins = m.begins }
+    pub made_weaker : (types : List Ty) (now less : Temporaries) (ready : List Step) → IsKept now less → IsTypedMade types at count bound first last now blocks edges labels ready → IsTypedMade types at count bound first last less blocks edges labels ready
+    made_weaker types now less ready kept m = record { counted = m.counted; done = m.done; current = steps_weaker types (first count) now less ready kept m.current; leading = m.leading; settled = m.settled; begins = m.begins }
 
-    pub made_step : (types : List Ty) (now after : Temporaries) (ready : List Step) (s : Step) → StepKeeps types now after s.does → IsTypedMade types at A count bound first last now blocks edges labels ready → IsTypedMade types at A count bound first last after blocks edges labels (ready ++ s ∷ [])
-    made_step types now after ready s one m = record { counted = m.counted; done = m.done; current = step_added types (first count) now after ready s m.current one; leading = m.leading; begins = m.begins }
+    pub made_step : (types : List Ty) (now after : Temporaries) (ready : List Step) (s : Step) → StepKeeps types now after s.does → IsTypedMade types at count bound first last now blocks edges labels ready → IsTypedMade types at count bound first last after blocks edges labels (ready ++ s ∷ [])
+    made_step types now after ready s one m = record { counted = m.counted; done = m.done; current = step_added types (first count) now after ready s m.current one; leading = m.leading; settled = m.settled; begins = m.begins }
 
-    pub made_edge : (types : List Ty) (now : Temporaries) (ready : List Step) (e : EdgeView) → IsTypedEdge at A count bound first last labels e → IsTypedMade types at A count bound first last now blocks edges labels ready → IsTypedMade types at A count bound first last now blocks (edges ++ e ∷ []) labels ready
-    made_edge types now ready e one m = record { counted = m.counted; done = m.done; current = m.current; leading = edges_append (IsTypedEdge at A count bound first last labels) edges e m.leading one; begins = m.begins }
-
-    -- other labels are awaited
-    pub made_awaited : (B : ℕ → Type 0) → ((l : ℕ) → A l → B l) → (types : List Ty) (now : Temporaries) (ready : List Step) → IsTypedMade types at A count bound first last now blocks edges labels ready → IsTypedMade types at B count bound first last now blocks edges labels ready
-    made_awaited B more types now ready m = record {
-      counted = m.counted;
-      done = m.done;
-      current = m.current;
-      leading = edges_more (IsTypedEdge at A count bound first last labels) (IsTypedEdge at B count bound first last labels) (λ e x. record { there = x.there; room = x.room; way = x.way; leads = by e.to x.leads }) edges m.leading;
-      begins = m.begins;
-    }
-      where
-        by : (l : ℕ) → IsSettled at count first labels l ⊎ A l → IsSettled at count first labels l ⊎ B l
-        by l (inl is) = inl is
-        by l (inr is) = inr (more l is)
+    pub made_edge : (types : List Ty) (now : Temporaries) (ready : List Step) (e : EdgeView) → IsTypedEdge at bound last labels e → IsTypedMade types at count bound first last now blocks edges labels ready → IsTypedMade types at count bound first last now blocks (edges ++ e ∷ []) labels ready
+    made_edge types now ready e one m = record { counted = m.counted; done = m.done; current = m.current; leading = edges_append (IsTypedEdge at bound last labels) edges e m.leading one; settled = m.settled; begins = m.begins }
 
     -- more labels, of which the old ones are known as before
-    pub made_labels : (at_ : ℕ → Temporaries) → ((l : ℕ) → l < length labels → at_ l ≡ at l) → (zeros : List ℕ) (types : List Ty) (now : Temporaries) (ready : List Step) → IsTypedMade types at A count bound first last now blocks edges labels ready → IsTypedMade types at_ A count bound first last now blocks edges (labels ++ zeros) ready
-    made_labels at_ same zeros types now ready m = record {
+    pub made_labels : (at_ : ℕ → Temporaries) → ((l : ℕ) → l < length labels → at_ l ≡ at l) → (more : ℕ) (types : List Ty) (now : Temporaries) (ready : List Step) → IsTypedMade types at count bound first last now blocks edges labels ready → IsTypedMade types at_ count bound first last now blocks edges (labels ++ replicate more 0) ready
+    made_labels at_ same more types now ready m = record {
       counted = m.counted;
       done = m.done;
       current = m.current;
-      leading = edges_more (IsTypedEdge at A count bound first last labels) (IsTypedEdge at_ A count bound first last (labels ++ zeros)) by edges m.leading;
+      leading = edges_more (IsTypedEdge at bound last labels) (IsTypedEdge at_ bound last (labels ++ zeros)) by edges m.leading;
+      settled = λ l. settled l (cases_lt l (length labels));
       begins = m.begins;
     }
       where
+        zeros : List ℕ
+        zeros = replicate more 0
+
         longer : (l a b c : ℕ) → c ≡ a + b → l < a → l < c
         longer l a b c is less = omega (arith, is, less)
 
-        settled : (l : ℕ) → l < length labels → IsSettled at count first labels l ⊎ A l → IsSettled at_ count first (labels ++ zeros) l ⊎ A l
-        settled l room (inr is) = inr is
-        settled l room (inl is) =
+        settled : (l : ℕ) → (l < length labels) ⊎ (length labels ≤ l) → IsSettled at_ count first (labels ++ zeros) l
+        settled l (inr beyond) = settled_first at_ count first (labels ++ zeros) l m.begins (zero_behind labels more l beyond)
+        settled l (inl room) =
             let block = get_or_append_left labels zeros 0 l room in
-            inl (record { there = subst (λ n. n ≤ count) (sym block) is.there; kept = subst (λ n. IsKept (at_ l) (first n)) (sym block) (subst (λ k. IsKept k (first (get_or labels l 0))) (sym (same l room)) is.kept) })
+            record { there = subst (λ n. n ≤ count) (sym block) (m.settled l).there; kept = subst (λ n. IsKept (at_ l) (first n)) (sym block) (subst (λ k. IsKept k (first (get_or labels l 0))) (sym (same l room)) (m.settled l).kept) }
 
-        by : (e : EdgeView) → IsTypedEdge at A count bound first last labels e → IsTypedEdge at_ A count bound first last (labels ++ zeros) e
-        by e x = record { there = x.there; room = longer e.to (length labels) (length zeros) (length (labels ++ zeros)) (length-append labels zeros) x.room; way = subst (IsTypedWay e.taken (last e.from)) (sym (same e.to x.room)) x.way; leads = settled e.to x.room x.leads }
+        by : (e : EdgeView) → IsTypedEdge at bound last labels e → IsTypedEdge at_ bound last (labels ++ zeros) e
+        by e x = record { there = x.there; room = longer e.to (length labels) (length zeros) (length (labels ++ zeros)) (length-append labels zeros) x.room; way = subst (IsTypedWay e.taken (last e.from)) (sym (same e.to x.room)) x.way }
 
   -- ---- the end of a block
 
@@ -165,27 +168,29 @@ module _ (u : UnitView) where
   next_up : (a n : ℕ) → a < n → a < suc n
   next_up a n less = omega (arith, less)
 
-  module _ (at : ℕ → Temporaries) (A : ℕ → Type 0) (count : ℕ) (first last : ℕ → Temporaries) (blocks : List BlockView) (edges : List EdgeView) (labels : List ℕ) (types : List Ty) (now : Temporaries) (ready : List Step) where
+  module _ (at : ℕ → Temporaries) (count : ℕ) (first last : ℕ → Temporaries) (blocks : List BlockView) (edges : List EdgeView) (labels : List ℕ) (types : List Ty) (now : Temporaries) (ready : List Step) where
     -- what is known behind the current block is what is known now: edges may come from it
-    pub made_closing : IsTypedMade types at A count count first last now blocks edges labels ready → IsTypedMade types at A count (suc count) first (changed last count now) now blocks edges labels ready
+    pub made_closing : IsTypedMade types at count count first last now blocks edges labels ready → IsTypedMade types at count (suc count) first (changed last count now) now blocks edges labels ready
     made_closing m = record {
       counted = m.counted;
       done = λ n b is. subst (AreTypedSteps types (first n) b.steps) (sym (changed_else last count now n (apart n count (subst (λ k. n < k) m.counted (slice_get_within blocks n b is))))) (m.done n b is);
       current = m.current;
-      leading = edges_more (IsTypedEdge at A count count first last labels) (IsTypedEdge at A count (suc count) first (changed last count now) labels) by edges m.leading;
+      leading = edges_more (IsTypedEdge at count last labels) (IsTypedEdge at (suc count) (changed last count now) labels) by edges m.leading;
+      settled = m.settled;
       begins = m.begins;
     }
       where
-        by : (e : EdgeView) → IsTypedEdge at A count count first last labels e → IsTypedEdge at A count (suc count) first (changed last count now) labels e
-        by e x = record { there = next_up e.from count x.there; room = x.room; way = subst (λ k. IsTypedWay e.taken k (at e.to)) (sym (changed_else last count now e.from (apart e.from count x.there))) x.way; leads = x.leads }
+        by : (e : EdgeView) → IsTypedEdge at count last labels e → IsTypedEdge at (suc count) (changed last count now) labels e
+        by e x = record { there = next_up e.from count x.there; room = x.room; way = subst (λ k. IsTypedWay e.taken k (at e.to)) (sym (changed_else last count now e.from (apart e.from count x.there))) x.way }
 
     -- anything may be known before the block that comes next
-    pub made_ended : (b : BlockView) → b.steps ≡ ready → IsKept now (last count) → (k : Temporaries) → IsTypedMade types at A count (suc count) first last now blocks edges labels ready → IsTypedMade types at A (suc count) (suc count) (changed first (suc count) k) last k (blocks ++ b ∷ []) edges labels []
+    pub made_ended : (b : BlockView) → b.steps ≡ ready → IsKept now (last count) → (k : Temporaries) → IsTypedMade types at count (suc count) first last now blocks edges labels ready → IsTypedMade types at (suc count) (suc count) (changed first (suc count) k) last k (blocks ++ b ∷ []) edges labels []
     made_ended b same kept k m = record {
       counted = length-append blocks (b ∷ []) ∙ one_more (length blocks) ∙ ap suc m.counted;
       done = done;
       current = subst (λ x. IsKept x k) (sym (changed_here first (suc count) k (suc count) refl)) (kept_same k);
-      leading = edges_more (IsTypedEdge at A count (suc count) first last labels) (IsTypedEdge at A (suc count) (suc count) (changed first (suc count) k) last labels) (λ e x. record { there = x.there; room = x.room; way = x.way; leads = settled e.to x.leads }) edges m.leading;
+      leading = m.leading;
+      settled = λ l. settled l (m.settled l);
       begins = λ t. ap (λ x. x t) (changed_else first (suc count) k 0 (no_zero count)) ∙ m.begins t;
     }
       where
@@ -207,9 +212,8 @@ module _ (u : UnitView) where
         same_no_more : (n m : ℕ) → n ≡ m → n ≤ m
         same_no_more n m is = omega (arith, is)
 
-        settled : (l : ℕ) → IsSettled at count first labels l ⊎ A l → IsSettled at (suc count) (changed first (suc count) k) labels l ⊎ A l
-        settled l (inr is) = inr is
-        settled l (inl is) = inl (record { there = further (get_or labels l 0) count is.there; kept = subst (IsKept (at l)) (sym (before (get_or labels l 0) is.there)) is.kept })
+        settled : (l : ℕ) → IsSettled at count first labels l → IsSettled at (suc count) (changed first (suc count) k) labels l
+        settled l is = record { there = further (get_or labels l 0) count is.there; kept = subst (IsKept (at l)) (sym (before (get_or labels l 0) is.there)) is.kept }
           where
             further : (n m : ℕ) → n ≤ m → n ≤ suc m
             further n m less = omega (arith, less)
@@ -232,12 +236,13 @@ module _ (u : UnitView) where
         ]
 
     -- the current block, which has no instruction, begins at a label
-    pub made_labelled : (B : ℕ → Type 0) (label : ℕ) → ready ≡ [] → label < length labels → at label ≡ now → ((l : ℕ) → A l → (l ≡ label) ⊎ B l) → IsTypedMade types at A count count first last now blocks edges labels ready → IsTypedMade types at B count count (changed first count now) last now blocks edges (slice_set labels label count) ready
-    made_labelled B label none room known fewer m = record {
+    pub made_labelled : (label : ℕ) → ready ≡ [] → label < length labels → at label ≡ now → IsTypedMade types at count count first last now blocks edges labels ready → IsTypedMade types at count count (changed first count now) last now blocks edges (slice_set labels label count) ready
+    made_labelled label none room known m = record {
       counted = m.counted;
       done = λ n b is. subst (λ x. AreTypedSteps types x b.steps (last n)) (sym (changed_else first count now n (apart n count (subst (λ k. n < k) m.counted (slice_get_within blocks n b is))))) (m.done n b is);
       current = subst (λ ss. AreTypedSteps types (changed first count now count) ss now) (sym none) (subst (λ x. IsKept x now) (sym here) (kept_same now));
-      leading = edges_more (IsTypedEdge at A count count first last labels) (IsTypedEdge at B count count (changed first count now) last (slice_set labels label count)) (λ e x. record { there = x.there; room = subst (λ n. e.to < n) (sym (length-set labels label count)) x.room; way = x.way; leads = settled e.to (cases_eq e.to label) x.leads }) edges m.leading;
+      leading = edges_more (IsTypedEdge at count last labels) (IsTypedEdge at count last (slice_set labels label count)) (λ e x. record { there = x.there; room = subst (λ n. e.to < n) (sym (length-set labels label count)) x.room; way = x.way }) edges m.leading;
+      settled = λ l. settled l (cases_eq l label) (m.settled l);
       begins = begins;
     }
       where
@@ -270,12 +275,11 @@ module _ (u : UnitView) where
         all_there : (n m : ℕ) → n ≡ m → n ≤ m
         all_there n m is = omega (arith, is)
 
-        settled : (l : ℕ) → (l ≡ label) ⊎ (l ≡ label → ⊥) → IsSettled at count first labels l ⊎ A l → IsSettled at count (changed first count now) (slice_set labels label count) l ⊎ B l
-        settled l (inl is) leads = inl (record {
-          there = all_there (get_or (slice_set labels label count) l 0) count (is_here l is);
-          kept = subst (λ n. IsKept (at l) (changed first count now n)) (sym (is_here l is)) (subst (IsKept (at l)) (sym here) (subst (λ k. IsKept k now) (sym (ap at is ∙ known)) (kept_same now)));
-        })
-        settled l (inr other) (inl is) =
+        settled : (l : ℕ) → (l ≡ label) ⊎ (l ≡ label → ⊥) → IsSettled at count first labels l → IsSettled at count (changed first count now) (slice_set labels label count) l
+        settled l (inl same) is = record {
+          there = all_there (get_or (slice_set labels label count) l 0) count (is_here l same);
+          kept = subst (λ n. IsKept (at l) (changed first count now n)) (sym (is_here l same)) (subst (IsKept (at l)) (sym here) (subst (λ k. IsKept k now) (sym (ap at same ∙ known)) (kept_same now)));
+        }
+        settled l (inr other) is =
             let block = get_or-set_other labels label l count 0 other in
-            inl (record { there = subst (λ n. n ≤ count) (sym block) is.there; kept = subst (λ n. IsKept (at l) (changed first count now n)) (sym block) (kept_trans (at l) (first (get_or labels l 0)) (changed first count now (get_or labels l 0)) is.kept (less_first (get_or labels l 0))) })
-        settled l (inr other) (inr is) = elim (fewer l is) [ inl same ↦ absurd (other same) | inr more ↦ inr more ]
+            record { there = subst (λ n. n ≤ count) (sym block) is.there; kept = subst (λ n. IsKept (at l) (changed first count now n)) (sym block) (kept_trans (at l) (first (get_or labels l 0)) (changed first count now (get_or labels l 0)) is.kept (less_first (get_or labels l 0))) }

@@ -1,5 +1,5 @@
 -- A copy of a typed template comes on the stack: its parameters are known, and its labels as the template says.
-use Rattle.std.proofs.Common.{◌≡◌, ◌≤◌, ◌<◌, inr, ℕ, zero, suc, ◌+◌, ◌-◌, cond, nat_lt, List, ◌∷◌, ◌++◌, length, replicate, Option, Some, None, slice_get, refl, arith, ap, sym, ◌∙◌, length-append}
+use Rattle.std.proofs.Common.{◌≡◌, ◌≤◌, ◌<◌, ℕ, zero, suc, ◌+◌, ◌-◌, cond, nat_lt, List, ◌∷◌, ◌++◌, length, replicate, Option, Some, None, slice_get, refl, arith, ap, sym, ◌∙◌, length-append}
 use Rattle.std.proofs.lemmas.Bool.{lt-ltb, le-ltb}
 use Rattle.c_layout.specs.CheckedUnits.{FunctionView, UnitView}
 use Rattle.c_layout.specs.Types.{Ty}
@@ -14,8 +14,8 @@ use Rattle.flow_lower_typed.specs.ProgramLaws.{IsTypedFunction}
 use Rattle.flow_lower_typed.specs.TypedBases.{HasTypes, HasLocalTypes}
 use Rattle.flow_lower_typed.specs.TypedPieces.{parameters_known, result_known}
 use Rattle.flow_lower_typed_programs.proofs.LiftedKnowledge.{lifted}
-use Rattle.flow_lower_typed_programs.proofs.TypedBlocks.{grows_same, Awaited, made_labels}
-use Rattle.flow_lower_typed_programs.proofs.TypedCopies.{AreStanding, standing_more, Holds, holds_awaited, Opens}
+use Rattle.flow_lower_typed_programs.proofs.TypedBlocks.{grows_same, made_labels}
+use Rattle.flow_lower_typed_programs.proofs.TypedCopies.{calm_labels, IsOwnLabel, AreStanding, standing_more, Holds, Opens}
 
 -- ---- lists
 
@@ -49,7 +49,7 @@ joined_new old first new l = ap (λ b. cond b (old (l + first)) (new ((l + first
     back l first = omega arith
 
 module _ (u : UnitView) (ts : List (Option TemplateView)) where
-  pub opens_entered : (call : OwnCall) (stack : List CopyView) (m : Made) (f : FunctionView) (t : TemplateView) (types : List Ty) (at : ℕ → Temporaries) (outer now : Temporaries) → IsTypedFunction u ts f t → HasTypes u types m.bases → Holds u ts types at (Awaited stack) now m
+  pub opens_entered : (call : OwnCall) (stack : List CopyView) (m : Made) (f : FunctionView) (t : TemplateView) (types : List Ty) (at : ℕ → Temporaries) (outer now : Temporaries) → IsTypedFunction u ts f t → HasTypes u types m.bases → Holds u ts types at now m
       → IsKept now (lifted call.depth outer (parameters_known f)) → AreStanding u ts types at (length m.labels) (Some (lifted call.depth outer (result_known call.used f))) stack → Opens u ts (o.opened (o.copied call (length m.labels) f t ∷ stack) (o.with_labels t.labels m))
   opens_entered call stack m f t types at outer now is bases h kept standing = record {
     types = types;
@@ -64,17 +64,14 @@ module _ (u : UnitView) (ts : List (Option TemplateView)) where
         weaker = kept;
         copy = record {
           pieces = (is.pieces call.used).pieces;
-          calls = is.calls;
-          leads = is.leads.pieces;
-          marks = λ l marked. (in_room l (length m.labels) t.labels (length (m.labels ++ zeros)) (length zeros) count (replicate_long t.labels 0) (is.room l marked), joined_new at (length m.labels) own l);
+          own = calm_labels is.calls t (IsOwnLabel u ts all (length (m.labels ++ zeros)) outer labels (o.copied call (length m.labels) f t)) is.calm (λ l marked. (in_room l (length m.labels) t.labels (length (m.labels ++ zeros)) (length zeros) count (replicate_long t.labels 0) (is.room l marked), joined_new at (length m.labels) own l));
           there = is.there;
         };
-        names = record { locals = no_local; there = replicate_long (length f.locals + 1) None; objects = is.leads.names; own = is.locals };
+        names = record { locals = no_local; there = replicate_long (length f.locals + 1) None; objects = is.calm.names; own = is.locals };
       },
       standing_more u ts types types (grows_same (slice_get types)) at all (length m.labels) (length (m.labels ++ zeros)) (no_less (length m.labels) (length zeros) (length (m.labels ++ zeros)) count) old (Some (lifted call.depth outer (result_known call.used f))) stack standing,
     );
-    holds = holds_awaited u ts types all (Awaited stack) (Awaited (o.copied call (length m.labels) f t ∷ stack)) (λ l x. inr x) now (o.with_labels t.labels m)
-        (record { count = h.count; first = h.first; last = h.last; made = made_labels u at (Awaited stack) h.count h.count h.first h.last m.blocks m.edges m.labels all old zeros types now m.ready h.made });
+    holds = record { count = h.count; first = h.first; last = h.last; made = made_labels u at h.count h.count h.first h.last m.blocks m.edges m.labels all old t.labels types now m.ready h.made };
   }
     where
       labels : ℕ → Temporaries

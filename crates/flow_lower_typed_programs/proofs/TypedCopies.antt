@@ -1,5 +1,5 @@
 -- The copies of a program that are not finished: their pieces that are still to come keep to what is known.
-use Rattle.std.proofs.Common.{◌≡◌, ◌≤◌, ◌<◌, ℕ, zero, suc, ◌+◌, Bool, true, List, [], ◌∷◌, ◌++◌, length, get_or, Option, Some, None, slice_get, refl, arith, ap, sym, subst, ◌∙◌}
+use Rattle.std.proofs.Common.{◌≡◌, ◌≤◌, ◌<◌, ◌⊎◌, inl, inr, ℕ, zero, suc, ◌+◌, Bool, true, List, [], ◌∷◌, ◌++◌, length, get_or, Option, Some, None, slice_get, refl, arith, ap, sym, subst, ◌∙◌}
 use Rattle.std.proofs.lemmas.Option.{get_or_from_slice_get}
 use Rattle.c_layout.specs.CheckedUnits.{FunctionView, UnitView}
 use Rattle.c_layout.specs.Types.{Ty}
@@ -9,15 +9,16 @@ use Rattle.flow_program.specs.declared.flow_edges.Test.{Test}
 use Rattle.flow_lower.specs.Openings as o
 use Rattle.flow_lower.specs.Openings.{Made, CopyView, Placed, Opened, placed}
 use Rattle.flow_lower_bases.specs.BaseTables.{TableView}
-use Rattle.flow_lower_plain_works.specs.LeadingPieces.{is_of_object, AreOfObjects, Marked, LeadOn, NoLabel}
-use Rattle.flow_lower_tasks.specs.Pieces.{NameView, Outcome, Way, Always, When, Case, Other, NoLine, Line, TemplateView}
+use Rattle.flow_lower_looped.specs.CalmTemplates.{IsMarkedIn, IsCalm}
+use Rattle.flow_lower_plain_works.specs.LeadingPieces.{is_of_object, AreOfObjects, AllTo, Marked, IsLeading, LeadOn, NoLabel}
+use Rattle.flow_lower_tasks.specs.Pieces.{NameView, Outcome, Way, Always, When, Case, Other, NoLine, Line, ExitView, PieceView, Do, DoIfUsed, End, Mark, Call, TemplateView}
 use Rattle.flow_program_types.specs.TypedStates.{Temporaries}
 use Rattle.flow_lower_typed.specs.TypedBases.{HasTypes, HasLocalTypes, HasOwnTypes, HasOwnLocals, NamesAreTyped}
 use Rattle.flow_lower_typed.specs.TypedPieces.{State, Leads, IsWeaker, name_type, name_type_or, base_type, result_known, AreTypedPieces}
 use Rattle.flow_lower_typed.specs.ProgramLaws.{AreThere}
 use Rattle.flow_lower_typed.proofs.JoinedPieces.{leads_on}
 use Rattle.flow_lower_typed_programs.proofs.LiftedKnowledge.{lifted, kept_lifted}
-use Rattle.flow_lower_typed_programs.proofs.TypedBlocks.{Grows, grows_same, grows_twice, Awaited, IsTypedMade, made_weaker, made_awaited}
+use Rattle.flow_lower_typed_programs.proofs.TypedBlocks.{Grows, grows_same, grows_twice, IsTypedMade, made_weaker}
 
 -- ---- what is known in a copy
 
@@ -37,6 +38,57 @@ weaker_lifted r s None d outer weaker none = subst (λ x. IsWeaker r (lifted_sta
 abbrev pub behind_copy : Temporaries → CopyView → State
 behind_copy outer c = Some (lifted c.depth outer (result_known c.used c.function))
 
+-- ---- labels
+
+-- the labels that a piece marks and those to which its edges lead
+abbrev pub HasLabels : (ℕ → Type 0) → PieceView → Type 0
+HasLabels L (Do s) = Unit {0}
+HasLabels L (DoIfUsed s) = Unit {0}
+HasLabels L (End s exits) = AllTo L exits
+HasLabels L (Mark l) = L l
+HasLabels L (Call c) = Unit {0}
+
+abbrev pub HaveLabels : (ℕ → Type 0) → List PieceView → Type 0
+HaveLabels L [] = Unit {0}
+HaveLabels L (p ∷ ps) = HasLabels L p × HaveLabels L ps
+
+to_more : (L M : ℕ → Type 0) → ((l : ℕ) → L l → M l) → (es : List ExitView) → AllTo L es → AllTo M es
+to_more L M more [] all = tt
+to_more L M more (e ∷ es) (one, all) = (more e.to one, to_more L M more es all)
+
+has_more : (L M : ℕ → Type 0) → ((l : ℕ) → L l → M l) → (p : PieceView) → HasLabels L p → HasLabels M p
+has_more L M more (Do s) is = tt
+has_more L M more (DoIfUsed s) is = tt
+has_more L M more (End s exits) is = to_more L M more exits is
+has_more L M more (Mark l) is = more l is
+has_more L M more (Call c) is = tt
+
+have_more : (L M : ℕ → Type 0) → ((l : ℕ) → L l → M l) → (ps : List PieceView) → HaveLabels L ps → HaveLabels M ps
+have_more L M more [] all = tt
+have_more L M more (p ∷ ps) (one, all) = (has_more L M more p one, have_more L M more ps all)
+
+module _ (calls : ℕ → Bool) (L M : ℕ → Type 0) where
+  has_calm : (p : PieceView) (ps : List PieceView) → ((l : ℕ) → Marked (p ∷ ps) L l → M l) → IsLeading calls (Marked ps L) p → HasLabels M p
+  has_calm (Do s) ps all leading = tt
+  has_calm (DoIfUsed s) ps all leading = tt
+  has_calm (End s exits) ps all leading = to_more (Marked ps L) M (λ l is. all l (inr is)) exits leading.1
+  has_calm (Mark l) ps all leading = all l (inl refl)
+  has_calm (Call c) ps all leading = tt
+
+  -- edges of calm pieces lead to labels that are marked
+  have_calm : (ps : List PieceView) → ((l : ℕ) → Marked ps L l → M l) → LeadOn calls L ps → HaveLabels M ps
+  have_calm [] all leads = tt
+  have_calm (p ∷ ps) all (one, leads) = (has_calm p ps all one, have_calm ps (λ l is. all l (inr is)) leads)
+
+marked_within : (ps : List PieceView) (L : ℕ → Type 0) (l : ℕ) → Marked ps L l → Marked ps NoLabel l ⊎ L l
+marked_within [] L l is = inr is
+marked_within (p ∷ ps) L l (inl here) = inl (inl here)
+marked_within (p ∷ ps) L l (inr is) = elim (marked_within ps L l is) [ inl later ↦ inl (inr later) | inr other ↦ inr other ]
+
+-- all labels of a calm template are such as those that it marks
+pub calm_labels : (calls : ℕ → Bool) (t : TemplateView) (M : ℕ → Type 0) → IsCalm calls t → ((l : ℕ) → Marked t.pieces NoLabel l → M l) → HaveLabels M t.pieces
+calm_labels calls t M calm all = have_calm calls (IsMarkedIn t) M t.pieces (λ l is. elim (marked_within t.pieces (IsMarkedIn t) l is) [ inl here ↦ all l here | inr there ↦ all l there ]) calm.pieces
+
 module _ (u : UnitView) (ts : List (Option TemplateView)) where
   -- the bases of a copy's own objects have their types
   pub record HasNames (types : List Ty) (c : CopyView) : Type 0 where
@@ -49,12 +101,13 @@ module _ (u : UnitView) (ts : List (Option TemplateView)) where
     pub bases : HasTypes u types p.program.bases
     pub names : HasNames types p.within
 
-  -- the labels of the program, of which there are so many, are known as those of the copy's template
+  -- a label of the program, which has so many, is known as that of the copy's template
+  abbrev pub IsOwnLabel : (ℕ → Temporaries) → ℕ → Temporaries → (ℕ → Temporaries) → CopyView → ℕ → Type 0
+  IsOwnLabel at count outer labels c l = (l + c.labels < count) × (at (l + c.labels) ≡ lifted c.depth outer (labels l))
+
   pub record IsTypedCopy (at : ℕ → Temporaries) (count : ℕ) (outer : Temporaries) (labels : ℕ → Temporaries) (s : State) (c : CopyView) : Type 0 where
     pub pieces : AreTypedPieces u c.function c.used c.names labels s c.rest (Some (result_known c.used c.function))
-    pub calls : ℕ → Bool
-    pub leads : LeadOn calls NoLabel c.rest
-    pub marks : (l : ℕ) → Marked c.rest NoLabel l → (l + c.labels < count) × (at (l + c.labels) ≡ lifted c.depth outer (labels l))
+    pub own : HaveLabels (IsOwnLabel at count outer labels c) c.rest
     pub there : AreThere u ts c.rest
 
   -- a copy that goes on with what is known
@@ -79,7 +132,7 @@ module _ (u : UnitView) (ts : List (Option TemplateView)) where
     further n is = omega (arith, is, less)
 
     copy_more : (outer : Temporaries) (labels : ℕ → Temporaries) (s : State) (c : CopyView) → IsTypedCopy at count outer labels s c → IsTypedCopy at_ longer outer labels s c
-    copy_more outer labels s c k = record { pieces = k.pieces; calls = k.calls; leads = k.leads; marks = λ l is. (further (l + c.labels) (k.marks l is).0, same (l + c.labels) (k.marks l is).0 ∙ (k.marks l is).1); there = k.there }
+    copy_more outer labels s c k = record { pieces = k.pieces; own = have_more (IsOwnLabel at count outer labels c) (IsOwnLabel at_ longer outer labels c) (λ l is. (further (l + c.labels) is.0, same (l + c.labels) is.0 ∙ is.1)) c.rest k.own; there = k.there }
 
     pub standing_more : (now : State) (cs : List CopyView) → AreStanding types at count now cs → AreStanding more at_ longer now cs
     standing_more now [] all = tt
@@ -87,27 +140,20 @@ module _ (u : UnitView) (ts : List (Option TemplateView)) where
 
   -- ---- programs
 
-  pub record Holds (types : List Ty) (at : ℕ → Temporaries) (A : ℕ → Type 0) (now : Temporaries) (m : Made) : Type 0 where
+  pub record Holds (types : List Ty) (at : ℕ → Temporaries) (now : Temporaries) (m : Made) : Type 0 where
     pub count : ℕ
     pub first : ℕ → Temporaries
     pub last : ℕ → Temporaries
-    pub made : IsTypedMade u types at A count count first last now m.blocks m.edges m.labels m.ready
+    pub made : IsTypedMade u types at count count first last now m.blocks m.edges m.labels m.ready
 
   -- where nothing comes, anything may be known
-  abbrev pub HoldsIn : List Ty → (ℕ → Temporaries) → (ℕ → Type 0) → State → Made → Type 0
-  HoldsIn types at A None m = (k : Temporaries) → Holds types at A k m
-  HoldsIn types at A (Some now) m = Holds types at A now m
+  abbrev pub HoldsIn : List Ty → (ℕ → Temporaries) → State → Made → Type 0
+  HoldsIn types at None m = (k : Temporaries) → Holds types at k m
+  HoldsIn types at (Some now) m = Holds types at now m
 
-  pub enter : (types : List Ty) (at : ℕ → Temporaries) (A : ℕ → Type 0) (s : State) (m : Made) (k : Temporaries) → HoldsIn types at A s m → Leads s k → Holds types at A k m
-  enter types at A None m k h leads = h k
-  enter types at A (Some now) m k h leads = record { count = h.count; first = h.first; last = h.last; made = made_weaker u at A h.count h.count h.first h.last m.blocks m.edges m.labels types now k m.ready leads h.made }
-
-  pub holds_awaited : (types : List Ty) (at : ℕ → Temporaries) (A B : ℕ → Type 0) → ((l : ℕ) → A l → B l) → (now : Temporaries) (m : Made) → Holds types at A now m → Holds types at B now m
-  holds_awaited types at A B more now m h = record { count = h.count; first = h.first; last = h.last; made = made_awaited u at A h.count h.count h.first h.last m.blocks m.edges m.labels B more types now m.ready h.made }
-
-  pub holds_in_awaited : (types : List Ty) (at : ℕ → Temporaries) (A B : ℕ → Type 0) → ((l : ℕ) → A l → B l) → (s : State) (m : Made) → HoldsIn types at A s m → HoldsIn types at B s m
-  holds_in_awaited types at A B more None m h = λ k. holds_awaited types at A B more k m (h k)
-  holds_in_awaited types at A B more (Some now) m h = holds_awaited types at A B more now m h
+  pub enter : (types : List Ty) (at : ℕ → Temporaries) (s : State) (m : Made) (k : Temporaries) → HoldsIn types at s m → Leads s k → Holds types at k m
+  enter types at None m k h leads = h k
+  enter types at (Some now) m k h leads = record { count = h.count; first = h.first; last = h.last; made = made_weaker u at h.count h.count h.first h.last m.blocks m.edges m.labels types now k m.ready leads h.made }
 
   -- what every turn leaves
   pub record Opens (x : Opened) : Type 0 where
@@ -116,7 +162,7 @@ module _ (u : UnitView) (ts : List (Option TemplateView)) where
     pub now : State
     pub bases : HasTypes u types x.program.bases
     pub standing : AreStanding types at (length x.program.labels) now x.stack
-    pub holds : HoldsIn types at (Awaited x.stack) now x.program
+    pub holds : HoldsIn types at now x.program
 
   -- ---- names
 

@@ -1,5 +1,5 @@
 -- A program that is opened has types: what is known before each instruction, and along each edge.
-use Rattle.std.proofs.Common.{◌≡◌, ◌<◌, ◌⊎◌, inl, inr, ℕ, zero, suc, Bool, true, false, cond, nat_le, List, [], ◌∷◌, length, get_or, Option, Some, None, slice_get, refl, arith, ap, sym, subst, ◌∙◌}
+use Rattle.std.proofs.Common.{◌≡◌, ◌<◌, ℕ, zero, suc, Bool, true, false, cond, nat_le, List, [], ◌∷◌, length, get_or, Option, Some, None, slice_get, refl, arith, ap, sym, subst, ◌∙◌}
 use Rattle.std.specs.List.{Contains}
 use Rattle.std.proofs.lemmas.Option.{same_Some, slice_get-get_or}
 use Rattle.c_layout.specs.CheckedUnits.{UnitView}
@@ -17,7 +17,7 @@ use Rattle.flow_lower_typed.specs.TypedActs.{IsTypedAct}
 use Rattle.flow_lower_typed.specs.TypedPieces.{State}
 use Rattle.flow_lower_typed.proofs.KeptKnowledge.{way_between}
 use Rattle.flow_lower_typed_programs.specs.TypedOpenings.{TypedNamesMakeTypedOpenings}
-use Rattle.flow_lower_typed_programs.proofs.TypedBlocks.{AllEdges, grows_same, Awaited, IsSettled, IsTypedEdge, StepKeeps, AreTypedSteps}
+use Rattle.flow_lower_typed_programs.proofs.TypedBlocks.{AllEdges, grows_same, IsTypedEdge, StepKeeps, AreTypedSteps}
 use Rattle.flow_lower_typed_programs.proofs.TypedCopies.{Holds, HoldsIn, Opens}
 use Rattle.flow_lower_typed_programs.proofs.TypedRuns.{opens_whole}
 
@@ -124,7 +124,7 @@ module _ (u : UnitView) (types : List Ty) where
 -- ---- the law
 
 module _ (u : UnitView) (ts : List (Option TemplateView)) where
-  module _ (x : Opened) (k : Opens u ts x) (now : Temporaries) (h : Holds u ts k.types k.at (Awaited x.stack) now x.program) (ends : x.stack ≡ []) where
+  module _ (x : Opened) (k : Opens u ts x) (now : Temporaries) (h : Holds u ts k.types k.at now x.program) where
     abbrev m : Made
     m = x.program
 
@@ -140,15 +140,14 @@ module _ (u : UnitView) (ts : List (Option TemplateView)) where
     abbrev IsResolved : EdgeView → Type 0
     IsResolved e = IsTypedWay e.taken (all e.from (length (steps e.from))) (all e.to 0)
 
-    settled : (l : ℕ) → IsSettled k.at h.count h.first m.labels l ⊎ Awaited x.stack l → IsKept (k.at l) (all (get_or m.labels l 0) 0)
-    settled l (inl is) = subst (IsKept (k.at l)) (sym (known_first u k.types h.first h.last m.blocks h.made.done (get_or m.labels l 0))) is.kept
-    settled l (inr is) = absurd (subst (λ s. Awaited s l) ends is)
+    settled : (l : ℕ) → IsKept (k.at l) (all (get_or m.labels l 0) 0)
+    settled l = subst (IsKept (k.at l)) (sym (known_first u k.types h.first h.last m.blocks h.made.done (get_or m.labels l 0))) (h.made.settled l).kept
 
-    edge_typed : (e : EdgeView) → IsTypedEdge k.at (Awaited x.stack) h.count h.count h.first h.last m.labels e → IsResolved (o.resolved_edge m.labels e)
+    edge_typed : (e : EdgeView) → IsTypedEdge k.at h.count h.last m.labels e → IsResolved (o.resolved_edge m.labels e)
     edge_typed e is =
         let less = subst (λ n. e.from < n) (sym h.made.counted) is.there in
         let before = subst (λ ss. IsKept (all e.from (length ss)) (h.last e.from)) (sym (same_steps e.from)) (known_last u k.types h.first h.last m.blocks h.made.done e.from less) in
-        way_between e.taken (all e.from (length (steps e.from))) (h.last e.from) (k.at e.to) (all (get_or m.labels e.to 0) 0) before (settled e.to is.leads) is.way
+        way_between e.taken (all e.from (length (steps e.from))) (h.last e.from) (k.at e.to) (all (get_or m.labels e.to 0) 0) before (settled e.to) is.way
 
     step_typed : HasLowSteps (o.finished m) → (n at : ℕ) (s : Step) → slice_get (steps n) at ≡ Some s → IsTypedAct u.structs u.model.pointer (slice_get k.types) (all n at) (all n (suc at)) s.does
     step_typed low n at s there = known_step u k.types h.first h.last m.blocks h.made.done n at s (subst (λ ss. slice_get ss at ≡ Some s) (same_steps n) there) (slice_get k.types) (grows_same (slice_get k.types)) (low n at s there)
@@ -160,16 +159,15 @@ module _ (u : UnitView) (ts : List (Option TemplateView)) where
       known = all;
       begins = λ t. ap (λ z. z t) (known_first u k.types h.first h.last m.blocks h.made.done 0) ∙ h.made.begins t;
       steps = step_typed low;
-      edges = each_edge IsResolved (o.resolved m.labels m.edges) (resolved_edges (IsTypedEdge k.at (Awaited x.stack) h.count h.count h.first h.last m.labels) IsResolved m.labels edge_typed m.edges h.made.leading);
+      edges = each_edge IsResolved (o.resolved m.labels m.edges) (resolved_edges (IsTypedEdge k.at h.count h.last m.labels) IsResolved m.labels edge_typed m.edges h.made.leading);
     }
 
-  -- a program in which no copy is left
-  typed_opening : (x : Opened) → Opens u ts x → x.stack ≡ [] → HasLowSteps (o.finished x.program) → IsTypedOpening u (o.finished x.program)
-  typed_opening x k ends low = by k.now k.holds
+  typed_opening : (x : Opened) → Opens u ts x → HasLowSteps (o.finished x.program) → IsTypedOpening u (o.finished x.program)
+  typed_opening x k low = by k.now k.holds
     where
-      by : (now : State) → HoldsIn u ts k.types k.at (Awaited x.stack) now x.program → IsTypedOpening u (o.finished x.program)
-      by None h = typed_finished x k nothing (h nothing) ends low
-      by (Some now) h = typed_finished x k now h ends low
+      by : (now : State) → HoldsIn u ts k.types k.at now x.program → IsTypedOpening u (o.finished x.program)
+      by None h = typed_finished x k nothing (h nothing) low
+      by (Some now) h = typed_finished x k now h low
 
 pub typed_openings : TypedNamesMakeTypedOpenings
-typed_openings laws u ts at own functions f is none ends low = typed_opening u ts (o.whole u ts at) (opens_whole u ts laws own functions at f is none) ends low
+typed_openings laws u ts at own functions f is none ends low = typed_opening u ts (o.whole u ts at) (opens_whole u ts laws own functions at f is none) low

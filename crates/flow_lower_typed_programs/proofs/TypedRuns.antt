@@ -1,12 +1,12 @@
 -- All turns of the opening, from the entry on.
-use Rattle.std.proofs.Common.{◌≡◌, ◌≤◌, inl, inr, ℕ, zero, suc, ◌-◌, ◌^◌, cond, nat_lt, List, [], ◌∷◌, length, Option, Some, None, slice_get, refl, arith, ap, sym, subst, ◌∙◌}
+use Rattle.std.proofs.Common.{◌≡◌, ◌≤◌, ℕ, zero, suc, ◌-◌, ◌^◌, cond, nat_lt, List, [], ◌∷◌, length, Option, Some, None, slice_get, refl, arith, ap, sym, subst, ◌∙◌}
 use Rattle.std.proofs.lemmas.Bool.{le-ltb}
 use Rattle.cc_base.specs.declared.diagnostics.Place.{Place}
 use Rattle.c_layout.specs.CheckedUnits.{FunctionView, UnitView}
 use Rattle.c_layout.specs.Types.{Ty}
 use Rattle.flow_lower.specs.Openings as o
 use Rattle.flow_lower.specs.Openings.{Made, CopyView, Opened, placed}
-use Rattle.flow_lower_plain_works.specs.LeadingPieces.{AllTo, Marks, Marked, NoLabel}
+use Rattle.flow_lower_plain_works.specs.LeadingPieces.{AllTo}
 use Rattle.flow_lower_functions.specs.Functions.{local_type}
 use Rattle.flow_lower_tasks.specs.Acts.{Step}
 use Rattle.flow_lower_tasks.specs.Pieces.{ExitView, PieceView, Do, DoIfUsed, End, Mark, Call, TemplateView}
@@ -19,9 +19,9 @@ use Rattle.flow_lower_typed.specs.TypedBases.{HasTypes, HasOwnTypes, NamesAreTyp
 use Rattle.flow_lower_typed.specs.TypedPieces.{State, parameters_known, result_known, IsTypedCall, IsTypedPiece, AreTypedPieces}
 use Rattle.flow_lower_typed.proofs.KeptKnowledge.{kept_same}
 use Rattle.flow_lower_typed_programs.proofs.LiftedKnowledge.{lifted, kept_entry, passed_lifted, returned_lifted}
-use Rattle.flow_lower_typed_programs.proofs.TypedBlocks.{Awaited}
+use Rattle.flow_lower_typed_programs.proofs.TypedBlocks.{settled_first}
 use Rattle.flow_lower_typed_programs.proofs.TypedCalls.{none_known, replicate_long, opens_entered}
-use Rattle.flow_lower_typed_programs.proofs.TypedCopies.{lead_lifted, behind_copy, HasNames, IsTypedCopy, IsStanding, AreStanding, Holds, enter, holds_in_awaited, Opens}
+use Rattle.flow_lower_typed_programs.proofs.TypedCopies.{lead_lifted, behind_copy, HasNames, IsOwnLabel, IsTypedCopy, IsStanding, AreStanding, Holds, enter, Opens}
 use Rattle.flow_lower_typed_programs.proofs.TypedLabels.{standing_marked, opens_marked}
 use Rattle.flow_lower_typed_programs.proofs.TypedTurns.{IsNext, entered_from, opens_done, opens_if_used, opens_closed}
 
@@ -30,21 +30,16 @@ module _ (u : UnitView) (ts : List (Option TemplateView)) (laws : NamesAreTyped)
   Open = Opens u ts
 
   -- a copy whose next piece is no label goes on behind it
-  module _ (q : PieceView) (qs : List PieceView) (c : CopyView) (stack : List CopyView) (m : Made) (none : (l : ℕ) → Marks q l → ⊥) (there : AreThere u ts (q ∷ qs) → AreThere u ts qs) where
-    awaited_behind : (l : ℕ) → Awaited (o.with_rest (q ∷ qs) c ∷ stack) l → Awaited (o.with_rest qs c ∷ stack) l
-    awaited_behind l (inl (k, is, inl marks)) = absurd (none k marks)
-    awaited_behind l (inl (k, is, inr later)) = inl (k, is, later)
-    awaited_behind l (inr x) = inr x
-
+  module _ (q : PieceView) (qs : List PieceView) (c : CopyView) (stack : List CopyView) (m : Made) (there : AreThere u ts (q ∷ qs) → AreThere u ts qs) where
     next_of : (k : Open (o.opened (o.with_rest (q ∷ qs) c ∷ stack) m)) → IsNext u ts laws own stack k.types k.at k.standing.0.outer k.standing.0.labels k.now k.standing.0.state k.standing.0.copy.pieces.0 (placed m (o.with_rest qs c))
     next_of k =
         let x = k.standing.0 in
         record {
           can = record { bases = k.bases; names = record { locals = x.names.locals; there = x.names.there; objects = x.names.objects; own = x.names.own } };
-          copy = record { pieces = x.copy.pieces.2; calls = x.copy.calls; leads = x.copy.leads.1; marks = λ l is. x.copy.marks l (inr is); there = there x.copy.there };
+          copy = record { pieces = x.copy.pieces.2; own = x.copy.own.1; there = there x.copy.there };
           others = k.standing.1;
           weaker = x.weaker;
-          holds = holds_in_awaited u ts k.types k.at (Awaited (o.with_rest (q ∷ qs) c ∷ stack)) (Awaited (o.with_rest qs c ∷ stack)) awaited_behind k.now m k.holds;
+          holds = k.holds;
         }
 
   -- a copy is finished
@@ -52,20 +47,14 @@ module _ (u : UnitView) (ts : List (Option TemplateView)) (laws : NamesAreTyped)
   opens_finished c stack m k =
       let x = k.standing.0 in
       let result = result_known c.used c.function in
-      let A = Awaited (o.with_rest [] c ∷ stack) in
-      let h = holds_in_awaited u ts k.types k.at A (Awaited stack) fewer k.now m k.holds in
       record {
         types = k.types;
         at = k.at;
         now = behind_copy x.outer c;
         bases = k.bases;
         standing = k.standing.1;
-        holds = enter u ts k.types k.at (Awaited stack) k.now m (lifted c.depth x.outer result) h (lead_lifted k.now x.state c.depth x.outer result x.weaker x.copy.pieces);
+        holds = enter u ts k.types k.at k.now m (lifted c.depth x.outer result) k.holds (lead_lifted k.now x.state c.depth x.outer result x.weaker x.copy.pieces);
       }
-    where
-      fewer : (l : ℕ) → Awaited (o.with_rest [] c ∷ stack) l → Awaited stack l
-      fewer l (inl x) = absurd x.2
-      fewer l (inr x) = x
 
   -- ---- turns
 
@@ -84,7 +73,7 @@ module _ (u : UnitView) (ts : List (Option TemplateView)) (laws : NamesAreTyped)
       turn_done x None k is = absurd is
       turn_done x (Some after) k is = opens_done u ts laws own stack types at outer labels now s (placed m copy) x.at x.does after k is
 
-      turn_ended : (x : Step) (exits : List ExitView) (after : State) → Next after → AllTo (Marked qs NoLabel) exits → IsTyped (End x exits) after → Open (o.turn u ts (End x exits) copy stack m)
+      turn_ended : (x : Step) (exits : List ExitView) (after : State) → Next after → AllTo (IsOwnLabel u ts at (length m.labels) outer labels copy) exits → IsTyped (End x exits) after → Open (o.turn u ts (End x exits) copy stack m)
       turn_ended x exits (Some after) k to is = absurd is
       turn_ended x exits None k to is = opens_closed u ts laws own stack types at outer labels now s (placed m copy) x exits k to is
 
@@ -113,28 +102,28 @@ module _ (u : UnitView) (ts : List (Option TemplateView)) (laws : NamesAreTyped)
         by : (after : State) → IsTypedPiece u c.function c.used c.names x.labels x.state (Mark label) after → AreTypedPieces u c.function c.used c.names x.labels after qs (Some (result_known c.used c.function)) → Open (o.turn u ts (Mark label) (o.with_rest qs c) stack m)
         by None is rest = absurd is
         by (Some after) is rest =
-            let own_label = x.copy.marks label (inl refl) in
+            let own_label = x.copy.own.0 in
             let there = lifted c.depth x.outer (x.labels label) in
-            let copy : IsTypedCopy u ts k.at (length m.labels) x.outer x.labels (Some after) (o.with_rest qs c) = record { pieces = rest; calls = x.copy.calls; leads = x.copy.leads.1; marks = λ l is. x.copy.marks l (inr is); there = x.copy.there } in
+            let copy : IsTypedCopy u ts k.at (length m.labels) x.outer x.labels (Some after) (o.with_rest qs c) = record { pieces = rest; own = x.copy.own.1; there = x.copy.there } in
             let names : HasNames u ts k.types (o.with_rest qs c) = record { locals = x.names.locals; there = x.names.there; objects = x.names.objects; own = x.names.own } in
             let standing = standing_marked u ts label qs c stack m k.types k.at x.outer x.labels after copy names k.standing.1 is.1 in
-            let h = enter u ts k.types k.at (Awaited (o.with_rest (Mark label ∷ qs) c ∷ stack)) k.now m there k.holds (lead_lifted k.now x.state c.depth x.outer (x.labels label) x.weaker is.0) in
+            let h = enter u ts k.types k.at k.now m there k.holds (lead_lifted k.now x.state c.depth x.outer (x.labels label) x.weaker is.0) in
             opens_marked u ts label qs c stack m k.types k.at x.outer x.labels after k.bases own_label.0 own_label.1 h standing
 
     opens_turn : (q : PieceView) (qs : List PieceView) (c : CopyView) (stack : List CopyView) (m : Made) → Open (o.opened (o.with_rest (q ∷ qs) c ∷ stack) m) → Open (o.turn u ts q (o.with_rest qs c) stack m)
     opens_turn (Do x) qs c stack m k =
         let y = k.standing.0 in
-        turn_done qs c stack m k.types k.at y.outer y.labels k.now y.state x y.copy.pieces.0 (next_of (Do x) qs c stack m (λ l is. is) (λ a. a) k) y.copy.pieces.1
+        turn_done qs c stack m k.types k.at y.outer y.labels k.now y.state x y.copy.pieces.0 (next_of (Do x) qs c stack m (λ a. a) k) y.copy.pieces.1
     opens_turn (DoIfUsed x) qs c stack m k =
         let y = k.standing.0 in
-        opens_if_used u ts laws own stack k.types k.at y.outer y.labels k.now y.state (placed m (o.with_rest qs c)) c.at x.does y.copy.pieces.0 c.used (next_of (DoIfUsed x) qs c stack m (λ l is. is) (λ a. a) k) y.copy.pieces.1
+        opens_if_used u ts laws own stack k.types k.at y.outer y.labels k.now y.state (placed m (o.with_rest qs c)) c.at x.does y.copy.pieces.0 c.used (next_of (DoIfUsed x) qs c stack m (λ a. a) k) y.copy.pieces.1
     opens_turn (End x exits) qs c stack m k =
         let y = k.standing.0 in
-        turn_ended qs c stack m k.types k.at y.outer y.labels k.now y.state x exits y.copy.pieces.0 (next_of (End x exits) qs c stack m (λ l is. is) (λ a. a) k) y.copy.leads.0.1 y.copy.pieces.1
+        turn_ended qs c stack m k.types k.at y.outer y.labels k.now y.state x exits y.copy.pieces.0 (next_of (End x exits) qs c stack m (λ a. a) k) y.copy.own.0 y.copy.pieces.1
     opens_turn (Mark label) qs c stack m k = turn_marked label qs c stack m k
     opens_turn (Call call) qs c stack m k =
         let y = k.standing.0 in
-        turn_called qs c stack m k.types k.at y.outer y.labels k.now y.state call y.copy.pieces.0 (next_of (Call call) qs c stack m (λ l is. is) (λ a. a.1) k) y.copy.pieces.1 y.copy.there
+        turn_called qs c stack m k.types k.at y.outer y.labels k.now y.state call y.copy.pieces.0 (next_of (Call call) qs c stack m (λ a. a.1) k) y.copy.pieces.1 y.copy.there
 
     opens_next : (qs : List PieceView) (c : CopyView) (stack : List CopyView) (m : Made) → Open (o.opened (o.with_rest qs c ∷ stack) m) → Open (o.next_piece u ts qs c stack m)
     opens_next [] c stack m k = opens_finished c stack m k
@@ -160,8 +149,8 @@ module _ (u : UnitView) (ts : List (Option TemplateView)) (laws : NamesAreTyped)
         no_some : {A : Type 0} (x : A) → None ≡ Some x → ⊥
         no_some x e = cc
 
-    first_holds : Holds u ts [] (λ l. nothing) (Awaited []) nothing (o.nothing_made u)
-    first_holds = record { count = 0; first = λ n. nothing; last = λ n. nothing; made = record { counted = refl; done = λ n b is. absurd (no b is); current = kept_same nothing; leading = tt; begins = λ t. refl } }
+    first_holds : Holds u ts [] (λ l. nothing) nothing (o.nothing_made u)
+    first_holds = record { count = 0; first = λ n. nothing; last = λ n. nothing; made = record { counted = refl; done = λ n b is. absurd (no b is); current = kept_same nothing; leading = tt; settled = λ l. settled_first (λ k. nothing) 0 (λ n. nothing) [] l (λ t. refl) refl; begins = λ t. refl } }
       where
         no : {A : Type 0} (x : A) → None ≡ Some x → ⊥
         no x e = cc
