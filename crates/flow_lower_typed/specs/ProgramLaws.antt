@@ -53,6 +53,10 @@ SettledTemplatesAreTyped = (u : UnitView) (f : FunctionView) (calls : ℕ → Bo
 abbrev pub SettledTemplatesAreCalm : Type 0
 SettledTemplatesAreCalm = (calls : ℕ → Bool) (t : TemplateView) (table : List (Option FunctionCounts)) → ((l : ℕ) → all_marked l t.pieces ≤ label_is_below l t.labels) → IsCalm calls t → IsCalm calls (settled table t)
 
+-- and mark each label once at most
+abbrev pub SettledTemplatesAreMarkedOnce : Type 0
+SettledTemplatesAreMarkedOnce = (t : TemplateView) (table : List (Option FunctionCounts)) → ((l : ℕ) → all_marked l t.pieces ≤ label_is_below l t.labels) → (l : ℕ) → all_marked l (settled table t).pieces ≤ 1
+
 -- ---- programs
 
 abbrev pub steps_of : Option BlockView → List Step

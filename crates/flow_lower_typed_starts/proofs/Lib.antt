@@ -1,7 +1,9 @@
 pub mod SettledNumbers
 pub mod SilentCalls
 pub mod SettledKnowledge
+pub mod CalmPieces
 pub mod SettledTypes
+pub mod SettledCalm
 pub mod FoundParts
 pub mod StandingArrays
 pub mod StandingStarts

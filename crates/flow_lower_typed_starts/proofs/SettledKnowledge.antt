@@ -47,7 +47,7 @@ other_has : (b : Bool) (m : NamesView) → HasLabel m → HasLabel (with_other b
 other_has true m has = has
 other_has false m has = λ e. true_not e
 
-piece_has : (table : List (Option FunctionCounts)) (p : PieceView) (m : NamesView) → HasLabel m → HasLabel (with_piece table p m)
+pub piece_has : (table : List (Option FunctionCounts)) (p : PieceView) (m : NamesView) → HasLabel m → HasLabel (with_piece table p m)
 piece_has table (Do s) m has = λ e. true_not e
 piece_has table (DoIfUsed s) m has = λ e. true_not e
 piece_has table (End s exits) m has = λ e. true_not e

@@ -7,7 +7,8 @@ use Rattle.flow_lower_tasks.specs.declared.template_pieces.OwnCall.{OwnCall}
 use Rattle.flow_lower_counts_parts.specs.declared.function_counts.FunctionCounts.{FunctionCounts}
 use Rattle.flow_lower_counts.specs.Preparations.{AreCounts}
 use Rattle.flow_lower_counts.specs.SettledTemplates.{NamesView, is_silent, with_begun, with_label, with_other, with_piece, with_pieces, no_names, renamed, renamed_exits, settled}
-use Rattle.flow_lower_plain_works.specs.LeadingPieces.{AllTo, Marked, LeadOn, NoLabel, LeadsOn}
+use Rattle.flow_lower_plain_works.specs.LeadingPieces.{AllTo}
+use Rattle.flow_lower_looped.specs.CalmTemplates.{IsMarkedIn, IsCalm}
 use Rattle.flow_program_types.specs.TypedPrograms.{IsKept}
 use Rattle.flow_program_types.specs.TypedStates.{Temporaries}
 use Rattle.template_runs_settled.proofs.SettledPieces.{from, Once, once_next, own, all_once, settled_from}
@@ -16,6 +17,7 @@ use Rattle.flow_lower_typed.specs.TypedPieces.{State, Leads, IsWeaker, IsDone, A
 use Rattle.flow_lower_typed.proofs.KeptKnowledge.{kept_same, kept_trans, way_between}
 use Rattle.flow_lower_typed.proofs.JoinedPieces.{weaker_same, leads_further, leads_on, weaker_trans}
 use Rattle.flow_lower_typed_starts.proofs.SettledKnowledge.{true_not, begun_again, begun_behind, HasLabel, begun_count, noted, known_from, known_now, stays_now, next_kept, label_kept}
+use Rattle.flow_lower_typed_starts.proofs.CalmPieces.{AreCalm, pieces_calm}
 use Rattle.flow_lower_typed_starts.proofs.SilentCalls.{silent_leads}
 
 begun_new : (m : NamesView) → m.is_behind ≡ false → with_begun m ≡ record { to = m.to; count = m.count + 1; is_behind = true }
@@ -71,14 +73,7 @@ module _ (u : UnitView) (f : FunctionView) (used : Bool) (names : List NameView)
   call_anew : (x s : State) (c : OwnCall) (after : Temporaries) → IsWeaker x s → IsTypedCall u f used names labels s c after → IsTypedCall u f used names final x c after
   call_anew x s c after weaker d = record { callee = d.callee; stands = d.stands; before = d.before; leads = leads_further x s d.before weaker d.leads; arguments = d.arguments; behind = d.behind }
 
-  exits_anew : (ps : List PieceView) → ((l : ℕ) → Marked ps NoLabel l → IsKept (labels l) (final (renamed n l))) → (known : Temporaries) (es : List ExitView) → AllTo (Marked ps NoLabel) es → AreTypedExits u f used names labels known es → AreTypedExits u f used names final known (renamed_exits n es)
-  exits_anew ps keeps known [] to typed = tt
-  exits_anew ps keeps known (e ∷ es) (one, to) (way, typed) = (way_between e.taken known known (labels e.to) (final (renamed n e.to)) (kept_same known) (keeps e.to one) way, exits_anew ps keeps known es to typed)
-
-  labels_kept : (ps : List PieceView) (m : NamesView) (at : ℕ → Temporaries) (s r : State) → n ≡ with_pieces table ps m → final ≡ known_from table labels ps m at → Once (length m.to) ps → HasLabel m → Old s ps r → (l : ℕ) → Marked ps NoLabel l → IsKept (labels l) (final (renamed n l))
-  labels_kept ps m at s r e is once has typed l marked = subst (λ (g : ℕ → Temporaries). IsKept (labels l) (g (renamed n l))) (sym is) (label_kept table labels u f used names silent n ps m at s r e once has typed l marked)
-
-  -- ---- the walk
+  -- ---- labels
 
   -- behind a label that stands next
   stands_next : (l : ℕ) (m : NamesView) (at : ℕ → Temporaries) (after : Temporaries) → HasLabel m → IsKept (labels l) after → (k : ℕ) → k ≡ (with_begun m).count - 1 → Comes (with_label l m) (noted table labels (Mark l) m at) (Some (final k)) (Some after)
@@ -107,46 +102,52 @@ module _ (u : UnitView) (f : FunctionView) (used : Bool) (names : List NameView)
       less : (k count : ℕ) → count ≡ k + 1 → k ≡ count - 1
       less k count e = omega (arith, e)
 
-  walk : (ps : List PieceView) (m : NamesView) (at : ℕ → Temporaries) (x s r : State) → n ≡ with_pieces table ps m → final ≡ known_from table labels ps m at → Once (length m.to) ps → LeadOn calls NoLabel ps → Comes m at x s → Old s ps r → New x (from table n m.count m.is_behind ps) r
-  walk [] m at x s r e is once lead comes typed = weaker_trans x s r (weaker_then m at x s is comes) typed
-  walk (Do y ∷ ps) m at x s r e is once lead comes (None, one, rest) = absurd one
-  walk (Do y ∷ ps) m at x s r e is once (plain, lead) comes (Some after, one, rest) =
-      (Some after, done_anew x s y.does after (weaker_now ps m at x s is comes) one, walk ps (with_other false m) at (Some after) (Some after) r e is (once_next table (Do y) ps m once) lead (begins_anew m at (Some after)) rest)
-  walk (DoIfUsed y ∷ ps) m at x s r e is once (plain, lead) comes (q, one, rest) =
-      (q, done_if_anew used x s q y.does (weaker_now ps m at x s is comes) one, walk ps (with_other false m) at q q r e is (once_next table (DoIfUsed y) ps m once) lead (begins_anew m at q) rest)
-  walk (End y exits ∷ ps) m at x s r e is once lead comes (Some after, one, rest) = absurd one
-  walk (End y exits ∷ ps) m at x s r e is once ((plain, to), lead) comes (None, one, rest) =
-      let next = once_next table (End y exits) ps m once in
-      let keeps = labels_kept ps (with_other false m) at None r e is next (λ b. true_not b) rest in
-      (None, record { behind = one.behind; done = done_anew x s y.does one.behind (weaker_now ps m at x s is comes) one.done; leads = exits_anew ps keeps one.behind exits to one.leads }, walk ps (with_other false m) at None None r e is next lead (begins_anew m at None) rest)
-  walk (Mark l ∷ ps) m at x s r e is once lead comes (None, one, rest) = absurd one
-  walk (Mark l ∷ ps) m at x s r e is once (plain, lead) comes (Some after, (leads, kept), rest) =
-      marks_anew l ps m at x s r after is comes leads kept rest (λ k number. walk ps (with_label l m) (noted table labels (Mark l) m at) (Some (final k)) (Some after) r e is (once_next table (Mark l) ps m once) lead (stands_next l m at after (has_label m at x s comes) kept k number) rest)
-  walk (Call c ∷ ps) m at x s r e is once lead comes (None, one, rest) = absurd one
-  walk (Call c ∷ ps) m at x s r e is once (plain, lead) comes (Some after, one, rest) =
-      by (is_silent table c.function) refl
-      (λ same t. walk ps m at x (Some after) r (e ∙ ap (λ z. with_pieces table ps z) same) (is ∙ ap (λ z. known_from table labels ps z at) same) (subst (λ (z : NamesView). Once (length z.to) ps) same next) lead (comes_further m at x s after comes (silent c t s after one)) rest)
-      (λ other. walk ps (with_other false m) at (Some after) (Some after) r (e ∙ ap (λ z. with_pieces table ps z) other) (is ∙ ap (λ z. known_from table labels ps z at) other) (subst (λ (z : NamesView). Once (length z.to) ps) other next) lead (begins_anew m at (Some after)) rest)
-    where
-      next : Once (length (with_piece table (Call c) m).to) ps
-      next = once_next table (Call c) ps m once
+  -- ---- the walk
 
-      by : (b : Bool) → is_silent table c.function ≡ b → (with_other (is_silent table c.function) m ≡ m → is_silent table c.function ≡ true → New x (from table n m.count m.is_behind ps) r)
-          → (with_other (is_silent table c.function) m ≡ with_other false m → New (Some after) (from table n m.count false ps) r)
-          → New x (cond (is_silent table c.function) (from table n m.count m.is_behind ps) (Call c ∷ from table n m.count false ps)) r
-      by true b out kept = subst (λ t. New x (cond t (from table n m.count m.is_behind ps) (Call c ∷ from table n m.count false ps)) r) (sym b) (out (ap (λ t. with_other t m) b) b)
-      by false b out kept =
-          let other = ap (λ t. with_other t m) b in
-          let pieces : New x (Call c ∷ from table n m.count false ps) r = (Some after, call_anew x s c after (weaker_now ps m at x s (is ∙ ap (λ z. known_from table labels ps z at) other) comes) one, kept other) in
-          subst (λ t. New x (cond t (from table n m.count m.is_behind ps) (Call c ∷ from table n m.count false ps)) r) (sym b) pieces
+  -- edges lead to labels at whose numbers what is known there is kept
+  module _ (L : ℕ → Type 0) (keeps : (l : ℕ) → L l → IsKept (labels l) (final (renamed n l))) where
+    exits_anew : (known : Temporaries) (es : List ExitView) → AllTo L es → AreTypedExits u f used names labels known es → AreTypedExits u f used names final known (renamed_exits n es)
+    exits_anew known [] to typed = tt
+    exits_anew known (e ∷ es) (one, to) (way, typed) = (way_between e.taken known known (labels e.to) (final (renamed n e.to)) (kept_same known) (keeps e.to one) way, exits_anew known es to typed)
+
+    walk : (ps : List PieceView) (m : NamesView) (at : ℕ → Temporaries) (x s r : State) → n ≡ with_pieces table ps m → final ≡ known_from table labels ps m at → Once (length m.to) ps → AreCalm calls L ps → Comes m at x s → Old s ps r → New x (from table n m.count m.is_behind ps) r
+    walk [] m at x s r e is once calm comes typed = weaker_trans x s r (weaker_then m at x s is comes) typed
+    walk (Do y ∷ ps) m at x s r e is once calm comes (None, one, rest) = absurd one
+    walk (Do y ∷ ps) m at x s r e is once (plain, calm) comes (Some after, one, rest) =
+        (Some after, done_anew x s y.does after (weaker_now ps m at x s is comes) one, walk ps (with_other false m) at (Some after) (Some after) r e is (once_next table (Do y) ps m once) calm (begins_anew m at (Some after)) rest)
+    walk (DoIfUsed y ∷ ps) m at x s r e is once (plain, calm) comes (q, one, rest) =
+        (q, done_if_anew used x s q y.does (weaker_now ps m at x s is comes) one, walk ps (with_other false m) at q q r e is (once_next table (DoIfUsed y) ps m once) calm (begins_anew m at q) rest)
+    walk (End y exits ∷ ps) m at x s r e is once calm comes (Some after, one, rest) = absurd one
+    walk (End y exits ∷ ps) m at x s r e is once ((plain, to), calm) comes (None, one, rest) =
+        (None, record { behind = one.behind; done = done_anew x s y.does one.behind (weaker_now ps m at x s is comes) one.done; leads = exits_anew one.behind exits to one.leads }, walk ps (with_other false m) at None None r e is (once_next table (End y exits) ps m once) calm (begins_anew m at None) rest)
+    walk (Mark l ∷ ps) m at x s r e is once calm comes (None, one, rest) = absurd one
+    walk (Mark l ∷ ps) m at x s r e is once (plain, calm) comes (Some after, (leads, kept), rest) =
+        marks_anew l ps m at x s r after is comes leads kept rest (λ k number. walk ps (with_label l m) (noted table labels (Mark l) m at) (Some (final k)) (Some after) r e is (once_next table (Mark l) ps m once) calm (stands_next l m at after (has_label m at x s comes) kept k number) rest)
+    walk (Call c ∷ ps) m at x s r e is once calm comes (None, one, rest) = absurd one
+    walk (Call c ∷ ps) m at x s r e is once (plain, calm) comes (Some after, one, rest) =
+        by (is_silent table c.function) refl
+        (λ same t. walk ps m at x (Some after) r (e ∙ ap (λ z. with_pieces table ps z) same) (is ∙ ap (λ z. known_from table labels ps z at) same) (subst (λ (z : NamesView). Once (length z.to) ps) same next) calm (comes_further m at x s after comes (silent c t s after one)) rest)
+        (λ other. walk ps (with_other false m) at (Some after) (Some after) r (e ∙ ap (λ z. with_pieces table ps z) other) (is ∙ ap (λ z. known_from table labels ps z at) other) (subst (λ (z : NamesView). Once (length z.to) ps) other next) calm (begins_anew m at (Some after)) rest)
+      where
+        next : Once (length (with_piece table (Call c) m).to) ps
+        next = once_next table (Call c) ps m once
+
+        by : (b : Bool) → is_silent table c.function ≡ b → (with_other (is_silent table c.function) m ≡ m → is_silent table c.function ≡ true → New x (from table n m.count m.is_behind ps) r)
+            → (with_other (is_silent table c.function) m ≡ with_other false m → New (Some after) (from table n m.count false ps) r)
+            → New x (cond (is_silent table c.function) (from table n m.count m.is_behind ps) (Call c ∷ from table n m.count false ps)) r
+        by true b out kept = subst (λ t. New x (cond t (from table n m.count m.is_behind ps) (Call c ∷ from table n m.count false ps)) r) (sym b) (out (ap (λ t. with_other t m) b) b)
+        by false b out kept =
+            let other = ap (λ t. with_other t m) b in
+            let pieces : New x (Call c ∷ from table n m.count false ps) r = (Some after, call_anew x s c after (weaker_now ps m at x s (is ∙ ap (λ z. known_from table labels ps z at) other) comes) one, kept other) in
+            subst (λ t. New x (cond t (from table n m.count m.is_behind ps) (Call c ∷ from table n m.count false ps)) r) (sym b) pieces
 
 -- ---- whole templates
 
-pub settled_typed : (u : UnitView) (f : FunctionView) (calls : ℕ → Bool) (used : Bool) (t : TemplateView) (table : List (Option FunctionCounts)) → AreCounts u table → LeadsOn calls t → Once t.labels t.pieces → IsTypedTemplate u f used t → IsTypedTemplate u f used (settled table t)
-settled_typed u f calls used t table are lead once typed = record {
+pub settled_typed : (u : UnitView) (f : FunctionView) (calls : ℕ → Bool) (used : Bool) (t : TemplateView) (table : List (Option FunctionCounts)) → AreCounts u table → IsCalm calls t → Once t.labels t.pieces → IsTypedTemplate u f used t → IsTypedTemplate u f used (settled table t)
+settled_typed u f calls used t table are calm once typed = record {
   labels = final;
   pieces = subst (λ ps. AreTypedPieces u f used t.names final start ps end) (sym (settled_from table t once))
-      (walk u f used t.names typed.labels table (silent_leads u f used t.names typed.labels table are) calls (own table t once) final t.pieces (no_names t.labels) (λ l. nothing) start start end refl refl (all_once table t once) lead.pieces (goes_on start start refl (weaker_same start)) typed.pieces);
+      (walk u f used t.names typed.labels table silent calls (own table t once) final (IsMarkedIn t) keeps t.pieces (no_names t.labels) (λ l. nothing) start start end refl refl (all_once table t once) (pieces_calm calls t calm) (goes_on start start refl (weaker_same start)) typed.pieces);
 }
   where
     start : State
@@ -157,3 +158,9 @@ settled_typed u f calls used t table are lead once typed = record {
 
     final : ℕ → Temporaries
     final = known_from table typed.labels t.pieces (no_names t.labels) (λ l. nothing)
+
+    silent : (c : OwnCall) → is_silent table c.function ≡ true → (s : State) (after : Temporaries) → IsTypedCall u f used t.names typed.labels s c after → Leads s after
+    silent = silent_leads u f used t.names typed.labels table are
+
+    keeps : (l : ℕ) → IsMarkedIn t l → IsKept (typed.labels l) (final (renamed (own table t once) l))
+    keeps = label_kept table typed.labels u f used t.names silent (own table t once) t.pieces (no_names t.labels) (λ l. nothing) start end refl (all_once table t once) (λ b. true_not b) typed.pieces
