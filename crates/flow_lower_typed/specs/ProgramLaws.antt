@@ -4,7 +4,7 @@ use Rattle.std.specs.List.{Contains, list_all}
 use Rattle.cc_base.specs.declared.diagnostics.Place.{Place}
 use Rattle.c_layout.specs.CheckedUnits.{FunctionView, UnitView}
 use Rattle.c_layout.specs.Types.{Ty}
-use Rattle.flow_lower.specs.Openings.{ProgramView, template_at, program, whole}
+use Rattle.flow_lower.specs.Openings.{ProgramView, template_at, program}
 use Rattle.flow_lower_counts.specs.Preparations.{are_counted, AreCounts}
 use Rattle.flow_lower_counts.specs.SettledTemplates.{settled}
 use Rattle.flow_lower_counts_parts.specs.declared.function_counts.FunctionCounts.{FunctionCounts}
@@ -53,10 +53,6 @@ SettledTemplatesAreTyped = (u : UnitView) (f : FunctionView) (calls : ℕ → Bo
 abbrev pub SettledTemplatesAreCalm : Type 0
 SettledTemplatesAreCalm = (calls : ℕ → Bool) (t : TemplateView) (table : List (Option FunctionCounts)) → ((l : ℕ) → all_marked l t.pieces ≤ label_is_below l t.labels) → IsCalm calls t → IsCalm calls (settled table t)
 
--- and mark each label once at most
-abbrev pub SettledTemplatesAreMarkedOnce : Type 0
-SettledTemplatesAreMarkedOnce = (t : TemplateView) (table : List (Option FunctionCounts)) → ((l : ℕ) → all_marked l t.pieces ≤ label_is_below l t.labels) → (l : ℕ) → all_marked l (settled table t).pieces ≤ 1
-
 -- ---- programs
 
 abbrev pub steps_of : Option BlockView → List Step
@@ -100,4 +96,4 @@ AreTypedFunctions u ts = (n : ℕ) (f : FunctionView) (t : TemplateView) → sli
 -- the entry, which takes nothing, is opened to a program whose pointers have types
 abbrev pub OpenedProgramsAreTyped : Type 0
 OpenedProgramsAreTyped = (u : UnitView) (ts : List (Option TemplateView)) (at : Place) → HasOwnTypes u → AreTypedFunctions u ts → (f : FunctionView) → slice_get u.functions u.entry ≡ Some f → f.parameters ≡ 0
-    → (whole u ts at).stack ≡ [] → HasLowSteps (program u ts at) → IsTypedOpening u (program u ts at)
+    → HasLowSteps (program u ts at) → IsTypedOpening u (program u ts at)

@@ -1,10 +1,6 @@
 //! Each base that a name is given has the type of what is named, from the first objects of a unit on.
-<<<<<<< HEAD
-ghost use Rattle.flow_lower_typed.specs.ProgramLaws.{FirstObjectsAreTyped, LoopedLocalsAreOwn, ShortTypesAreOwn};
-=======
-ghost use Rattle.flow_lower_typed.specs.ProgramLaws.{PlainLocalsAreOwn, PlainTypesAreOwn};
+ghost use Rattle.flow_lower_typed.specs.ProgramLaws.{LoopedLocalsAreOwn, ShortTypesAreOwn};
 ghost use Rattle.flow_lower_typed_bases.specs.FirstObjects.{FirstObjectsAreTyped};
->>>>>>> 50e498b921c3b09bf0215349a9207211152d5d52
 ghost use Rattle.flow_lower_typed.specs.TypedBases.{NamesAreTyped};
 
 /// A name that is given a base, or had one, has one of its type; the bases before keep theirs.

@@ -170,4 +170,4 @@ module _ (u : UnitView) (ts : List (Option TemplateView)) where
       by (Some now) h = typed_finished x k now h low
 
 pub typed_openings : TypedNamesMakeTypedOpenings
-typed_openings laws u ts at own functions f is none ends low = typed_opening u ts (o.whole u ts at) (opens_whole u ts laws own functions at f is none) low
+typed_openings laws u ts at own functions f is none low = typed_opening u ts (o.whole u ts at) (opens_whole u ts laws own functions at f is none) low

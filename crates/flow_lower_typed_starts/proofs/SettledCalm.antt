@@ -1,10 +1,9 @@
--- A calm template is so when it is settled, and a settled one marks each label once at most.
-use Rattle.std.proofs.Common.{◌≡◌, ◌≤◌, ◌⊎◌, inl, inr, ℕ, ◌+◌, ◌-◌, Bool, true, false, cond, List, [], ◌∷◌, length, Option, refl, arith, ap, sym, subst, ◌∙◌}
+-- A calm template is so when it is settled.
+use Rattle.std.proofs.Common.{◌≡◌, ◌⊎◌, inl, inr, ℕ, ◌+◌, ◌-◌, Bool, true, false, cond, List, [], ◌∷◌, length, Option, refl, arith, ap, sym, subst, ◌∙◌}
 use Rattle.flow_lower_tasks.specs.Pieces.{ExitView, PieceView, Do, DoIfUsed, End, Mark, Call, TemplateView}
 use Rattle.flow_lower_counts_parts.specs.declared.function_counts.FunctionCounts.{FunctionCounts}
 use Rattle.flow_lower_counts.specs.SettledTemplates.{NamesView, is_silent, with_begun, with_label, with_other, with_piece, with_pieces, no_names, renamed, renamed_exits, renamed_end, settled}
-use Rattle.flow_lower_debts.specs.Marks.{one, below, all_marked}
-use Rattle.flow_lower_debts.proofs.MarkArithmetic.{one_below, at_most_one}
+use Rattle.flow_lower_debts.specs.Marks.{one}
 use Rattle.flow_lower_plain_works.specs.LeadingPieces.{AllTo, Marked, NoLabel}
 use Rattle.template_runs_settled.proofs.SettledPieces.{from, Once, once_next, own, all_once, settled_from}
 use Rattle.flow_lower_looped.specs.CalmTemplates.{IsMarkedIn, IsCalm}
@@ -47,19 +46,6 @@ module _ (table : List (Option FunctionCounts)) (n : NamesView) where
       by true there = there
       by false there = inl (over m (Call c) ps (renamed n l) there)
 
-  once_from : (l : ℕ) (ps : List PieceView) (k : ℕ) (b : Bool) → all_marked l (from table n k b ps) + below l k ≤ 1
-  once_from l [] k b = let most = at_most_one l k in omega (arith, most)
-  once_from l (Do s ∷ ps) k b = let le = once_from l ps k false in omega (arith, le)
-  once_from l (DoIfUsed s ∷ ps) k b = let le = once_from l ps k false in omega (arith, le)
-  once_from l (End s exits ∷ ps) k b = let le = once_from l ps k false in omega (arith, le)
-  once_from l (Mark j ∷ ps) k true = once_from l ps k true
-  once_from l (Mark j ∷ ps) k false = let le = once_from l ps (k + 1) true in let more = one_below l k in omega (arith, le, more)
-  once_from l (Call c ∷ ps) k b = by (is_silent table c.function) (once_from l ps k b) (once_from l ps k false)
-    where
-      by : (s : Bool) → all_marked l (from table n k b ps) + below l k ≤ 1 → all_marked l (from table n k false ps) + below l k ≤ 1 → all_marked l (cond s (from table n k b ps) (Call c ∷ from table n k false ps)) + below l k ≤ 1
-      by true out kept = out
-      by false out kept = omega (arith, kept)
-
   -- ---- edges
 
   module _ (calls : ℕ → Bool) (L M : ℕ → Type 0) (to_marked : (l : ℕ) → L l → M (renamed n l)) where
@@ -96,9 +82,3 @@ module _ (table : List (Option FunctionCounts)) (t : TemplateView) (once : Once 
         (calm_from table (own table t once) calls (IsMarkedIn t) (IsMarkedIn (settled table t)) settled_marks t.pieces 0 false (pieces_calm calls t calm)));
     names = calm.names;
   }
-
-  pub settled_once : (l : ℕ) → all_marked l (settled table t).pieces ≤ 1
-  settled_once l = subst (λ ps. all_marked l ps ≤ 1) (sym (settled_from table t once)) (less (all_marked l (from table (own table t once) 0 false t.pieces)) (below l 0) (once_from table (own table t once) l t.pieces 0 false))
-    where
-      less : (a b : ℕ) → a + b ≤ 1 → a ≤ 1
-      less a b le = omega (arith, le)

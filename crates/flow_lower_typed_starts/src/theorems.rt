@@ -1,6 +1,6 @@
 //! The looks at types and at first bytes say what they look for, and what settling leaves of a template keeps to what is
 //! known.
-ghost use Rattle.flow_lower_typed.specs.ProgramLaws.{TypesStandWhereTheyBegin, TypedObjectsAreTyped, SettledTemplatesAreTyped, SettledTemplatesAreCalm, SettledTemplatesAreMarkedOnce};
+ghost use Rattle.flow_lower_typed.specs.ProgramLaws.{TypesStandWhereTheyBegin, TypedObjectsAreTyped, SettledTemplatesAreTyped, SettledTemplatesAreCalm};
 
 /// A type stands in another one where the first bytes of its scalars and of its structures do, where members stand
 /// apart, in no circle.
@@ -22,9 +22,4 @@ pub fn settled_templates_are_typed()
 /// Each edge of a settled template leads to a label that it marks, as each of the template does.
 pub fn settled_templates_are_calm()
     ensures { SettledTemplatesAreCalm }
-{}
-
-/// A settled template marks each label once at most.
-pub fn settled_templates_are_marked_once()
-    ensures { SettledTemplatesAreMarkedOnce }
 {}
