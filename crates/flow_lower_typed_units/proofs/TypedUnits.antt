@@ -1,8 +1,27 @@
 -- A plain unit that passes the look at types has a program that has types, so that accesses of its run are typed.
 use Rattle.std.proofs.Common.{◌≡◌, ◌≤◌, ◌<◌, ℕ, zero, suc, ◌-◌, ◌^◌, ◌==◌, Bool, true, false, ◌&&◌, List, [], ◌∷◌, length, Option, Some, None, slice_get, refl, ap, sym, subst, ◌∙◌, arith}
 use Rattle.std.specs.List.{list_all}
-use Rattle.std.proofs.lemmas.Bool.{and_parts, eqb-true}
+use Rattle.std.proofs.lemmas.Bool.{and_parts, eqb-true, true≢false}
 use Rattle.cc_base.specs.declared.limit_table.Limits.{Limits}
+use Rattle.c_layout.specs.Leaves.{leaves_of}
+use Rattle.c_layout.specs.declared.leaf_lists.Leaf.{Leaf}
+use Rattle.c_layout.specs.declared.library_functions.LibFn.{LibFn}
+use Rattle.c_layout.specs.declared.library_functions.LibFn.TheVariants.{Isalpha, Isdigit, Isspace, Isupper, Islower, Isalnum, Toupper, Tolower, Putchar, Exit, Abort}
+use Rattle.flow_program.specs.declared.machine_instructions.Operation.{Operation}
+use Rattle.flow_program.specs.declared.machine_instructions.Operation.TheVariants as op
+use Rattle.flow_lower.specs.Lowerings.{inputs}
+use Rattle.flow_lower_looped.specs.CalmTemplates.{IsMarkedIn, IsCalm, LoopedTemplatesAreCalm}
+use Rattle.flow_lower_looped.specs.LoopedStatements.{are_looped_statements}
+use Rattle.flow_lower_looped.specs.LoopedUnits.{is_looped_function, is_looped_if_there, is_looped_from, is_looped_unit}
+use Rattle.flow_lower_looped.proofs.PlainIsLooped.{plain_function_looped}
+use Rattle.flow_lower_plain.specs.PlainTerms.{is_plain_library}
+use Rattle.flow_lower_plain_programs.specs.PlainBases.{AreAlone}
+use Rattle.flow_lower_plain_programs.proofs.SmallLeaves.{alone_leaves}
+use Rattle.flow_lower_counts.specs.SettledTemplates.{settled}
+use Rattle.flow_program_types.specs.TypedStates.{Temporaries}
+use Rattle.flow_program_types.specs.TypedPrograms as program
+use Rattle.abstract_steps_single.specs.SingleLaws.{IsPlainFunction}
+use Rattle.abstract_steps_single_runs.specs.SingleRuns.{IsPlainOperation}
 use Rattle.c_layout.specs.CheckedTrees.{statement_trees}
 use Rattle.c_layout.specs.CheckedUnits.{FunctionView, UnitView}
 use Rattle.c_layout.specs.Layout.{size_of_type}
@@ -18,14 +37,10 @@ use Rattle.flow_lower_counts.specs.Preparations.{IsTemplateOf, called, Reaches, 
 use Rattle.flow_lower_functions.specs.Functions.{setting_of, function, no_plan}
 use Rattle.flow_lower_functions.proofs.OneTemplate.{one_finish}
 use Rattle.flow_lower_marks.specs.MarkedLabels.{LabelsAreMarkedBelow}
-use Rattle.flow_lower_plain.specs.PlainStatements.{are_plain_statements}
-use Rattle.flow_lower_plain.specs.PlainUnits.{no_label, is_plain_function, is_plain_if_there, is_plain_from, takes_nothing, is_plain_unit}
+use Rattle.flow_lower_plain.specs.PlainUnits.{is_plain_function, is_plain_if_there, is_plain_from, takes_nothing, is_plain_unit}
 use Rattle.flow_lower_plain.specs.ShortArrays.{has_short_arrays, is_short_local, has_short_objects}
-use Rattle.flow_lower_plain_laws.specs.LeadingTemplates.{TemplatesLeadOn}
-use Rattle.flow_lower_plain_programs.specs.PlainPrograms.{PlainUnitsHavePlainPrograms}
-use Rattle.flow_lower_plain_programs.proofs.SettledLeads.{settled_leads, settled_below}
-use Rattle.flow_lower_plain_programs.proofs.StandingLabels.{function_labels_stand}
-use Rattle.flow_lower_plain_works.specs.LeadingPieces.{LeadOn, NoLabel, LeadsOn}
+use Rattle.flow_lower_plain_programs.proofs.SettledLeads.{settled_below}
+use Rattle.flow_lower_plain_works.specs.LeadingPieces.{LeadOn}
 use Rattle.flow_lower_shapes.specs.FirstZeros.{object_shape}
 use Rattle.flow_lower_tasks.specs.Pieces.{PieceView, Do, DoIfUsed, End, Mark, Call, TemplateView}
 use Rattle.flow_lower_units.specs.RegularUnits.{is_regular_function}
@@ -39,37 +54,35 @@ use Rattle.store_domain_laws_layouts.specs.LaidApart.{has_class_bytes}
 use Rattle.template_runs_layouts.specs.LowTemporaries.{IsActLow}
 use Rattle.template_runs_fit.specs.LowPrograms.{WellFormedProgramsAreLow}
 use Rattle.template_runs_settled.specs.SettledRuns.{LabelsStandOnce}
-use Rattle.template_runs_suited.specs.RegularFunctions.{RegularFunctionsSuit}
 use Rattle.template_runs_units.specs.UnitRuns.{IsProgramOf}
 use Rattle.abstract_steps_single_runs.specs.SingleRuns.{HasTypedAccesses}
 use Rattle.store_domain_sound.proofs.Slices.{get_there}
 use Rattle.store_domain_sound_programs.proofs.ShapedBases.{all_at}
 use Rattle.flow_program_types.specs.StandingTypes.{AreLaidOut}
-use Rattle.flow_program_types.specs.TypedPrograms.{structs_of, IsObjectOf, first_types, IsTypedProgram}
+use Rattle.flow_program_types.specs.TypedPrograms.{structs_of, IsObjectOf, first_types, IsTypedOperation, IsTypedProgram}
 use Rattle.flow_program_types_runs.specs.TypedRuns.{TypedProgramsHaveTypedAccesses}
 use Rattle.flow_lower_typed.specs.TypedBases.{IsMadeOf}
 use Rattle.flow_lower_typed.specs.TypedObjects.{is_typed_object, is_own_function, is_own_object, is_own_literal}
 use Rattle.flow_lower_typed.specs.TypedStatements.{is_typed_function}
 use Rattle.flow_lower_typed.specs.TypedUnits.{has_own_types, is_typed_unit}
 use Rattle.flow_lower_typed.specs.WorkLaws.{TemplatesAreTyped}
-use Rattle.flow_lower_typed.specs.ProgramLaws.{TypedObjectsAreTyped, PlainTypesAreOwn, PlainLocalsAreOwn, SettledTemplatesAreTyped, HasLowSteps, steps_of, IsTypedOpening, AreThere, IsTypedFunction, AreTypedFunctions, OpenedProgramsAreTyped}
+use Rattle.flow_lower_typed.specs.ProgramLaws.{TypedObjectsAreTyped, ShortTypesAreOwn, LoopedLocalsAreOwn, SettledTemplatesAreTyped, SettledTemplatesAreCalm, HasLowSteps, steps_of, IsTypedOpening, AreThere, IsTypedFunction, AreTypedFunctions, OpenedProgramsAreTyped}
 use Rattle.flow_lower_typed_bases.specs.FirstObjects.{FirstObjectsAreTyped}
-use Rattle.flow_lower_typed_units.specs.TypedUnitLaws.{TypedUnitsHaveTypedAccesses}
+use Rattle.flow_lower_typed_units.specs.TypedUnitLaws.{TypedUnitsHaveTypedAccesses, IsLoopedFlow, LoopedUnitsHaveTypedPrograms}
 use Rattle.flow_lower_typed_units.proofs.TypedFlows.{type_at, type_is, typed_steps, typed_edges}
 
 -- all that is composed
 pub record Laws : Type 0 where
-  pub plain : PlainUnitsHavePlainPrograms
-  pub suit : RegularFunctionsSuit
   pub regular : FunctionsAreRegular
   pub labelled : FunctionsAreLabelled
   pub marked : LabelsAreMarkedBelow
-  pub lead : TemplatesLeadOn
+  pub calm : LoopedTemplatesAreCalm
   pub low : WellFormedProgramsAreLow
   pub typed : TemplatesAreTyped
   pub settled : SettledTemplatesAreTyped
-  pub own_types : PlainTypesAreOwn
-  pub own_locals : PlainLocalsAreOwn
+  pub settled_calm : SettledTemplatesAreCalm
+  pub own_types : ShortTypesAreOwn
+  pub own_locals : LoopedLocalsAreOwn
   pub objects : TypedObjectsAreTyped
   pub opened : OpenedProgramsAreTyped
   pub first : FirstObjectsAreTyped
@@ -83,6 +96,20 @@ same_function f g e = cc
 joined_there : (o : Option (Option TemplateView)) (t : TemplateView) → joined o ≡ Some t → o ≡ Some (Some t)
 joined_there None t e = absurd (cc)
 joined_there (Some x) t e = ap Some e
+
+plain_function : (name : LibFn) → is_plain_library name ≡ true → IsPlainFunction name
+plain_function Isalpha e = tt
+plain_function Isdigit e = tt
+plain_function Isspace e = tt
+plain_function Isupper e = tt
+plain_function Islower e = tt
+plain_function Isalnum e = tt
+plain_function Toupper e = tt
+plain_function Tolower e = tt
+plain_function Putchar e = tt
+plain_function Exit e = tt
+plain_function Abort e = tt
+plain_function other e = absurd (cc)
 
 -- ---- bases
 
@@ -147,7 +174,37 @@ led_call calls L (Call c ∷ ps) (one, rest) m zero p is call = subst (λ n. cal
     some : (c : _) (p : PieceView) → Some (Call c) ≡ Some p → Call c ≡ p
     some c p e = cc
 
-module _ (laws : Laws) (u : UnitView) (limits : Limits) (flow : Flow) (o : IsProgramOf u limits flow) (laid : AreLaidOut u.model u.structs) (plain : is_plain_unit u ≡ true) (looked : is_typed_unit u ≡ true) where
+-- ---- looks
+
+-- a look at functions, through calls that nest at most so deep
+pub record IsReachedBy (u : UnitView) (from : ℕ → ℕ → Bool) : Type 0 where
+  pub takes : takes_nothing (slice_get u.functions u.entry) ≡ true
+  pub short : has_short_objects u ≡ true
+  pub begins : from (length u.functions) u.entry ≡ true
+  pub none : (n : ℕ) → from 0 n ≡ false
+  pub looped : (depth n : ℕ) (f : FunctionView) → from (suc depth) n ≡ true → slice_get u.functions n ≡ Some f → is_looped_function u (from depth) f ≡ true
+
+pub looped_reached : (u : UnitView) → is_looped_unit u ≡ true → IsReachedBy u (is_looped_from u)
+looped_reached u looped =
+    let first = and_parts (takes_nothing (slice_get u.functions u.entry)) _ looped in
+    let rest = and_parts (has_short_objects u) _ first.1 in
+    record { takes = first.0; short = rest.0; begins = rest.1; none = λ n. refl; looped = λ depth n f is there. by depth (slice_get u.functions n) f there is }
+  where
+    by : (depth : ℕ) (x : Option FunctionView) (f : FunctionView) → x ≡ Some f → is_looped_if_there u (is_looped_from u depth) x ≡ true → is_looped_function u (is_looped_from u depth) f ≡ true
+    by depth None f there e = absurd (cc)
+    by depth (Some g) f there e = subst (λ h. is_looped_function u (is_looped_from u depth) h ≡ true) (same_function g f there) e
+
+pub plain_reached : (u : UnitView) → is_plain_unit u ≡ true → IsReachedBy u (is_plain_from u)
+plain_reached u plain =
+    let first = and_parts (takes_nothing (slice_get u.functions u.entry)) _ plain in
+    let rest = and_parts (has_short_objects u) _ first.1 in
+    record { takes = first.0; short = rest.0; begins = rest.1; none = λ n. refl; looped = λ depth n f is there. by depth (slice_get u.functions n) f there is }
+  where
+    by : (depth : ℕ) (x : Option FunctionView) (f : FunctionView) → x ≡ Some f → is_plain_if_there u (is_plain_from u depth) x ≡ true → is_looped_function u (is_plain_from u depth) f ≡ true
+    by depth None f there e = absurd (cc)
+    by depth (Some g) f there e = plain_function_looped u (is_plain_from u depth) f (subst (λ h. is_plain_function u (is_plain_from u depth) h ≡ true) (same_function g f there) e)
+
+module _ (laws : Laws) (u : UnitView) (limits : Limits) (flow : Flow) (o : IsProgramOf u limits flow) (laid : AreLaidOut u.model u.structs) (from : ℕ → ℕ → Bool) (reached_by : IsReachedBy u from) (looked : is_typed_unit u ≡ true) where
   abbrev ts : List (Option TemplateView)
   ts = o.is.templates
 
@@ -155,9 +212,6 @@ module _ (laws : Laws) (u : UnitView) (limits : Limits) (flow : Flow) (o : IsPro
   prepared = o.is.is_counted.is_prepared
 
   -- ---- looks
-
-  from_entry : is_plain_from u (length u.functions) u.entry ≡ true
-  from_entry = (and_parts (has_short_objects u) _ (and_parts (takes_nothing (slice_get u.functions u.entry)) _ plain).1).1
 
   functions_typed : list_all (is_typed_function u) u.functions ≡ true
   functions_typed = (and_parts (list_all (is_typed_function u) u.functions) _ looked).0
@@ -177,36 +231,31 @@ module _ (laws : Laws) (u : UnitView) (limits : Limits) (flow : Flow) (o : IsPro
 
   -- ---- functions that the entry reaches
 
-  abbrev IsPlain : ℕ → Type 0
-  IsPlain n = (depth : ℕ) × ((f : FunctionView) → slice_get u.functions n ≡ Some f → is_plain_function u (is_plain_from u depth) f ≡ true)
+  abbrev IsLooped : ℕ → Type 0
+  IsLooped n = (depth : ℕ) × ((f : FunctionView) → slice_get u.functions n ≡ Some f → is_looped_function u (from depth) f ≡ true)
 
-  plain_from : (depth n : ℕ) → is_plain_from u depth n ≡ true → IsPlain n
-  plain_from zero n is = absurd (cc)
-  plain_from (suc depth) n is = (depth, λ f there. by (slice_get u.functions n) f there is)
-    where
-      by : (x : Option FunctionView) (f : FunctionView) → x ≡ Some f → is_plain_if_there u (is_plain_from u depth) x ≡ true → is_plain_function u (is_plain_from u depth) f ≡ true
-      by None f there e = absurd (cc)
-      by (Some g) f there e = subst (λ h. is_plain_function u (is_plain_from u depth) h ≡ true) (same_function g f there) e
+  looped_from : (depth n : ℕ) → from depth n ≡ true → IsLooped n
+  looped_from zero n is = absurd (true≢false (sym is ∙ reached_by.none n))
+  looped_from (suc depth) n is = (depth, λ f there. reached_by.looped depth n f is there)
 
-  -- what a template of a plain function is
+  -- what a template of such a function is
   record Known (depth n : ℕ) (f : FunctionView) (t : TemplateView) : Type 0 where
     once : LabelsStandOnce t
-    leads : LeadsOn (is_plain_from u depth) t
+    calm : IsCalm (from depth) t
 
-  statements_plain : (calls : ℕ → Bool) (f : FunctionView) → is_plain_function u calls f ≡ true → are_plain_statements calls no_label false (statement_trees f.body) ≡ true
-  statements_plain calls f e = (and_parts (list_all (is_short_local u.structs) f.locals && has_short_arrays u.structs f.returns) (are_plain_statements calls no_label false (statement_trees f.body)) e).1
+  statements_looped : (calls : ℕ → Bool) (f : FunctionView) → is_looped_function u calls f ≡ true → are_looped_statements calls (statement_trees f.body) ≡ true
+  statements_looped calls f e = (and_parts (list_all (is_short_local u.structs) f.locals && has_short_arrays u.structs f.returns) (are_looped_statements calls (statement_trees f.body)) e).1
 
   numbered : (f : FunctionView) → is_regular_function u f ≡ true → is_numbered f ≡ true
   numbered f e = (and_parts (is_numbered f) (has_own_objects f && are_regular_statements u f false false (statement_trees f.body)) e).0
 
-  known_of : (depth n : ℕ) (f : FunctionView) (t : TemplateView) → IsTemplateOf u n f t → t.labels ≤ 2 ^ 32 - 1 → is_plain_function u (is_plain_from u depth) f ≡ true → Known depth n f t
+  known_of : (depth n : ℕ) (f : FunctionView) (t : TemplateView) → IsTemplateOf u n f t → t.labels ≤ 2 ^ 32 - 1 → is_looped_function u (from depth) f ≡ true → Known depth n f t
   known_of depth n f t is few own =
       let regular = laws.regular u n f o.regular is.stands in
       let labelled = laws.labelled f (numbered f regular) in
-      let stand = function_labels_stand u f (n == u.entry) t is.is_template few labelled (laws.suit u f regular) in
       record {
         once = laws.marked u.structs u.model.pointer u.model.int f (n == u.entry) t is.is_template labelled few;
-        leads = laws.lead (is_plain_from u depth) u.structs u.model.pointer u.model.int f (n == u.entry) t is.is_template labelled few stand (statements_plain (is_plain_from u depth) f own);
+        calm = laws.calm u (from depth) f (n == u.entry) t is.is_template few regular (statements_looped (from depth) f own);
       }
 
   -- a function has one template, which has labels of 32 bits where the entry reaches it
@@ -218,13 +267,13 @@ module _ (laws : Laws) (u : UnitView) (limits : Limits) (flow : Flow) (o : IsPro
       let one = one_finish (setting_of u.structs u.model.pointer u.model.int f (n == u.entry)) (function (setting_of u.structs u.model.pointer u.model.int f (n == u.entry)) f (no_plan f.labels)) k.template t (subst (λ (g : FunctionView). IsTemplateOf u n g k.template) same k.is_template).is_template is.is_template in
       subst (λ (x : TemplateView). x.labels ≤ 2 ^ 32 - 1) one k.few
 
-  reached_plain : (n : ℕ) → Reaches u n → IsPlain n
-  reached_plain n begun = plain_from (length u.functions) u.entry from_entry
-  reached_plain m (further n _ f t reached is calls) =
-      let (depth, own) = reached_plain n reached in
+  reached_looped : (n : ℕ) → Reaches u n → IsLooped n
+  reached_looped n begun = looped_from (length u.functions) u.entry reached_by.begins
+  reached_looped m (further n _ f t reached is calls) =
+      let (depth, own) = reached_looped n reached in
       let (at, p, there, call) = calls in
       let k = known_of depth n f t is (few_labels n f t reached is) (own f is.stands) in
-      plain_from depth m (led_call (is_plain_from u depth) NoLabel t.pieces k.leads.pieces m at p there call)
+      looped_from depth m (led_call (from depth) (IsMarkedIn t) t.pieces k.calm.pieces m at p there call)
 
   -- ---- typed functions
 
@@ -244,22 +293,22 @@ module _ (laws : Laws) (u : UnitView) (limits : Limits) (flow : Flow) (o : IsPro
   settled_typed n t k f there =
       let same : k.function ≡ f = same_function k.function f (sym k.is_template.stands ∙ there) in
       let is : IsTemplateOf u n f k.template = subst (λ (g : FunctionView). IsTemplateOf u n g k.template) same k.is_template in
-      let (depth, own) = reached_plain n k.reached in
-      let calls = is_plain_from u depth in
+      let (depth, own) = reached_looped n k.reached in
+      let calls = from depth in
       let known = known_of depth n f k.template is k.few (own f there) in
       let regular = laws.regular u n f o.regular there in
       let typed = all_at (is_typed_function u) u.functions n f functions_typed there in
       let owned = all_at (is_own_function u) u.functions n f own_functions there in
-      let pieces = λ (used : Bool). laws.settled u f calls used k.template k.table k.are_counts k.all_counted known.leads known.once
-          (laws.typed u f calls (n == u.entry) k.template laid is.is_template k.few typed regular (statements_plain calls f (own f there)) used) in
+      let pieces = λ (used : Bool). laws.settled u f calls used k.template k.table k.are_counts k.all_counted known.calm known.once
+          (laws.typed u f calls (n == u.entry) k.template laid is.is_template k.few typed regular (statements_looped calls f (own f there)) used) in
       let all_there = λ (m at : ℕ) (p : PieceView) (is_at : slice_get k.template.pieces at ≡ Some p) (call : called p ≡ Some m). reached_there m (further n m f k.template k.reached is (at, p, is_at, call)) in
-      let leads_there : LeadsOn (has_template ts) k.template = record { pieces = lead_more calls (has_template ts) NoLabel k.template.pieces all_there known.leads.pieces; names = known.leads.names } in
+      let calm_there : IsCalm (has_template ts) k.template = record { pieces = lead_more calls (has_template ts) (IsMarkedIn k.template) k.template.pieces all_there known.calm.pieces; names = known.calm.names } in
       subst (IsTypedFunction u ts f) (sym k.settles) (record {
         calls = calls;
         pieces = pieces;
-        leads = settled_leads k.table k.template known.once calls known.leads;
+        calm = laws.settled_calm calls k.template k.table known.once known.calm;
         room = settled_below k.table k.template known.once;
-        there = pieces_there NoLabel _ (settled_leads k.table k.template known.once (has_template ts) leads_there).pieces;
+        there = pieces_there (IsMarkedIn (settled k.table k.template)) (settled k.table k.template).pieces (laws.settled_calm (has_template ts) k.template k.table known.once calm_there).pieces;
         locals = laws.own_locals u calls f (own f there) owned;
       })
     where
@@ -284,8 +333,8 @@ module _ (laws : Laws) (u : UnitView) (limits : Limits) (flow : Flow) (o : IsPro
       by (Some w) e is low = low w e is
 
   opening : IsTypedOpening u p
-  opening = laws.opened u ts o.is.entry.at (laws.own_types u plain own_types) functions_are_typed o.is.entry o.is.is_counted.is_entry
-      (takes_none (slice_get u.functions u.entry) o.is.entry o.is.is_counted.is_entry (and_parts (takes_nothing (slice_get u.functions u.entry)) _ plain).0) o.is.ends low_steps
+  opening = laws.opened u ts o.is.entry.at (laws.own_types u reached_by.short own_types) functions_are_typed o.is.entry o.is.is_counted.is_entry
+      (takes_none (slice_get u.functions u.entry) o.is.entry o.is.is_counted.is_entry reached_by.takes) low_steps
 
   structures : u.structs ≡ structs_of flow
   structures = sym (ap (λ (w : FlowView). w.structs) o.is.opens)
@@ -294,7 +343,7 @@ module _ (laws : Laws) (u : UnitView) (limits : Limits) (flow : Flow) (o : IsPro
   model = sym (ap (λ (w : FlowView). w.model) o.is.opens)
 
   parameters : flow.parameters.items ≡ []
-  parameters = (laws.plain u limits flow o plain).parameters
+  parameters = ap (λ (w : FlowView). w.parameters) o.is.opens ∙ ap (inputs o.is.entry) (takes_none (slice_get u.functions u.entry) o.is.entry o.is.is_counted.is_entry reached_by.takes)
 
   base_typed : (b : ℕ) (base : BaseInfo) → slice_get flow.bases.items b ≡ Some base → IsObjectOf flow (type_at opening.types b) base
   base_typed b base there =
@@ -324,8 +373,54 @@ module _ (laws : Laws) (u : UnitView) (limits : Limits) (flow : Flow) (o : IsPro
   pub typed_accesses : HasTypedAccesses flow u
   typed_accesses = laws.programs flow u _ typed_program
 
-pub typed_units : Laws → TypedUnitsHaveTypedAccesses
-typed_units laws u limits flow o laid plain looked =
+  -- ---- bases and calls
+
+  alone : (ls : List Leaf) (j : ℕ) (leaf : Leaf) → AreAlone ls → slice_get ls j ≡ Some leaf → leaf.count ≡ 1
+  alone [] j leaf all is = absurd (cc)
+  alone (x ∷ ls) zero leaf (one, all) is = subst (λ (l : Leaf). l.count ≡ 1) (same x leaf is) one
+    where
+      same : (x l : Leaf) → Some x ≡ Some l → x ≡ l
+      same x l is = cc
+  alone (x ∷ ls) (suc j) leaf (one, all) is = alone ls j leaf all is
+
+  -- a base is made of a type without long arrays
+  base_made : (b : ℕ) (base : BaseInfo) → slice_get flow.bases.items b ≡ Some base → (t : Ty) × IsMadeOf u t base
+  base_made b base there =
+      let here : slice_get p.bases.bases b ≡ Some base = ap (λ (bs : List BaseInfo). slice_get bs b) (sym (ap (λ (w : FlowView). w.bases) o.is.opens)) ∙ there in
+      let (t, is) = get_there opening.types b (subst (λ n. b < n) (sym opening.bases.numbered) (get_less p.bases.bases b base here)) in
+      (t, opening.bases.made b t base is here)
+
+  leaf_alone : (b j : ℕ) (base : BaseInfo) (leaf : Leaf) → slice_get flow.bases.items b ≡ Some base → slice_get base.shape.cells j ≡ Some leaf → leaf.count ≡ 1
+  leaf_alone b j base leaf there at =
+      let (t, made) = base_made b base there in
+      alone (leaves_of u.structs u.model.pointer t) j leaf (alone_leaves u.structs u.model.pointer t made.own.small) (ap (λ (x : Shape). slice_get x.cells j) (sym made.shape) ∙ at)
+
+  no_heap : (b : ℕ) (base : BaseInfo) → slice_get flow.bases.items b ≡ Some base → base.shape.heap ≡ false
+  no_heap b base there = let (t, made) = base_made b base there in ap (λ (x : Shape). x.heap) made.shape
+
+  plain_call : (before after : Temporaries) (x : Operation) → IsTypedOperation flow (type_at opening.types) before after x → IsPlainOperation x
+  plain_call before after (op.Library to name arguments newest size) (program.calls _ _ _ _ _ plain g) = plain_function name plain
+  plain_call before after (op.ReadLine to text count stream) is = elim is [ ]
+  plain_call before after x is = tt
+
+  pub looped_flow : IsLoopedFlow flow u
+  looped_flow = record {
+    plain = record { apart = leaf_alone; no_heap = no_heap };
+    parameters = parameters;
+    calls = λ x done. subst IsPlainOperation done.does (plain_call (opening.known done.block done.at) (opening.known done.block (suc done.at)) done.instruction.operation (typed_program.steps done.block done.at done.instruction done.is));
+    steps = typed_accesses;
+  }
+
+-- ---- units
+
+unit_laid : (u : UnitView) (limits : Limits) (flow : Flow) → IsProgramOf u limits flow → AreLaidOut flow.model (structs_of flow) → AreLaidOut u.model u.structs
+unit_laid u limits flow o laid =
     let structures : structs_of flow ≡ u.structs = ap (λ (w : FlowView). w.structs) o.is.opens in
     let model : flow.model ≡ u.model = ap (λ (w : FlowView). w.model) o.is.opens in
-    typed_accesses laws u limits flow o (subst (λ (m : Model). AreLaidOut m u.structs) model (subst (AreLaidOut flow.model) structures laid)) plain looked
+    subst (λ (m : Model). AreLaidOut m u.structs) model (subst (AreLaidOut flow.model) structures laid)
+
+pub typed_units : Laws → TypedUnitsHaveTypedAccesses
+typed_units laws u limits flow o laid plain looked = typed_accesses laws u limits flow o (unit_laid u limits flow o laid) (is_plain_from u) (plain_reached u plain) looked
+
+pub looped_units : Laws → LoopedUnitsHaveTypedPrograms
+looped_units laws u limits flow o laid looped looked = looped_flow laws u limits flow o (unit_laid u limits flow o laid) (is_looped_from u) (looped_reached u looped) looked
