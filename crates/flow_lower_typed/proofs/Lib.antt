@@ -1,2 +1,3 @@
 pub mod KeptKnowledge
 pub mod JoinedPieces
+pub mod PointingRows

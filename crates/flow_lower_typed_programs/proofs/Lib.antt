@@ -1,2 +1,4 @@
 pub mod LiftedKnowledge
 pub mod LiftedActs
+pub mod TypedBlocks
+pub mod TypedCopies

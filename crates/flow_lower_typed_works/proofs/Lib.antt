@@ -4,3 +4,8 @@ pub mod GluedLabels
 pub mod TypedDerivations
 pub mod FormGoals
 pub mod Numbers
+pub mod LowKnowledge
+pub mod NamingTests
+pub mod PlainReads
+pub mod TypedConditions
+pub mod TypedBranches
