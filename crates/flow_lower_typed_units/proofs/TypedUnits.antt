@@ -55,6 +55,7 @@ use Rattle.flow_lower_typed.specs.TypedStatements.{is_typed_function}
 use Rattle.flow_lower_typed.specs.TypedUnits.{has_own_types, is_typed_unit}
 use Rattle.flow_lower_typed.specs.WorkLaws.{TemplatesAreTyped}
 use Rattle.flow_lower_typed.specs.ProgramLaws.{TypedObjectsAreTyped, PlainTypesAreOwn, PlainLocalsAreOwn, SettledTemplatesAreTyped, HasLowSteps, steps_of, IsTypedOpening, AreThere, IsTypedFunction, AreTypedFunctions, OpenedProgramsAreTyped, FirstObjectsAreTyped}
+use Rattle.flow_lower_typed_units.specs.TypedUnitLaws.{TypedUnitsHaveTypedAccesses}
 use Rattle.flow_lower_typed_units.proofs.TypedFlows.{type_at, type_is, typed_steps, typed_edges}
 
 -- all that is composed
@@ -323,3 +324,9 @@ module _ (laws : Laws) (u : UnitView) (limits : Limits) (flow : Flow) (o : IsPro
 
   pub typed_accesses : HasTypedAccesses flow u
   typed_accesses = laws.programs flow u _ typed_program
+
+pub typed_units : Laws → TypedUnitsHaveTypedAccesses
+typed_units laws u limits flow o laid plain looked =
+    let structures : structs_of flow ≡ u.structs = ap (λ (w : FlowView). w.structs) o.is.opens in
+    let model : flow.model ≡ u.model = ap (λ (w : FlowView). w.model) o.is.opens in
+    typed_accesses laws u limits flow o (subst (λ (m : Model). AreLaidOut m u.structs) model (subst (AreLaidOut flow.model) structures laid)) plain looked
