@@ -1,11 +1,11 @@
 -- Typed pieces from more knowledge, to less, and one after the other.
-use Rattle.std.proofs.Common.{◌≡◌, ℕ, Bool, true, false, List, [], ◌∷◌, ◌++◌, Option, Some, None, refl, sym, ap, subst, ◌∙◌}
+use Rattle.std.proofs.Common.{◌≡◌, ℕ, Bool, true, false, List, [], ◌∷◌, ◌++◌, Some, None, refl, subst}
 use Rattle.c_layout.specs.CheckedUnits.{FunctionView, UnitView}
-use Rattle.flow_lower_tasks.specs.Acts.{Act, Step}
+use Rattle.flow_lower_tasks.specs.Acts.{Act}
 use Rattle.flow_lower_tasks.specs.Pieces.{NameView, PieceView, Do, DoIfUsed, End, Mark, Call}
 use Rattle.flow_program_types.specs.TypedPrograms.{IsKept}
 use Rattle.flow_program_types.specs.TypedStates.{Temporaries}
-use Rattle.flow_lower_typed.specs.TypedPieces.{State, Leads, IsWeaker, IsDone, IsEnded, IsTypedCall, DoneIf, IsTypedPiece, AreTypedPieces}
+use Rattle.flow_lower_typed.specs.TypedPieces.{State, Leads, IsWeaker, IsDone, DoneIf, IsTypedPiece, AreTypedPieces}
 use Rattle.flow_lower_typed.proofs.KeptKnowledge.{kept_same, kept_trans}
 
 -- ---- states
@@ -43,7 +43,7 @@ module _ (u : UnitView) (f : FunctionView) (used : Bool) (names : List NameView)
   done_if_stronger true s r (Some k) a weaker d = done_stronger s r a k weaker d
   done_if_stronger false s r q a weaker d = weaker_trans s r q weaker d
 
-  piece_stronger : (s r q : State) (p : PieceView) → IsWeaker s r → IsTypedPiece u f used names labels r p q → IsTypedPiece u f used names labels s p q
+  pub piece_stronger : (s r q : State) (p : PieceView) → IsWeaker s r → IsTypedPiece u f used names labels r p q → IsTypedPiece u f used names labels s p q
   piece_stronger s r None (Do x) weaker d = d
   piece_stronger s r (Some k) (Do x) weaker d = done_stronger s r x.does k weaker d
   piece_stronger s r q (DoIfUsed x) weaker d = done_if_stronger used s r q x.does weaker d

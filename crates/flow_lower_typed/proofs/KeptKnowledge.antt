@@ -1,12 +1,11 @@
 -- Knowledge of temporaries that is kept: less may be known behind than before.
-use Rattle.std.proofs.Common.{◌≡◌, ℕ, ◌<◌, ◌==◌, Bool, true, false, cond, nat_lt, List, Option, Some, None, refl, sym, ap, subst, ◌∙◌}
-use Rattle.std.proofs.lemmas.Bool.{eqb-true, eq-eqb, ltb-true, lt-ltb}
+use Rattle.std.proofs.Common.{◌≡◌, ℕ, ◌==◌, Bool, true, false, cond, nat_lt, List, Option, Some, None, refl, sym, subst}
 use Rattle.c_layout.specs.StructViews.{StructView}
 use Rattle.c_layout.specs.Types.{Ty}
 use Rattle.lib_models_effects.specs.NumberedTables.{set_at}
 use Rattle.flow_lower_tasks.specs.Acts.{Act}
-use Rattle.flow_program_types.specs.PointedTypes.{Known, Zero, Null, Pointing, IsUnder, is_same, is_further, IsLess, IsStorable}
-use Rattle.flow_program_types.specs.TypedPrograms.{IsKept, Gives, GivesIf, Keeps, PutsKnown, IsTypedWay}
+use Rattle.flow_program_types.specs.PointedTypes.{Known, Zero, Null, Pointing, is_same, is_further, IsLess, IsStorable}
+use Rattle.flow_program_types.specs.TypedPrograms.{IsKept, Gives, GivesIf, Keeps, IsTypedWay}
 use Rattle.flow_program_types.specs.TypedStates.{Temporaries}
 use Rattle.flow_lower_tasks.specs.Pieces.{Way, Always, When, Case, Other, NoLine, Line}
 use Rattle.flow_lower_typed.specs.KnownValues.{nothing, below, with_value}

@@ -1,13 +1,12 @@
 -- Worked rows of the look at types: pointers to elements and members, and what is converted.
-use Rattle.std.proofs.Common.{◌≡◌, ℕ, pos, Bool, true, false, List, [], ◌∷◌, Option, Some, None, refl}
+use Rattle.std.proofs.Common.{◌≡◌, ℕ, pos, true, false, List, [], ◌∷◌, Some, None, refl}
 use Rattle.cc_base.specs.declared.diagnostics.Place.{Place}
-use Rattle.cc_base.specs.declared.int_types.IntType.{IntType}
 use Rattle.c_layout.specs.CheckedTrees as tree
 use Rattle.c_layout.specs.CheckedTrees.{TermTree, Typed, FormTree, LvalueTree, LvalueFormTree, Designates, StatementTree}
 use Rattle.c_layout.specs.CheckedUnits.{LocalView, FunctionView, SetValue, StaticView, UnitView}
 use Rattle.c_layout.specs.Models.{lp64}
 use Rattle.c_layout.specs.StructViews.{StructView}
-use Rattle.c_layout.specs.Types.{Ty, Int, Pointer, Array, Struct, Void}
+use Rattle.c_layout.specs.Types.{Ty, Int, Pointer, Array, Struct}
 use Rattle.c_layout.specs.declared.checked_tree.checked_terms.ConversionKind.TheVariants.{Cast, Implicit}
 use Rattle.c_layout.specs.declared.checked_tree.checked_terms.ObjectRef.TheVariants.{Local}
 use Rattle.c_layout.specs.declared.checked_tree.checked_units.StaticBase.TheVariants as base

@@ -1,5 +1,5 @@
 -- Statements and functions whose pointers point to what their types say.
-use Rattle.std.specs.Prelude.{◌≡◌, ℕ, zero, ◌==◌, Bool, true, false, ◌&&◌, ◌||◌, nat_lt, List, Option, Some, None, slice_get}
+use Rattle.std.specs.Prelude.{Bool, true, ◌&&◌, ◌||◌, nat_lt, Option, Some, None}
 use Rattle.std.specs.List.{list_all}
 use Rattle.c_layout.specs.CheckedTrees as tree
 use Rattle.c_layout.specs.CheckedTrees.{TermTree, LvalueTree, StatementTree, StatementTrees, StoreTree, StoreValue, StoreCopy, StoreText, statement_trees}

@@ -1,13 +1,13 @@
 -- A typed instruction of a template is typed in each copy, where its base has the type of its name.
-use Rattle.std.proofs.Common.{◌≡◌, ℕ, ℤ, List, Option, Some, None, refl, ap, sym, subst, ◌∙◌}
+use Rattle.std.proofs.Common.{◌≡◌, ℕ, List, Option, Some, None, refl, sym, subst, ◌∙◌}
 use Rattle.c_layout.specs.CheckedUnits.{UnitView}
 use Rattle.c_layout.specs.StructViews.{StructView}
 use Rattle.c_layout.specs.Types.{Ty}
-use Rattle.flow_lower.specs.MovedActs.{temp, put_moved, kept_moved, own_base, moved}
+use Rattle.flow_lower.specs.MovedActs.{temp, kept_moved, own_base, moved}
 use Rattle.flow_lower.specs.Openings.{Placed, way_moved}
 use Rattle.flow_lower_tasks.specs.Acts.{Act}
 use Rattle.flow_lower_tasks.specs.Pieces.{Way, Always, When, Case, Other, NoLine, Line}
-use Rattle.flow_program_types.specs.PointedTypes.{Known, Zero, IsStorable}
+use Rattle.flow_program_types.specs.PointedTypes.{Known, IsStorable}
 use Rattle.flow_program_types.specs.TypedPrograms.{IsKept, Gives, GivesIf, Keeps, IsTypedWay}
 use Rattle.flow_program_types.specs.TypedStates.{Temporaries}
 use Rattle.template_runs_layouts.specs.LowTemporaries.{IsLow, IsKeptLow, IsActLow}

@@ -1,5 +1,5 @@
 -- What is known in a copy: of its temporaries what its template says, and of those before them what its caller knows.
-use Rattle.std.proofs.Common.{◌≡◌, ◌≤◌, ◌<◌, ◌⊎◌, inl, inr, ℕ, ◌+◌, ◌-◌, ◌^◌, ◌==◌, ℤ, min, Bool, true, false, cond, nat_lt, Option, Some, None, refl, arith, ap, sym, subst, ◌∙◌}
+use Rattle.std.proofs.Common.{◌≡◌, ◌≤◌, ◌<◌, inl, inr, ℕ, ◌+◌, ◌-◌, ◌^◌, ℤ, min, Bool, true, false, cond, nat_lt, Option, Some, None, refl, arith, ap, sym, subst, ◌∙◌}
 use Rattle.std.proofs.lemmas.Bool.{cases_lt, cases_eq, lt-ltb, le-ltb, ltb-true}
 use Rattle.c_layout.specs.CheckedUnits.{FunctionView}
 use Rattle.lib_models_effects.specs.NumberedTables.{set_at}
@@ -7,7 +7,7 @@ use Rattle.flow_lower.specs.MovedActs.{temp, put_moved}
 use Rattle.flow_lower_functions.specs.Functions.{local_type}
 use Rattle.flow_lower_tasks.specs.Works.{behind}
 use Rattle.flow_program_types.specs.PointedTypes.{Known, IsLess, IsStorable}
-use Rattle.flow_program_types.specs.TypedPrograms.{IsKept, Gives, GivesIf, Keeps, PutsKnown}
+use Rattle.flow_program_types.specs.TypedPrograms.{IsKept, Gives, PutsKnown}
 use Rattle.flow_program_types.specs.TypedStates.{Temporaries}
 use Rattle.template_runs_layouts.specs.LowTemporaries.{IsLow}
 use Rattle.flow_lower_typed.specs.KnownValues.{type_known, nothing, below, with_value, if_used}
@@ -49,9 +49,9 @@ none_known k e = absurd (cc)
 pub into_lifted : (before : Temporaries) (d : ℕ) (outer inner : Temporaries) → ((t : ℕ) (k : Known) → t < 2 ^ 32 - 1 → t < d → outer t ≡ Some k → IsOld before t k) → ((t : ℕ) (k : Known) → t < 2 ^ 32 - 1 → d ≤ t → inner (t - d) ≡ Some k → IsOld before t k) → IsKept before (lifted d outer inner)
 into_lifted before d outer inner first last t k is = elim (cases_lt t (2 ^ 32 - 1)) [
   | inl low ↦ elim (cases_lt t d) [
-      | inl less ↦ first t k low less (sym (lifted_before d outer inner t low less) ∙ is)
-      | inr more ↦ last t k low more (sym (lifted_from d outer inner t low more) ∙ is)
-    ]
+    | inl less ↦ first t k low less (sym (lifted_before d outer inner t low less) ∙ is)
+    | inr more ↦ last t k low more (sym (lifted_from d outer inner t low more) ∙ is)
+  ]
   | inr high ↦ none_known k (sym (lifted_beyond d outer inner t high) ∙ is)
 ]
 

@@ -1,13 +1,13 @@
 -- A program while it is opened: each instruction so far keeps to what is known, and each edge leads to a label at which
 -- no more is known, and which a copy has marked or is still to mark.
-use Rattle.std.proofs.Common.{◌≡◌, ◌≤◌, ◌<◌, ◌⊎◌, inl, inr, ℕ, zero, suc, ◌+◌, ◌==◌, Bool, true, false, List, [], ◌∷◌, ◌++◌, length, replicate, get_or, Option, Some, None, slice_get, refl, arith, ap, sym, subst, ◌∙◌, length-append}
+use Rattle.std.proofs.Common.{◌≡◌, ◌≤◌, ◌<◌, ◌⊎◌, inl, inr, ℕ, zero, suc, ◌+◌, ◌==◌, true, false, List, [], ◌∷◌, ◌++◌, length, get_or, Option, Some, None, slice_get, refl, arith, ap, sym, subst, ◌∙◌, length-append}
 use Rattle.std.specs.List.{slice_set}
 use Rattle.std.proofs.lemmas.Bool.{cases_eq}
 use Rattle.std.proofs.lemmas.List.{get_or-set_same, get_or-set_other, get_or_append_left, length-set}
 use Rattle.std.proofs.lemmas.Option.{same_Some, slice_get_within}
 use Rattle.c_layout.specs.CheckedUnits.{UnitView}
 use Rattle.c_layout.specs.Types.{Ty}
-use Rattle.flow_lower.specs.Openings.{Made, CopyView, ended_block, with_ready, ended}
+use Rattle.flow_lower.specs.Openings.{CopyView}
 use Rattle.flow_lower_plain_works.specs.LeadingPieces.{Marked, NoLabel}
 use Rattle.flow_lower_tasks.specs.Acts.{Act, Step}
 use Rattle.flow_program_types.specs.PointedTypes.{Known}

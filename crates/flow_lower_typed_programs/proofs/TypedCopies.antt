@@ -1,5 +1,5 @@
 -- The copies of a program that are not finished: their pieces that are still to come keep to what is known.
-use Rattle.std.proofs.Common.{◌≡◌, ◌≤◌, ◌<◌, ◌⊎◌, inl, inr, ℕ, zero, suc, ◌+◌, Bool, true, List, [], ◌∷◌, ◌++◌, length, get_or, Option, Some, None, slice_get, refl, arith, ap, sym, subst, ◌∙◌}
+use Rattle.std.proofs.Common.{◌≡◌, ◌≤◌, ◌<◌, ℕ, zero, suc, ◌+◌, Bool, true, List, [], ◌∷◌, ◌++◌, length, get_or, Option, Some, None, slice_get, refl, arith, ap, sym, subst, ◌∙◌}
 use Rattle.std.proofs.lemmas.Option.{get_or_from_slice_get}
 use Rattle.c_layout.specs.CheckedUnits.{FunctionView, UnitView}
 use Rattle.c_layout.specs.Types.{Ty}
@@ -11,14 +11,13 @@ use Rattle.flow_lower.specs.Openings.{Made, CopyView, Placed, Opened, placed}
 use Rattle.flow_lower_bases.specs.BaseTables.{TableView}
 use Rattle.flow_lower_plain_works.specs.LeadingPieces.{is_of_object, AreOfObjects, Marked, LeadOn, NoLabel}
 use Rattle.flow_lower_tasks.specs.Pieces.{NameView, Outcome, Way, Always, When, Case, Other, NoLine, Line, TemplateView}
-use Rattle.flow_program_types.specs.TypedPrograms.{IsKept}
 use Rattle.flow_program_types.specs.TypedStates.{Temporaries}
 use Rattle.flow_lower_typed.specs.TypedBases.{HasTypes, HasLocalTypes, HasOwnTypes, HasOwnLocals, NamesAreTyped}
 use Rattle.flow_lower_typed.specs.TypedPieces.{State, Leads, IsWeaker, name_type, name_type_or, base_type, result_known, AreTypedPieces}
 use Rattle.flow_lower_typed.specs.ProgramLaws.{AreThere}
 use Rattle.flow_lower_typed.proofs.JoinedPieces.{leads_on}
 use Rattle.flow_lower_typed_programs.proofs.LiftedKnowledge.{lifted, kept_lifted}
-use Rattle.flow_lower_typed_programs.proofs.TypedBlocks.{Grows, grows_same, grows_twice, Awaited, IsTypedMade, made_more, made_weaker, made_awaited}
+use Rattle.flow_lower_typed_programs.proofs.TypedBlocks.{Grows, grows_same, grows_twice, Awaited, IsTypedMade, made_weaker, made_awaited}
 
 -- ---- what is known in a copy
 
@@ -163,8 +162,7 @@ module _ (u : UnitView) (ts : List (Option TemplateView)) where
     base_named n types p can holds =
         let c = p.within in
         let x = laws u own c.function can.names.own (o.name_at c.names n) (name_at_object c.names n can.names.objects) types c.locals p.program.bases can.bases can.names.locals can.names.there in
-        let grows = grown types x.more in
-        (
+        let grows = grown types x.more in (
           record {
             more = types ++ x.more;
             grows = grows;

@@ -1,5 +1,5 @@
 -- A program has types where its opened program has.
-use Rattle.std.proofs.Common.{◌≡◌, ℕ, zero, suc, ◌+◌, ◌<◌, ◌==◌, true, ◌&&◌, nat_lt, List, [], ◌∷◌, map, length, take, drop, Option, Some, None, slice_get, get_or, refl, ap, sym, subst, ◌∙◌, arith}
+use Rattle.std.proofs.Common.{◌≡◌, ℕ, zero, suc, ◌+◌, ◌==◌, true, ◌&&◌, nat_lt, List, [], ◌∷◌, map, length, take, drop, Option, Some, None, slice_get, get_or, refl, ap, sym, subst, ◌∙◌, arith}
 use Rattle.std.specs.List.{Contains}
 use Rattle.std.proofs.lemmas.Bool.{and_parts, eqb-true}
 use Rattle.cc_base.specs.declared.limit_table.Limits.{Limits}
@@ -11,10 +11,9 @@ use Rattle.flow_program.specs.WellFormed.{On, leads, is_well_formed}
 use Rattle.flow_program.specs.declared.basic_blocks.BasicBlock.{BasicBlock}
 use Rattle.flow_program.specs.declared.flow_edges.Edge.{Edge}
 use Rattle.flow_program.specs.declared.machine_instructions.Instruction.{Instruction}
-use Rattle.flow_program.specs.declared.machine_instructions.Operation.{Operation}
 use Rattle.flow_program.specs.declared.programs.Flow.{Flow}
 use Rattle.flow_lower.specs.Openings.{ProgramView}
-use Rattle.flow_lower_tasks.specs.Acts.{Step, Act, act, step}
+use Rattle.flow_lower_tasks.specs.Acts.{Act, act, step}
 use Rattle.flow_program_machine.specs.FlowEdges.{edges_of}
 use Rattle.flow_program_machine.specs.FlowSteps.{block_or, block_of}
 use Rattle.flow_program_types.specs.TypedPrograms.{structs_of, IsTypedOperation, IsTypedWay}

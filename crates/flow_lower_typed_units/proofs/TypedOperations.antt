@@ -1,5 +1,5 @@
 -- Operations are typed as their acts are.
-use Rattle.std.proofs.Common.{◌≡◌, ℕ, true, Option, Some, refl, subst}
+use Rattle.std.proofs.Common.{◌≡◌, ℕ, true, Option, Some, subst}
 use Rattle.c_layout.specs.Types.{Ty}
 use Rattle.c_layout.specs.declared.library_functions.LibFn.{LibFn}
 use Rattle.c_layout.specs.declared.library_functions.LibFn.TheVariants.{Isalpha, Isdigit, Isspace, Isupper, Islower, Isalnum, Toupper, Tolower, Putchar, Exit, Abort}

@@ -1,5 +1,5 @@
 -- A plain unit that passes the look at types has a program that has types, so that accesses of its run are typed.
-use Rattle.std.proofs.Common.{◌≡◌, ◌≤◌, ◌<◌, ℕ, zero, suc, ◌-◌, ◌^◌, ◌==◌, Bool, true, false, ◌&&◌, List, [], ◌∷◌, map, length, Option, Some, None, slice_get, refl, ap, sym, subst, ◌∙◌, arith}
+use Rattle.std.proofs.Common.{◌≡◌, ◌≤◌, ◌<◌, ℕ, zero, suc, ◌-◌, ◌^◌, ◌==◌, Bool, true, false, ◌&&◌, List, [], ◌∷◌, length, Option, Some, None, slice_get, refl, ap, sym, subst, ◌∙◌, arith}
 use Rattle.std.specs.List.{list_all}
 use Rattle.std.proofs.lemmas.Bool.{and_parts, eqb-true}
 use Rattle.cc_base.specs.declared.limit_table.Limits.{Limits}
@@ -12,10 +12,9 @@ use Rattle.c_layout.specs.declared.data_model.Model.{Model}
 use Rattle.c_layout.specs.declared.shapes.BaseInfo.{BaseInfo}
 use Rattle.c_layout.specs.declared.shapes.Shape.{Shape}
 use Rattle.flow_program.specs.declared.programs.Flow.{Flow}
-use Rattle.flow_program_views.specs.ProgramViews.{BlockView, block, edge, FlowView, flow_view}
-use Rattle.flow_lower.specs.Openings.{ProgramView, joined, template_at, whole, program}
-use Rattle.flow_lower_counts.specs.Preparations.{IsTemplateOf, called, Calls, Reaches, begun, further, IsSettled, IsPrepared}
-use Rattle.flow_lower_counts_parts.specs.declared.function_counts.FunctionCounts.{FunctionCounts}
+use Rattle.flow_program_views.specs.ProgramViews.{BlockView, FlowView, flow_view}
+use Rattle.flow_lower.specs.Openings.{ProgramView, joined, template_at, program}
+use Rattle.flow_lower_counts.specs.Preparations.{IsTemplateOf, called, Reaches, begun, further, IsSettled, IsPrepared}
 use Rattle.flow_lower_functions.specs.Functions.{setting_of, function, no_plan}
 use Rattle.flow_lower_functions.proofs.OneTemplate.{one_finish}
 use Rattle.flow_lower_marks.specs.MarkedLabels.{LabelsAreMarkedBelow}
@@ -26,9 +25,8 @@ use Rattle.flow_lower_plain_laws.specs.LeadingTemplates.{TemplatesLeadOn}
 use Rattle.flow_lower_plain_programs.specs.PlainPrograms.{PlainUnitsHavePlainPrograms}
 use Rattle.flow_lower_plain_programs.proofs.SettledLeads.{settled_leads, settled_below}
 use Rattle.flow_lower_plain_programs.proofs.StandingLabels.{function_labels_stand}
-use Rattle.flow_lower_plain_works.specs.LeadingPieces.{Marked, IsLeading, LeadOn, NoLabel, LeadsOn}
+use Rattle.flow_lower_plain_works.specs.LeadingPieces.{LeadOn, NoLabel, LeadsOn}
 use Rattle.flow_lower_shapes.specs.FirstZeros.{object_shape}
-use Rattle.flow_lower_tasks.specs.Acts.{Step}
 use Rattle.flow_lower_tasks.specs.Pieces.{PieceView, Do, DoIfUsed, End, Mark, Call, TemplateView}
 use Rattle.flow_lower_units.specs.RegularUnits.{is_regular_function}
 use Rattle.flow_lower_units.specs.LabelNumbers.{is_numbered}
@@ -47,10 +45,9 @@ use Rattle.abstract_steps_single_runs.specs.SingleRuns.{HasTypedAccesses}
 use Rattle.store_domain_sound.proofs.Slices.{get_there}
 use Rattle.store_domain_sound_programs.proofs.ShapedBases.{all_at}
 use Rattle.flow_program_types.specs.StandingTypes.{AreLaidOut}
-use Rattle.flow_program_types.specs.TypedPrograms.{structs_of, IsObjectOf, first_types, Typing, IsTypedProgram, TypedProgramsHaveTypedAccesses}
-use Rattle.flow_lower_typed.specs.TypedBases.{IsMadeOf, HasTypes}
+use Rattle.flow_program_types.specs.TypedPrograms.{structs_of, IsObjectOf, first_types, IsTypedProgram, TypedProgramsHaveTypedAccesses}
+use Rattle.flow_lower_typed.specs.TypedBases.{IsMadeOf}
 use Rattle.flow_lower_typed.specs.TypedObjects.{is_typed_object, is_own_function, is_own_object, is_own_literal}
-use Rattle.flow_lower_typed.specs.TypedPieces.{IsTypedTemplate}
 use Rattle.flow_lower_typed.specs.TypedStatements.{is_typed_function}
 use Rattle.flow_lower_typed.specs.TypedUnits.{has_own_types, is_typed_unit}
 use Rattle.flow_lower_typed.specs.WorkLaws.{TemplatesAreTyped}

@@ -1,38 +1,34 @@
 -- What the works of a term come to, and what looks at its parts say.
-use Rattle.std.proofs.Common.{◌≡◌, ◌≤◌, ◌<◌, ℕ, ◌+◌, ◌-◌, ◌^◌, ℤ, min, Bool, true, false, not, cond, ◌&&◌, ◌||◌, nat_lt, nat_le, Option, Some, None, refl, arith, ap, sym, subst, ◌∙◌}
+use Rattle.std.proofs.Common.{◌≡◌, ◌≤◌, ◌<◌, ℕ, ◌+◌, ◌-◌, ◌^◌, ℤ, min, Bool, true, false, cond, ◌&&◌, ◌||◌, Option, Some, None, refl, arith, ap, sym, subst, ◌∙◌}
 use Rattle.std.proofs.lemmas.Bool.{and_parts, ltb-true, leb-true}
 use Rattle.cc_base.specs.declared.diagnostics.Place.{Place}
 use Rattle.cc_base.specs.declared.int_types.IntType.{IntType}
 use Rattle.c_layout.specs.CheckedTrees as tree
-use Rattle.c_layout.specs.CheckedTrees.{TermTree, FormTree, LvalueTree, Typed}
+use Rattle.c_layout.specs.CheckedTrees.{TermTree, FormTree, Typed}
 use Rattle.c_layout.specs.Types.{Ty, Int, Pointer, Array, Struct, Void, same_type}
 use Rattle.c_types_laws_stores.proofs.Types.{type_is}
 use Rattle.flow_lower_expressions.specs.Branches.{arm}
-use Rattle.flow_lower_plain.specs.PlainTerms.{is_plain_term, is_plain_place}
-use Rattle.flow_lower_tasks.specs.Acts.{Act, Step}
+use Rattle.flow_lower_plain.specs.PlainTerms.{is_plain_term}
+use Rattle.flow_lower_tasks.specs.Acts.{Step}
 use Rattle.flow_lower_tasks.specs.Pieces.{Do}
-use Rattle.flow_lower_tasks.specs.TermKinds.{term_type, lvalue_type, scalar_of}
+use Rattle.flow_lower_tasks.specs.TermKinds.{term_type, scalar_of}
 use Rattle.flow_lower_tasks.specs.Works as jobs
 use Rattle.flow_lower_tasks.specs.Plans.{Plan, with_work}
-use Rattle.flow_lower_units.specs.RegularTerms.{has_room, are_behind, is_regular_term, is_regular_place}
-use Rattle.flow_program_types.specs.PointedTypes.{Known, Zero, Null, Pointing, Element, IsUnder, is_same, IsLess, IsOfKind, number_kind, pointer_kind, IsStorable}
+use Rattle.flow_lower_units.specs.RegularTerms.{has_room, are_behind, is_regular_term}
+use Rattle.flow_program_types.specs.PointedTypes.{Known, Zero, Null, Pointing, Element, IsOfKind, number_kind, pointer_kind, IsStorable}
 use Rattle.flow_program_types.specs.TypedPrograms.{IsKept, Gives}
 use Rattle.flow_program_types.specs.TypedStates.{Temporaries}
-use Rattle.flow_lower_typed.specs.KnownValues.{type_known, term_known, place_known, below, with_value}
+use Rattle.flow_lower_typed.specs.KnownValues.{type_known, term_known, below, with_value}
 use Rattle.flow_lower_typed.specs.TypedActs.{IsTypedAct}
 use Rattle.flow_lower_typed.specs.TypedPieces.{base_type, State, IsWeaker}
-use Rattle.flow_lower_typed.specs.TypedTerms.{is_integer, is_scalar, is_struct, is_stored_as, points_to, is_zero, is_null, is_zero_form, is_null_form, fits, is_typed_term, is_typed_place}
+use Rattle.flow_lower_typed.specs.TypedTerms.{is_integer, is_scalar, is_stored_as, points_to, is_null, is_zero_form, is_null_form, fits, is_typed_term}
 use Rattle.flow_lower_typed.specs.WorkLaws.{IsLookedAt}
 use Rattle.flow_lower_typed.proofs.KeptKnowledge.{kept_same}
-use Rattle.flow_lower_typed.proofs.JoinedPieces.{weaker_same}
-use Rattle.flow_lower_typed_works.proofs.KnownTables.{Agrees, agrees_same, agrees_below, agrees_value, value_here, value_else, storable_same, to_value, to_below, gives_value, gives_below}
+use Rattle.flow_lower_typed_works.proofs.KnownTables.{at_most, Agrees, agrees_same, agrees_below, agrees_value, value_here, value_else, storable_same, to_value, to_below, gives_value, gives_below}
 use Rattle.flow_lower_typed_works.proofs.PlannedWorks.{Site, Labels, Planned, Comes, plan_value, plan_unused, plan_do}
 
 pub never : {A : Type 0} → false ≡ true → A
 never e = absurd (cc)
-
-pub at_most : (n : ℕ) → n ≤ n
-at_most n = omega arith
 
 -- ---- goals
 
@@ -189,10 +185,10 @@ pub record AreBehind (depth : ℕ) (first second : Bool) : Type 0 where
 pub behind_parts : (depth : ℕ) (first second : Bool) → are_behind depth first second ≡ true → AreBehind depth first second
 behind_parts depth first second e = let x = and_parts first (has_room (depth + 1) && second) e in let y = and_parts (has_room (depth + 1)) second x.1 in record { left = x.0; next = behind_is depth 1 y.0; right = y.1 }
 
-one_more : (depth n : ℕ) → n ≡ depth + 1 → depth < n
+pub one_more : (depth n : ℕ) → n ≡ depth + 1 → depth < n
 one_more depth n e = omega (arith, e)
 
-no_less : (depth n : ℕ) → n ≡ depth + 1 → depth ≤ n
+pub no_less : (depth n : ℕ) → n ≡ depth + 1 → depth ≤ n
 no_less depth n e = omega (arith, e)
 
 -- what is known of two values

@@ -1,5 +1,5 @@
 -- What is known at labels, from parts of their numbers.
-use Rattle.std.proofs.Common.{◌≡◌, ◌≤◌, ◌<◌, ℕ, Bool, true, false, cond, nat_lt, refl, arith, ap, sym, subst, ◌∙◌}
+use Rattle.std.proofs.Common.{◌≡◌, ◌≤◌, ◌<◌, ℕ, cond, nat_lt, arith, ap, ◌∙◌}
 use Rattle.std.proofs.lemmas.Bool.{lt-ltb, le-ltb}
 use Rattle.flow_lower_typed.specs.WorkLaws.{Labelled}
 use Rattle.flow_lower_typed_works.proofs.PlannedWorks.{Labels}
@@ -27,6 +27,6 @@ labelled_both {a = a} {c = c} b less more x y = record {
   own = λ l. cond (nat_lt l b) (x.own l) (y.own l);
   is = λ labels agree. (
     x.is labels (λ l lo hi. agree l lo (sooner l b c hi more) ∙ ap (λ z. cond z (x.own l) (y.own l)) (lt-ltb l b hi)),
-    y.is labels (λ l lo hi. agree l (through a b l less lo) hi ∙ ap (λ z. cond z (x.own l) (y.own l)) (le-ltb l b lo))
+    y.is labels (λ l lo hi. agree l (through a b l less lo) hi ∙ ap (λ z. cond z (x.own l) (y.own l)) (le-ltb l b lo)),
   );
 }

@@ -1,8 +1,8 @@
 -- What is known of temporaries below another one, and of that one.
-use Rattle.std.proofs.Common.{◌≡◌, ◌≤◌, ◌<◌, ℕ, ◌+◌, ◌==◌, Bool, true, false, cond, nat_lt, Option, Some, None, refl, arith, ap, sym, subst, ◌∙◌}
+use Rattle.std.proofs.Common.{◌≡◌, ◌≤◌, ◌<◌, ℕ, ◌==◌, Bool, true, false, cond, nat_lt, Option, Some, None, refl, arith, ap, sym, subst, ◌∙◌}
 use Rattle.std.proofs.lemmas.Bool.{eqb-true, ltb-true, lt-ltb}
 use Rattle.lib_models_effects.specs.NumberedTables.{set_at}
-use Rattle.flow_program_types.specs.PointedTypes.{Known, IsLess, IsStorable}
+use Rattle.flow_program_types.specs.PointedTypes.{Known, IsStorable}
 use Rattle.flow_program_types.specs.TypedPrograms.{IsKept, Gives}
 use Rattle.flow_program_types.specs.TypedStates.{Temporaries}
 use Rattle.flow_lower_typed.specs.KnownValues.{below, with_value}
@@ -23,6 +23,9 @@ pub value_here : (depth : ℕ) (value : Option Known) (before : Temporaries) →
 value_here depth value before = set_here (below depth before) depth value depth refl
 
 -- ---- the same below a temporary
+
+pub at_most : (n : ℕ) → n ≤ n
+at_most n = omega arith
 
 abbrev pub Agrees : ℕ → Temporaries → Temporaries → Type 0
 Agrees depth known before = (t : ℕ) → t < depth → known t ≡ before t
@@ -48,9 +51,6 @@ agrees_value depth to value known before most agree = agrees_set depth to value 
 -- what is known of a lower one stays
 pub value_else : (depth : ℕ) (value : Option Known) (before : Temporaries) (t : ℕ) → t < depth → with_value depth value before t ≡ before t
 value_else depth value before t less = agrees_value depth depth value before before (at_most depth) (agrees_same depth before) t less
-  where
-    at_most : (n : ℕ) → n ≤ n
-    at_most n = omega arith
 
 -- ---- less knowledge
 
@@ -81,9 +81,6 @@ to_below depth known before agree = kept_if known (below depth before) (λ t. by
 
 pub gives_value : (depth : ℕ) (value given : Option Known) (known before : Temporaries) → Agrees depth known before → IsStorable value given → Gives depth given known (with_value depth value before)
 gives_value depth value given known before agree is = to_value depth value (set_at known depth given) before (agrees_set depth depth given known before (at_most depth) agree) (subst (IsStorable value) (sym (set_here known depth given depth refl)) is)
-  where
-    at_most : (n : ℕ) → n ≤ n
-    at_most n = omega arith
 
 -- to a temporary from that one on, of which no more is asked
 pub gives_below : (depth to : ℕ) (given : Option Known) (known before : Temporaries) → depth ≤ to → Agrees depth known before → Gives to given known (below depth before)

@@ -4,8 +4,14 @@ pub mod GluedLabels
 pub mod TypedDerivations
 pub mod FormGoals
 pub mod Numbers
+pub mod Pointers
+pub mod Places
+pub mod Assignments
+pub mod Sequences
 pub mod LowKnowledge
 pub mod NamingTests
 pub mod PlainReads
 pub mod TypedConditions
 pub mod TypedBranches
+pub mod Calls
+pub mod AllWorks

@@ -5,8 +5,7 @@ use Rattle.flow_program_types.specs.TypedPrograms.{IsKept, Gives}
 use Rattle.flow_program_types.specs.TypedStates.{Temporaries}
 use Rattle.flow_lower_typed.specs.KnownValues.{below, with_value}
 use Rattle.flow_lower_typed.proofs.KeptKnowledge.{kept_same, kept_below}
-use Rattle.flow_lower_typed_works.proofs.FormGoals.{at_most}
-use Rattle.flow_lower_typed_works.proofs.KnownTables.{Agrees, agrees_same, agrees_below, agrees_value, to_below, gives_below}
+use Rattle.flow_lower_typed_works.proofs.KnownTables.{at_most, Agrees, agrees_same, agrees_below, agrees_value, to_below, gives_below}
 use Rattle.flow_lower_tasks.specs.Plans.{Plan, with_labels, begun}
 use Rattle.flow_lower_typed_works.proofs.PlannedWorks.{Site, Labels, Owns, Planned, plan_none, plan_labels, plan_mark}
 

@@ -1,39 +1,35 @@
 -- Terms whose values are numbers, and terms that are computed from the values of others.
-use Rattle.std.proofs.Common.{◌≡◌, ℕ, ◌+◌, ℤ, pos, Bool, true, false, not, cond, ◌&&◌, Option, Some, None, refl, ap, sym, subst, ◌∙◌}
+use Rattle.std.proofs.Common.{◌≡◌, ℕ, ℤ, pos, Bool, true, false, cond, ◌&&◌, Option, Some, None, refl, sym, subst}
 use Rattle.std.specs.Ordering.{int_eq}
-use Rattle.std.proofs.lemmas.Bool.{and_parts, not-true}
+use Rattle.std.proofs.lemmas.Bool.{and_parts}
 use Rattle.std.proofs.lemmas.Bool.Decides.{Decides-int_eq}
 use Rattle.cc_base.specs.declared.diagnostics.Place.{Place}
 use Rattle.cc_base.specs.declared.int_types.IntType.{IntType}
-use Rattle.cc_base.specs.declared.integer_operators.UnOp.{UnOp}
 use Rattle.c_layout.specs.CheckedTrees as tree
 use Rattle.c_layout.specs.CheckedTrees.{TermTree, FormTree, Typed}
 use Rattle.c_layout.specs.Types.{Ty, Int, Pointer, Array, Struct, Void}
 use Rattle.c_layout.specs.declared.syntax_tree.expressions.BinaryOp.{BinaryOp}
-use Rattle.flow_program.specs.declared.machine_instructions.Scalar.TheVariants as scalar
 use Rattle.flow_lower_expressions.specs.Values.{integer_act, of_form, two}
-use Rattle.flow_lower_plain.specs.PlainTerms.{is_plain_term, is_plain_form}
+use Rattle.flow_lower_plain.specs.PlainTerms.{is_plain_form}
 use Rattle.flow_lower_tasks.specs.Acts as acts
 use Rattle.flow_lower_tasks.specs.Acts.{Act}
 use Rattle.flow_lower_tasks.specs.Plans.{Plan}
 use Rattle.flow_lower_tasks.specs.Settings.{SettingView}
-use Rattle.flow_lower_tasks.specs.TermKinds.{meaning, integer_type, term_type}
+use Rattle.flow_lower_tasks.specs.TermKinds.{meaning, integer_type}
 use Rattle.flow_lower_tasks.specs.Works as jobs
 use Rattle.flow_lower_tasks.specs.declared.term_kinds.OperatorMeaning.{OperatorMeaning}
 use Rattle.flow_lower_tasks.specs.declared.term_kinds.OperatorMeaning.TheVariants.{Number, Truth}
-use Rattle.flow_lower_units.specs.RegularTerms.{are_behind, is_regular_term}
-use Rattle.flow_program_types.specs.PointedTypes.{Known, Zero, IsStorable}
+use Rattle.flow_lower_units.specs.RegularTerms.{is_regular_term}
+use Rattle.flow_program_types.specs.PointedTypes.{Zero, IsStorable}
 use Rattle.flow_program_types.specs.TypedPrograms.{Gives}
 use Rattle.flow_program_types.specs.TypedStates.{Temporaries}
-use Rattle.flow_lower_typed.specs.KnownValues.{term_known, below, with_value}
+use Rattle.flow_lower_typed.specs.KnownValues.{term_known, with_value}
 use Rattle.flow_lower_typed.specs.TypedActs.{IsTypedAct, gives_zero, gives_number, computes, computes_one, compares, inverts, subtracts, compares_pointers}
 use Rattle.flow_lower_typed.specs.TypedPieces.{base_type, State}
 use Rattle.flow_lower_typed.specs.TypedTerms.{is_integer, is_typed_term, is_typed_form}
-use Rattle.flow_lower_typed.specs.WorkLaws.{IsLookedAt}
-use Rattle.flow_lower_typed.proofs.KeptKnowledge.{kept_same}
-use Rattle.flow_lower_typed_works.proofs.KnownTables.{Agrees, agrees_same, agrees_value, storable_same}
-use Rattle.flow_lower_typed_works.proofs.PlannedWorks.{Site, Labels, Planned, Comes, plan_value, plan_unused}
-use Rattle.flow_lower_typed_works.proofs.FormGoals.{never, at_most, term_goal, gives_goal, value_goal, comes_to, comes_do, integer_of, integer_known, nothing_asked, two_known, two_agree, AreLookedAt, two_looked}
+use Rattle.flow_lower_typed_works.proofs.KnownTables.{at_most, Agrees, agrees_same, agrees_value, storable_same}
+use Rattle.flow_lower_typed_works.proofs.PlannedWorks.{Site, Labels, Planned, Comes, plan_value}
+use Rattle.flow_lower_typed_works.proofs.FormGoals.{never, term_goal, gives_goal, value_goal, comes_to, comes_do, integer_known, nothing_asked, two_known, two_agree, AreLookedAt, two_looked}
 
 number_known : (at : Place) (parens : ℕ) (constant : Option ℤ) (t : Ty) (n : ℤ) → is_integer t ≡ true → term_known (Typed at t parens constant (tree.Number n)) ≡ cond (int_eq n (pos 0)) (Some Zero) None
 number_known at parens constant (Int kind) n is = refl

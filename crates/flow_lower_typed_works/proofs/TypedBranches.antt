@@ -23,9 +23,10 @@ use Rattle.flow_lower_typed.specs.TypedPieces.{State}
 use Rattle.flow_lower_typed.specs.TypedTerms.{fits, is_typed_term}
 use Rattle.flow_lower_typed.specs.WorkLaws.{IsLookedAt}
 use Rattle.flow_lower_typed.proofs.KeptKnowledge.{kept_same}
-use Rattle.flow_lower_typed_works.proofs.FormGoals.{at_most, term_goal, to_goal, arm_goal, plan_arm, known_by_type, integer_known, nothing_asked, fitting}
+use Rattle.flow_lower_typed_works.proofs.FormGoals.{term_goal, to_goal, arm_goal, plan_arm, known_by_type, integer_known, nothing_asked, fitting}
 use Rattle.flow_lower_typed_works.proofs.LowKnowledge.{low_agrees, low_is_low, value_is_low, number_is_low, low_labels, leads_to, first_block, next_block}
 use Rattle.flow_lower_typed_works.proofs.Numbers.{IsLookedForm}
+use Rattle.flow_lower_typed_works.proofs.KnownTables.{at_most}
 use Rattle.flow_lower_typed_works.proofs.PlannedWorks.{Site, Labels, Owns, Planned, plan_value, plan_condition, plan_end, plan_mark, Made}
 
 module _ (c : Site) (waits : Labels → Type 0) (depth : ℕ) (before : Temporaries) (p : Plan) (none : p.jobs ≡ []) where

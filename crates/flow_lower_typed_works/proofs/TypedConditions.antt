@@ -18,8 +18,7 @@ use Rattle.flow_lower_typed.specs.TypedActs as typed
 use Rattle.flow_lower_typed.specs.TypedPieces.{State}
 use Rattle.flow_lower_typed.specs.WorkLaws.{IsLookedAt}
 use Rattle.flow_lower_typed.proofs.KeptKnowledge.{kept_same, kept_trans}
-use Rattle.flow_lower_typed_works.proofs.FormGoals.{at_most}
-use Rattle.flow_lower_typed_works.proofs.KnownTables.{agrees_same, agrees_value, to_below}
+use Rattle.flow_lower_typed_works.proofs.KnownTables.{at_most, agrees_same, agrees_value, to_below}
 use Rattle.flow_lower_typed_works.proofs.LowKnowledge.{low_is_low, low_labels, leads_to, first_block, next_block}
 use Rattle.flow_lower_typed_works.proofs.NamingTests.{behind_test}
 use Rattle.flow_lower_typed_works.proofs.PlainReads.{reads_no_line}

@@ -1,5 +1,5 @@
 -- Works come to pieces that keep to what is known, if the works that each consists of do.
-use Rattle.std.proofs.Common.{◌≡◌, ◌≤◌, ◌<◌, ℕ, zero, suc, ◌+◌, Bool, true, false, List, [], ◌∷◌, ◌++◌, Option, Some, None, slice_get, refl, arith, ap, sym, subst, ◌∙◌}
+use Rattle.std.proofs.Common.{◌≡◌, ◌≤◌, ◌<◌, ℕ, zero, suc, ◌+◌, false, List, [], ◌∷◌, ◌++◌, Some, None, slice_get, refl, arith, ap, sym, subst, ◌∙◌}
 use Rattle.flow_lower_tasks.specs.Pieces.{NameView, PieceView}
 use Rattle.flow_lower_tasks.specs.Works as jobs
 use Rattle.flow_lower_tasks.specs.Works.{Job}
@@ -68,12 +68,12 @@ module _ (c : Site) (s : SettingView) (made : AreMade c s) where
       let to : d.labels ≡ x.to = way.planned.labels in
       let own : Labelled p.labels d.labels (λ labels. (l : ℕ) → p.labels ≤ l → l < d.labels → labels l ≡ x.own l) = labelled_own x.own in
       labelled_more (λ labels all_ l.
-        (let owned = all_.0 in let inner = all_.1.0 in let outer = all_.1.1 in
-        pieces_joined c.u c.f c.used c.names labels start mid end ps qs
-          (between labels start (Some w.before) (state_behind w.before j) mid ps w.is w.work.behind
-            (pieces_weaker c.u c.f c.used c.names labels (Some w.before) way.end (state_behind w.before j) ps (inner (subst (λ n. (l : ℕ) → p.labels ≤ l → l < n → labels l ≡ x.own l) to owned, w.work.awaits labels l)) way.weaker))
-          (outer l)))
-        (labelled_both d.labels here.labels (through d.labels q.labels r.labels inside.labels later.labels) own (labelled_both q.labels inside.labels later.labels first second))
+      (let owned = all_.0 in let inner = all_.1.0 in let outer = all_.1.1 in
+      pieces_joined c.u c.f c.used c.names labels start mid end ps qs
+      (between labels start (Some w.before) (state_behind w.before j) mid ps w.is w.work.behind
+      (pieces_weaker c.u c.f c.used c.names labels (Some w.before) way.end (state_behind w.before j) ps (inner (subst (λ n. (l : ℕ) → p.labels ≤ l → l < n → labels l ≡ x.own l) to owned, w.work.awaits labels l)) way.weaker))
+      (outer l)))
+      (labelled_both d.labels here.labels (through d.labels q.labels r.labels inside.labels later.labels) own (labelled_both q.labels inside.labels later.labels first second))
     where
       planned_grown : (d q : Plan) → Grows (planless d) q → Grows d q
       planned_grown d q g = record { more_names = g.more_names; names = g.names; labels = g.labels; scopes = g.scopes; more_dispatches = g.more_dispatches; dispatches = g.dispatches }

@@ -1,0 +1,10 @@
+pub mod LabelKnowledge
+pub mod ShallowTerms
+pub mod StoredValues
+pub mod NumberedLabels
+pub mod FollowingWorks
+pub mod FollowingParts
+pub mod FollowingSwitches
+pub mod FollowingStatements
+pub mod FollowingFunctions
+pub mod TypedTemplates
