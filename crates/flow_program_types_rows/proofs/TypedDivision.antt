@@ -220,4 +220,4 @@ module _ (some : Flow) where
   }
 
   pub typed_division : IsTypedDivision program
-  typed_division = record { typed = typed; plain = record { look = is_plain; accesses = typed_accesses all_laws program unit typing typed }; found = refl }
+  typed_division = record { typed = typed; look = is_plain; accesses = typed_accesses all_laws program unit typing typed; found = refl }

@@ -16,7 +16,8 @@ use Rattle.flow_program_machine.specs.FlowStates.{found_in}
 use Rattle.flow_program_machine.specs.FlowSteps.{flow_steps}
 use Rattle.flow_program_machine.specs.FlowStarts.{flow_begin}
 use Rattle.lib_models_effects.specs.Worlds.{Violation}
-use Rattle.abstract_steps_single_runs.specs.PlainUnitRuns.{IsPlainUnit}
+use Rattle.abstract_steps_single_runs.specs.SingleRuns.{HasTypedAccesses}
+use Rattle.flow_lower_plain.specs.PlainUnits.{is_plain_unit}
 use Rattle.flow_program_types.specs.PointedTypes.{Element, Known, Pointing}
 use Rattle.flow_program_types.specs.TypedStates.{Temporaries}
 use Rattle.flow_program_types.specs.TypedPrograms.{Typing, IsTypedProgram}
@@ -116,8 +117,9 @@ typing = record { objects = objects; known = known }
 
 -- ---- what is supposed of it
 
--- its program is typed, so the unit is plain; behind so many steps the run has divided by 0
+-- its program is typed, so accesses of its run are; behind so many steps the run has divided by 0
 pub record IsTypedDivision (flow : Flow) : Type 0 where
   pub typed : IsTypedProgram flow unit typing
-  pub plain : IsPlainUnit unit flow
+  pub look : is_plain_unit unit ≡ true
+  pub accesses : HasTypedAccesses flow unit
   pub found : found_in (flow_steps (flow_view flow) 13 (flow_begin unit (flow_view flow) [])) ≡ division ∷ []

@@ -9,7 +9,7 @@ use Rattle.c_layout.specs.declared.data_model.Model.{Model}
 use Rattle.c_layout.specs.declared.unit_tokens.Unit7.{Unit7}
 use Rattle.syntax_rules.specs.StatementPlaces.{unit_places}
 use Rattle.flow_program.specs.declared.programs.Flow.{Flow}
-use Rattle.flow_lower_plain_programs.specs.PlainUnitRuns.{IsPlainUnit}
+use Rattle.flow_lower_typed_units.specs.PlainUnits.{IsPlainUnit}
 use Rattle.abstract_steps_single_units.specs.SingleUnits.{RunViolates}
 use Rattle.report_cli_texts.specs.Reports.{Bytes}
 use Rattle.report_cli_units.specs.Judging.{SettingView, Judgement, IsJudged}

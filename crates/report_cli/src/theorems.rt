@@ -17,6 +17,7 @@ use c_types_scoped_units::checks_are_scoped;
 use c_types_sizes::checks_are_small;
 use cert_check_sound::accepted_certificates_hold_units;
 use flow_lower_plain_programs::plain_units_have_plain_programs;
+use flow_lower_typed_units::typed_units_have_typed_accesses;
 use report_cli_laws::one_parse;
 use template_runs_looked::{looked_runs_are_program_runs, looked_units_are_never_stuck};
 use turn_split_single::turned_units_are_told_exactly;
@@ -67,6 +68,7 @@ pub fn judged_pairs_are_violated()
     plain_units_are_told_exactly();
     turned_units_are_told_exactly();
     plain_units_have_plain_programs();
+    typed_units_have_typed_accesses();
 }
 
 /// So is each diagnostic of its report.

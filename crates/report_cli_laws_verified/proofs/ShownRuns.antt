@@ -1,5 +1,5 @@
 -- A proved text of a plain unit shows what an analysis finds, and that is just what the unit's run violates.
-use Rattle.std.specs.Prelude.{◌≡◌, ℤ, List}
+use Rattle.std.specs.Prelude.{◌≡◌, ◌⊎◌, inl, inr, ℤ, true, List}
 use Rattle.std.proofs.Common.{sym, ap, subst, ◌∙◌}
 use Rattle.cc_base.specs.Standard.{standard_limits}
 use Rattle.cc_base.specs.declared.diagnostics.Diag.{Diag}
@@ -10,13 +10,16 @@ use Rattle.flow_program.specs.declared.programs.Flow.{Flow}
 use Rattle.flow_program_views.specs.ProgramViews.{FlowView, flow_view}
 use Rattle.flow_analysis.specs.Analyses.{IsAnalysis}
 use Rattle.flow_lower_plain_programs.specs.PlainPrograms.{PlainUnitsHavePlainPrograms}
+use Rattle.flow_lower_typed_units.specs.TypedUnits.{is_typed_unit}
+use Rattle.flow_lower_typed_units.specs.TypedUnitLaws.{TypedUnitsHaveTypedAccesses}
 use Rattle.abstract_steps_single_units.specs.CheckedStarts.{IsUnitOf}
-use Rattle.abstract_steps_single_units.specs.SingleRuns.{IsSingleProgram}
+use Rattle.abstract_steps_single_units.specs.SingleRuns.{IsSingleProgram, HasTypedAccesses}
 use Rattle.abstract_steps_single_units.specs.SingleUnits.{FindsJustUnitRuns}
 use Rattle.report_cli_laws_certificates.specs.Judging.{IsLowered}
 use Rattle.report_cli_laws_certificates.proofs.Accepted.{program_of, same_view, found_by_text}
 use Rattle.report_cli.specs.DefinedRuns.{TypedUnitsPassLooks}
 use Rattle.report_cli.proofs.FoundRuns as found
+use Rattle.report_cli.proofs.PlainRuns.{laid_by, accesses_typed}
 use Rattle.report_cli_laws_verified.specs.ShownRuns.{ProvedTextsShowJustRuns}
 use Rattle.report_cli_laws_verified.proofs.SameAccesses.{accesses_same}
 
@@ -24,8 +27,13 @@ use Rattle.report_cli_laws_verified.proofs.SameAccesses.{accesses_same}
 abbrev pub PlainUnitsAreTold : Type 0
 PlainUnitsAreTold = (flow : Flow) (list : List ℤ) (found : List Diag) → IsAnalysis flow list found → FindsJustUnitRuns flow found
 
-pub proved_shown : TypedUnitsPassLooks → PlainUnitsAreTold → PlainUnitsHavePlainPrograms → ProvedTextsShowJustRuns
-proved_shown pass told lowered unit s text p shown v plain d =
+-- the look at types is one at the unit alone, and equal programs have equal runs
+types_same : (old new : Flow) → flow_view old ≡ flow_view new → (u : UnitView) → (is_typed_unit u ≡ true) ⊎ HasTypedAccesses old u → (is_typed_unit u ≡ true) ⊎ HasTypedAccesses new u
+types_same old new view u (inl look) = inl look
+types_same old new view u (inr accesses) = inr (accesses_same old new view u accesses)
+
+pub proved_shown : TypedUnitsPassLooks → PlainUnitsAreTold → PlainUnitsHavePlainPrograms → TypedUnitsHaveTypedAccesses → ProvedTextsShowJustRuns
+proved_shown pass told lowered typed unit s text p shown v plain d =
     let own = v.program in
     let u = unit_view own.checked in
     let view : flow_view p.flow ≡ flow_view v.flow = same_view unit s text p (program_of unit s v.flow own) in
@@ -36,6 +44,8 @@ proved_shown pass told lowered unit s text p shown v plain d =
     let is_unit : IsUnitOf u p.flow = record { model = s.model; name = s.entry; tree = unit_tree own.tree; limits = standard_limits; checked = own.typed.checks; lowered = is_lowered.lowers; plain = own.plain } in
     let is_program = found.program_of s own.tree own.checked p.flow own.typed own.regular is_lowered p.program.well_formed in
     let flow = lowered u standard_limits p.flow is_program plain.look in
-    let single : IsSingleProgram p.flow u = record { plain = flow.plain; parameters = flow.parameters; calls = flow.calls; headless = flow.headless; steps = accesses_same v.flow p.flow (sym view) u plain.accesses } in
+    let analysis = found_by_text unit s text p shown v in
+    let accesses = accesses_typed typed u standard_limits p.flow is_program (laid_by p.flow p.proof.list shown analysis) (record { look = plain.look; types = types_same v.flow p.flow (sym view) u plain.types }) in
+    let single : IsSingleProgram p.flow u = record { plain = flow.plain; parameters = flow.parameters; calls = flow.calls; headless = flow.headless; steps = accesses } in
     let looks = pass unit s own.tree own.checked own.parsed own.typed own.looked own.regular in
-    told p.flow p.proof.list shown (found_by_text unit s text p shown v) u standard_limits is_unit is_program looks single d
+    told p.flow p.proof.list shown analysis u standard_limits is_unit is_program looks single d

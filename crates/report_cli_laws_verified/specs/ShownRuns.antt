@@ -8,7 +8,7 @@ use Rattle.c_layout.specs.declared.checked_tree.checked_units.Checked.{Checked}
 use Rattle.c_layout.specs.declared.unit_tokens.Unit7.{Unit7}
 use Rattle.c_preproc.specs.Causes.{Seen}
 use Rattle.flow_program.specs.declared.programs.Flow.{Flow}
-use Rattle.flow_lower_plain_programs.specs.PlainUnitRuns.{IsPlainUnit}
+use Rattle.flow_lower_typed_units.specs.PlainUnits.{IsPlainUnit}
 use Rattle.abstract_steps_single_units.specs.SingleUnits.{RunViolates}
 use Rattle.report_cli_words.specs.Requests.{CommandView}
 use Rattle.report_cli_texts.specs.Reports.{Bytes}

@@ -3,6 +3,7 @@ ghost use Rattle.report_cli_laws_verified.specs.ShownRuns.{ProvedTextsShowJustRu
 
 use abstract_steps_single_units::plain_units_are_told_exactly;
 use flow_lower_plain_programs::plain_units_have_plain_programs;
+use flow_lower_typed_units::typed_units_have_typed_accesses;
 use report_cli::typed_units_pass_looks;
 
 /// A text that is proved of a plain unit shows just the pairs that the unit's run under no numbers of the outside violates.
@@ -12,6 +13,7 @@ pub fn proved_texts_show_just_runs()
     typed_units_pass_looks();
     plain_units_are_told_exactly();
     plain_units_have_plain_programs();
+    typed_units_have_typed_accesses();
 }
 
 /// So does `verify`, where it answers 0 or 1 and a file holds such a text of the same unit.

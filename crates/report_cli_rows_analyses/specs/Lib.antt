@@ -1,3 +1,3 @@
 pub mod WorkedAnalyses
-pub use Rattle.abstract_steps_single_runs.specs.PlainUnitRuns
-pub use Rattle.abstract_steps_single_runs.specs.SingleRuns
+pub use Rattle.flow_lower_typed_units.specs.PlainUnits
+pub use Rattle.flow_lower_typed_units.specs.TypedUnits

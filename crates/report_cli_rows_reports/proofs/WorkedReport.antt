@@ -27,8 +27,8 @@ use Rattle.report_cli_laws.specs.Verdicts.{report_status, IsVerdict, IsLater}
 use Rattle.report_cli_laws.specs.Told.{IsAcceptedCheck, ToldReport}
 use Rattle.report_cli_laws_reports.specs.OneReports.{OneReport, OneVerdict}
 use Rattle.flow_lower_plain.specs.PlainUnits.{is_plain_unit}
-use Rattle.report_cli_rows_analyses.specs.PlainUnitRuns.{IsPlainUnit}
-use Rattle.report_cli_rows_analyses.specs.SingleRuns.{HasTypedAccesses}
+use Rattle.report_cli_rows_analyses.specs.PlainUnits.{IsPlainUnit}
+use Rattle.report_cli_rows_analyses.specs.TypedUnits.{is_typed_unit}
 use Rattle.report_cli_rows.specs.WorkedAnswers.{IsExpandedFromHeld, IsNamedModel}
 use Rattle.report_cli_rows_analyses.specs.WorkedAnalyses.{Map, thresholds, IsWorkedProgram}
 use Rattle.report_cli_rows_units.specs.WorkedTexts.{held, name, tokens_with, expanded}
@@ -61,6 +61,9 @@ plain = refl
 
 plain_look : is_plain_unit checked_unit ≡ true
 plain_look = refl
+
+typed_look : is_typed_unit checked_unit ≡ true
+typed_look = refl
 
 regular : is_regular_unit checked_unit ≡ true
 regular = refl
@@ -125,7 +128,7 @@ module _ (some : Flow) (parsed_to : IsParsedTo) (checked_to : IsCheckedTo) (larg
 
     plain_unit : IsPlainUnit (unit_view report.judged.checked) report.judged.flow
     unfolding report judged
-    plain_unit = record { look = ap (λ (u : UnitView). is_plain_unit u) (unit_is some.blocks) ∙ plain_look; accesses = subst (λ (u : UnitView). HasTypedAccesses flow u) (sym (unit_is some.blocks)) worked.single.steps }
+    plain_unit = record { look = ap (λ (u : UnitView). is_plain_unit u) (unit_is some.blocks) ∙ plain_look; types = inl (ap (λ (u : UnitView). is_typed_unit u) (unit_is some.blocks) ∙ typed_look) }
 
     accepted : IsAcceptedCheck seen command
     accepted = record {

@@ -3,7 +3,7 @@ use Rattle.std.specs.Prelude.{◌≡◌, ◌⊎◌, ℕ, List, [], ◌∷◌, So
 use Rattle.cc_base.specs.declared.diagnostics.Diag.{Diag}
 use Rattle.c_layout.specs.CheckedUnits.{unit_view}
 use Rattle.c_layout.specs.Models.{lp64}
-use Rattle.report_cli_rows_analyses.specs.PlainUnitRuns.{IsPlainUnit}
+use Rattle.report_cli_rows_analyses.specs.PlainUnits.{IsPlainUnit}
 use Rattle.c_preproc.specs.Causes.{Seen, seen_of}
 use Rattle.report_cli_words.specs.Requests as asked
 use Rattle.report_cli_words.specs.Requests.{CommandView}
