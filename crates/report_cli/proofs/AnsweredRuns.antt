@@ -13,7 +13,7 @@ use Rattle.report_cli_texts.specs.Reports.{Bytes}
 use Rattle.report_cli_texts.specs.Refusals.{refusal_status}
 use Rattle.report_cli_answers.specs.Outcomes.{Took, PutOnce, Outcome, told, read_fault, write_fault, no_memory, status_at, Happened}
 use Rattle.report_cli_answers.specs.Verdicts as verdict
-use Rattle.report_cli_answers.specs.Verdicts.{Verdict, report_status, status_of, text_of, Tells, HasModel, RefusesModel, FromFiles, IsReport, AnswersUnit, Under, IsVerdict, check_setting}
+use Rattle.report_cli_answers.specs.Verdicts.{Verdict, status_of, text_of, HasModel, RefusesModel, FromFiles, IsReport, AnswersUnit, IsVerdict, check_setting}
 use Rattle.report_cli.specs.DefinedRuns.{RunsAreDefined}
 use Rattle.report_cli.specs.FoundRuns.{ReportsHoldRuns}
 use Rattle.report_cli.specs.PlainRuns.{ReportsHoldJustRuns}

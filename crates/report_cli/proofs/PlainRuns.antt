@@ -9,7 +9,6 @@ use Rattle.c_layout.specs.CheckedUnits.{UnitView, unit_view}
 use Rattle.c_layout.specs.DeclarationTrees.{unit_tree}
 use Rattle.c_layout.specs.StructViews.{structs_view}
 use Rattle.flow_program.specs.declared.programs.Flow.{Flow}
-use Rattle.syntax_rules.specs.StatementPlaces.{unit_places}
 use Rattle.abstract_steps_sound_units.specs.Analyses.{IsAnalysis}
 use Rattle.abstract_steps_single_units.specs.CheckedStarts.{IsUnitOf}
 use Rattle.flow_lower_plain_programs.specs.SingleRuns.{HasTypedAccesses, IsSingleProgram}
@@ -17,13 +16,15 @@ use Rattle.abstract_steps_single_units.specs.SingleUnits.{FindsJustUnitRuns}
 use Rattle.flow_lower_plain_programs.specs.PlainPrograms.{IsPlainFlow, PlainUnitsHavePlainPrograms}
 use Rattle.flow_lower_plain_programs.specs.UnitRuns.{IsProgramOf}
 use Rattle.flow_lower_typed_units.specs.PlainUnits.{IsPlainUnit}
-use Rattle.flow_lower_typed_units.specs.TypedUnitLaws.{TypedUnitsHaveTypedAccesses}
+use Rattle.flow_lower_typed_units.specs.TypedUnitLaws.{TypedUnitsHaveTypedAccesses, IsLoopedFlow, LoopedUnitsHaveTypedPrograms}
 use Rattle.flow_lower_typed_units.specs.StandingTypes.{AreLaidOut}
 use Rattle.abstract_steps_sound_units.proofs.CheckedUnits.{analysed_structs, same_structs}
 use Rattle.turn_split_single.specs.TurnedUnits.{TurnedUnitsAreToldExactly}
+use Rattle.turn_split_single.specs.TurnedLoops.{TakesTurns, IsSingleUpTo, LoopedUnitsAreToldExactly}
+use Rattle.template_runs_looked.specs.LookedRuns.{PassesLooks}
 use Rattle.report_cli_units.specs.Judging.{IsTurned}
 use Rattle.report_cli.specs.DefinedRuns.{TypedUnitsPassLooks}
-use Rattle.report_cli.specs.PlainRuns.{JudgedPairsAreViolated, ReportsHoldJustRuns}
+use Rattle.report_cli.specs.PlainRuns.{HasOneRun, JudgedPairsAreViolated, ReportsHoldJustRuns}
 use Rattle.report_cli.proofs.FoundRuns.{program_of}
 
 -- an analysis of a program finds just what the run of its plain unit violates
@@ -57,19 +58,44 @@ accesses_typed typed u limits flow is laid plain = elim plain.types [
   | inr accesses ↦ accesses
 ]
 
-pub judged_pairs : TypedUnitsPassLooks → PlainUnitsAreTold → TurnedUnitsAreToldExactly → PlainUnitsHavePlainPrograms → TypedUnitsHaveTypedAccesses → JudgedPairsAreViolated
-judged_pairs pass told turned lowered typed unit s j judged plain d there =
+-- what a run of a unit with loops is told by, where it ends within the turns that are unrolled
+looped_program : (turns : ℕ) (program : Flow) (u : UnitView) → IsLoopedFlow program u → TakesTurns turns program u → IsSingleUpTo turns program u
+looped_program turns program u flow takes = record { plain = flow.plain; parameters = flow.parameters; calls = flow.calls; takes = takes; steps = flow.steps }
+
+-- all that is composed
+pub record Laws : Type 0 where
+  pub pass : TypedUnitsPassLooks
+  pub told : PlainUnitsAreTold
+  pub turned : TurnedUnitsAreToldExactly
+  pub looped : LoopedUnitsAreToldExactly
+  pub lowered : PlainUnitsHavePlainPrograms
+  pub typed : TypedUnitsHaveTypedAccesses
+  pub looped_typed : LoopedUnitsHaveTypedPrograms
+
+module _ (laws : Laws) (flow analysed : Flow) (list : List ℤ) (found : List Diag) (own : IsAnalysis analysed list found) (u : UnitView) (unit : IsUnitOf u flow) (is : IsProgramOf u standard_limits flow) (looks : PassesLooks u) (d : Diag) (there : Contains found d) where
+  plain_violated : (turns : Option ℕ) → IsTurned turns flow analysed → IsPlainUnit u flow → RunViolates u (record { at = d.place; rule = d.rule })
+  plain_violated turns turned plain =
+      let single = single_program flow u (laws.lowered u standard_limits flow is plain.look) (accesses_typed laws.typed u standard_limits flow is (structs_laid turns flow analysed list found turned own) plain) in
+      (finds_run laws.told laws.turned turns flow analysed list found turned own u standard_limits unit is looks single d).0 there
+
+  run_violated : (turns : Option ℕ) → IsTurned turns flow analysed → HasOneRun turns u flow → RunViolates u (record { at = d.place; rule = d.rule })
+  run_violated None turned plain = plain_violated None turned plain
+  run_violated (Some turns) turned (inl plain) = plain_violated (Some turns) turned plain
+  run_violated (Some turns) turned (inr one) =
+      let typed = laws.looped_typed u standard_limits flow is (structs_laid (Some turns) flow analysed list found turned own) one.look one.types in
+      (laws.looped turns flow analysed list found turned own u standard_limits unit is looks (looped_program turns flow u typed one.takes) one.steps one.ends d).0 there
+
+pub judged_pairs : Laws → JudgedPairsAreViolated
+judged_pairs laws unit s j judged one d there =
     let f = judged.found in
     let u = unit_view judged.checked in
-    let finds = finds_run told turned s.turns judged.flow judged.analysed f.list f.runs judged.turned f.by_runs in
     let is_unit : IsUnitOf u judged.flow = record { model = s.model; name = s.entry; tree = unit_tree judged.tree; limits = standard_limits; checked = judged.typed.checks; lowered = judged.lowered.lowers; plain = judged.plain } in
     let is_program = program_of s judged.tree judged.checked judged.flow judged.typed judged.regular judged.lowered judged.made in
-    let single = single_program judged.flow u (lowered u standard_limits judged.flow is_program plain.look) (accesses_typed typed u standard_limits judged.flow is_program (structs_laid s.turns judged.flow judged.analysed f.list f.runs judged.turned f.by_runs) plain) in
-    let looks = pass unit s judged.tree judged.checked judged.parsed judged.typed judged.looked judged.regular in
+    let looks = laws.pass unit s judged.tree judged.checked judged.parsed judged.typed judged.looked judged.regular in
     elim (Contains-append_cases f.texts f.runs d (subst (λ ds. Contains ds d) f.both there)) [
       | inl text ↦ inl (f.by_texts.made d text)
-      | inr run ↦ inr ((finds u standard_limits is_unit is_program looks single d).0 run)
+      | inr run ↦ inr (run_violated laws judged.flow judged.analysed f.list f.runs f.by_runs u is_unit is_program looks d run s.turns judged.turned one)
     ]
 
 pub reports_hold_just : JudgedPairsAreViolated → ReportsHoldJustRuns
-reports_hold_just judged files dirs model main s names diags report plain d there = judged report.expanded s report.found report.judged plain d (report.listed.made d there)
+reports_hold_just judged files dirs model main s names diags report one d there = judged report.expanded s report.found report.judged one d (report.listed.made d there)

@@ -27,7 +27,7 @@ pub record TellsRuns (seen : Seen) (c : CommandView) (sink : Took) (status : ℕ
   pub put : PutOnce sink (report_in c.format names c.unit diags)
   pub holds : HoldsRunsOf (unit_view report.judged.checked) diags
   pub defined : IsNeverStuck (unit_view report.judged.checked)
-  pub plain : HoldsJustRun report.judged.checked report.judged.flow diags
+  pub plain : HoldsJustRun c.turns report.judged.checked report.judged.flow diags
 
 -- 0 or 1: of `check`, that the unit was accepted
 abbrev pub IsAccepting : ℕ → Type 0

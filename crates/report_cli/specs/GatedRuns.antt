@@ -27,7 +27,7 @@ pub record TellsFreshRuns (seen : Seen) (c : CommandView) (base : Bytes) (sink :
   pub report : IsReport (FromFiles seen.files c.dirs model c.unit) (gate_setting c model) names all
   pub holds : HoldsRunsOf (unit_view report.judged.checked) all
   pub defined : IsNeverStuck (unit_view report.judged.checked)
-  pub plain : HoldsJustRun report.judged.checked report.judged.flow all
+  pub plain : HoldsJustRun c.turns report.judged.checked report.judged.flow all
   pub diags : List Diag
   pub fresh : IsFreshOf seen.files base names all diags
   pub by_status : status ≡ report_status diags

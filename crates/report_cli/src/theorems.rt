@@ -20,7 +20,7 @@ use flow_lower_plain_programs::plain_units_have_plain_programs;
 use flow_lower_typed_units::typed_units_have_typed_accesses;
 use report_cli_laws::one_parse;
 use template_runs_looked::{looked_runs_are_program_runs, looked_units_are_never_stuck};
-use turn_split_single::turned_units_are_told_exactly;
+use turn_split_single::{looped_units_are_told_exactly, turned_units_are_told_exactly};
 
 /// A unit that is typed from its tokens passes the looks at its terms and scopes, where tokens are of bytes and functions
 /// are regular.
@@ -60,13 +60,14 @@ pub fn reports_hold_runs()
 }
 
 /// Where the unit is plain, each pair that is told of it is that of a syntactic rule, or is violated by the unit's run under no
-/// numbers of the outside, also where turns are unrolled.
+/// numbers of the outside, also where turns are unrolled; and so where it has loops, and its run ends within those turns.
 pub fn judged_pairs_are_violated()
     ensures { JudgedPairsAreViolated }
 {
     typed_units_pass_looks();
     plain_units_are_told_exactly();
     turned_units_are_told_exactly();
+    looped_units_are_told_exactly();
     plain_units_have_plain_programs();
     typed_units_have_typed_accesses();
 }

@@ -1,5 +1,5 @@
 -- Programs with one view access in their runs what lies there alike.
-use Rattle.std.specs.Prelude.{◌≡◌, ℕ, Option, Some, None, List, [], map, option_map, slice_get, refl}
+use Rattle.std.specs.Prelude.{◌≡◌, Option, Some, None, [], option_map, slice_get, refl}
 use Rattle.std.proofs.Common.{sym, ap, ◌∙◌}
 use Rattle.std.proofs.lemmas.Option.{slice_get-map, same_Some}
 use Rattle.c_layout.specs.CheckedUnits.{UnitView}

@@ -10,9 +10,9 @@ use Rattle.flow_program.specs.declared.basic_blocks.BasicBlock.{BasicBlock}
 use Rattle.flow_program.specs.declared.flow_edges.Edge.{Edge}
 use Rattle.flow_program.specs.declared.machine_instructions.Instruction.{Instruction}
 use Rattle.flow_program.specs.declared.programs.Flow.{Flow}
-use Rattle.flow_lower_tasks.specs.Acts.{Step, step}
+use Rattle.flow_lower_tasks.specs.Acts.{step}
 use Rattle.flow_lower_tasks.specs.Pieces.{way}
-use Rattle.flow_program_views.specs.ProgramViews.{BlockView, EdgeView, FlowView, block, edge, flow_view}
+use Rattle.flow_program_views.specs.ProgramViews.{BlockView, EdgeView, FlowView, block, flow_view}
 use Rattle.abstract_steps_system.specs.BlockPasses.{instructions_in}
 use Rattle.abstract_steps_system.specs.FlowMachines.{head_in, is_head_at, edge_at}
 use Rattle.rule_checks.specs.AdmittedRules.{instructions_of}

@@ -1,6 +1,6 @@
 -- A program whose one run passes each block once at most stays one where turns are unrolled, and becomes one where that unrolls its
 -- loops.
-use Rattle.std.specs.Prelude.{◌≡◌, ℕ, ℤ, ◌*◌, Bool, true, false, Option, Some, None, List, [], length, slice_get, refl}
+use Rattle.std.specs.Prelude.{◌≡◌, ℕ, ℤ, ◌*◌, Bool, true, false, List, [], length, slice_get, refl}
 use Rattle.std.specs.Global.{Vec}
 use Rattle.std.proofs.Common.{arith, sym, subst, ap, ◌∙◌, inl, inr}
 use Rattle.std.proofs.lemmas.Bool.{cases_lt, true≢false}
@@ -12,7 +12,6 @@ use Rattle.flow_program.specs.declared.flow_edges.CaseTest.{CaseTest}
 use Rattle.flow_program.specs.declared.flow_edges.Edge.{Edge}
 use Rattle.flow_program.specs.declared.flow_edges.EdgeKind.{EdgeKind}
 use Rattle.flow_program.specs.declared.flow_edges.EdgeKind.TheVariants as kind
-use Rattle.flow_program.specs.declared.machine_instructions.Instruction.{Instruction}
 use Rattle.flow_program.specs.declared.machine_instructions.Operation.{Operation}
 use Rattle.flow_program.specs.declared.programs.Flow.{Flow}
 use Rattle.flow_lower_tasks.specs.Acts.{Step}
