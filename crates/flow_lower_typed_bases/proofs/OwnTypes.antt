@@ -1,14 +1,20 @@
 -- The types of units and functions without long arrays are the data model's own, with short arrays alone.
-use Rattle.std.proofs.Common.{◌≡◌, ℕ, suc, ◌+◌, true, ◌&&◌, length, Option, Some, None, slice_get, refl, ap, ◌∙◌, arith}
+use Rattle.std.proofs.Common.{◌≡◌, ℕ, zero, suc, ◌+◌, Bool, true, ◌&&◌, List, [], ◌∷◌, length, Option, Some, None, slice_get, refl, sym, ap, ◌∙◌, arith}
+use Rattle.std.specs.List.{list_all}
+use Rattle.std.proofs.lemmas.Option.{same_Some}
 use Rattle.c_layout.specs.CheckedUnits.{LocalView, LiteralView, UnitView}
 use Rattle.flow_lower_counts_parts.specs.SharedObjects.{literal_type}
 use Rattle.flow_lower_functions.specs.Functions.{type_or}
 use Rattle.flow_lower_plain.specs.ShortArrays.{has_short_arrays_within, has_short_arrays, is_short_local, is_short_object, is_short_literal}
 use Rattle.flow_lower_plain_works.proofs.LeadingWorks.{both}
-use Rattle.flow_lower_plain_programs.proofs.NamedBases.{of_all}
 use Rattle.flow_lower_typed.specs.TypedBases.{IsOwnType}
 use Rattle.flow_lower_typed.specs.TypedObjects.{is_own_local, is_own_object, is_own_literal}
 use Rattle.flow_lower_typed.specs.ProgramLaws.{ShortTypesAreOwn, LoopedLocalsAreOwn}
+
+of_all : {A : Type 0} (test : A → Bool) (xs : List A) (n : ℕ) (x : A) → list_all test xs ≡ true → slice_get xs n ≡ Some x → test x ≡ true
+of_all test [] n x all is = absurd (cc)
+of_all test (y ∷ xs) zero x all is = ap test (same_Some x y (sym is)) ∙ (both _ _ all).0
+of_all test (y ∷ xs) (suc n) x all is = of_all test xs n x (both _ _ all).1 is
 
 one_more : (n : ℕ) → n + 1 ≡ suc n
 one_more n = omega arith
