@@ -1,5 +1,5 @@
 -- What a plain work consists of leads on, and marks what the work is to mark.
-use Rattle.std.proofs.Common.{◌≡◌, ◌≤◌, ◌<◌, ◌⊎◌, inl, inr, ℕ, ◌+◌, ◌-◌, ◌^◌, ◌==◌, Bool, true, false, cond, List, [], ◌∷◌, ◌++◌, length, get_or, refl, arith, ap, sym, subst, ◌∙◌, length-append}
+use Rattle.std.proofs.Common.{◌≡◌, ◌≤◌, ◌<◌, ◌⊎◌, inl, inr, ℕ, ◌+◌, ◌-◌, ◌^◌, ◌==◌, Bool, true, false, cond, List, [], ◌∷◌, ◌++◌, length, get_or, Option, Some, None, refl, arith, ap, sym, subst, ◌∙◌, length-append}
 use Rattle.std.proofs.lemmas.Bool.{eq-eqb, eqb-true}
 use Rattle.std.proofs.lemmas.List.{get_or_append_left}
 use Rattle.c_layout.specs.CheckedTrees as tree
@@ -8,7 +8,7 @@ use Rattle.c_layout.specs.declared.checked_tree.checked_statements.CaseLabel.{Ca
 use Rattle.cc_base.specs.declared.diagnostics.Place.{Place}
 use Rattle.flow_lower_statements.specs.ScopeJumps.{left, all_entered, all_left}
 use Rattle.flow_lower_statements.specs.PlainStatements.{all_statements, in_scope}
-use Rattle.flow_lower_statements.specs.Loops.{selection, two_way_selection, part}
+use Rattle.flow_lower_statements.specs.Loops.{selection, two_way_selection, part, while_loop, do_loop, in_loop, check, unused, for_from}
 use Rattle.flow_lower_statements.specs.Switches.{no_dispatch, dispatch_at, begin_switch, in_switch, switch}
 use Rattle.flow_lower_statements.specs.Statements.{statement}
 use Rattle.flow_lower_tasks.specs.Pieces.{Mark}
@@ -67,7 +67,7 @@ not_plain e = absurd (cc)
 
 -- ---- marks that are to come
 
-makes_left : {ds : List Dispatch} {l : ℕ} (at : Place) (xs : List ℕ) (p : Plan) → WillMark ds l p → WillMark ds l (all_left at xs p)
+pub makes_left : {ds : List Dispatch} {l : ℕ} (at : Place) (xs : List ℕ) (p : Plan) → WillMark ds l p → WillMark ds l (all_left at xs p)
 makes_left at [] p k = k
 makes_left at (x ∷ xs) p k = makes_left at xs (left at x p) (search made depth 30)
 
@@ -75,13 +75,21 @@ makes_all_later : {ds : List Dispatch} {l : ℕ} (items : StatementTrees) (aroun
 makes_all_later tree.NoMore around p k = k
 makes_all_later (tree.And first rest) around p k = makes_all_later rest around (with_work (jobs.Statement first around) p) (makes_work (jobs.Statement first around) p k)
 
-makes_all : {ds : List Dispatch} {l : ℕ} (items : StatementTrees) (around : Surroundings) (p : Plan) → Stands ds around.choice (list items) l → WillMark ds l (all_statements items around p)
+pub makes_all : {ds : List Dispatch} {l : ℕ} (items : StatementTrees) (around : Surroundings) (p : Plan) → Stands ds around.choice (list items) l → WillMark ds l (all_statements items around p)
 makes_all {ds = ds} {l = l} tree.NoMore around p is = stands_nowhere ds around.choice l is
 makes_all {ds = ds} {l = l} (tree.And first rest) around p is = by (stands_in_all ds around.choice l first rest is) (λ x. makes_all rest around (with_work (jobs.Statement first around) p) x)
   where
     by : Stands ds around.choice first l ⊎ Stands ds around.choice (list rest) l → (Stands ds around.choice (list rest) l → WillMark ds l (all_statements (tree.And first rest) around p)) → WillMark ds l (all_statements (tree.And first rest) around p)
     by (inl x) further = makes_all_later rest around (with_work (jobs.Statement first around) p) (makes_this (jobs.Statement first around) p x)
     by (inr x) further = further x
+
+pub makes_unused : {ds : List Dispatch} {l : ℕ} (e : Option TermTree) (p : Plan) → WillMark ds l p → WillMark ds l (unused e p)
+makes_unused None p k = k
+makes_unused (Some e) p k = makes_work _ _ k
+
+pub makes_check : {ds : List Dispatch} {l : ℕ} (label : ℕ) (test : Option TermTree) (first second : ℕ) (p : Plan) → WillMark ds l p → WillMark ds l (check label test first second p)
+makes_check label None first second p k = makes_work _ _ k
+makes_check label (Some e) first second p k = makes_work _ _ (makes_work _ _ k)
 
 module _ (s : SettingView) (ds : List Dispatch) (l : ℕ) where
   makes_if : (e : TermTree) (body : StatementTree) (around : Surroundings) (p : Plan) → Stands ds around.choice body l → WillMark ds l (selection e body around p)
@@ -140,28 +148,38 @@ module _ (s : SettingView) (ds : List Dispatch) (l : ℕ) where
   same_dispatch : (c b : ℕ) (p : Plan) → b ≡ length p.dispatches → c < b → Within ds p → dispatch_at p c ≡ get_or ds c no_dispatch
   same_dispatch c b p e less known = known c (subst (λ k. c < k) e less)
 
-  pub makes_statement : (calls : ℕ → Bool) (L : ℕ → Type 0) (b : ℕ) (i : StatementTree) (around : Surroundings) (p : Plan) → b ≡ length p.dispatches → Within ds p → Goes calls s b L i around → Stands ds around.choice i l → WillMark ds l (statement s i around p)
-  makes_statement calls L b (tree.Value e) around p same known g is = stands_nowhere ds around.choice l is
-  makes_statement calls L b tree.Nothing around p same known g is = stands_nowhere ds around.choice l is
-  makes_statement calls L b (tree.Forget at object) around p same known g is = stands_nowhere ds around.choice l is
-  makes_statement calls L b (tree.Start at object e) around p same known g is = stands_nowhere ds around.choice l is
-  makes_statement calls L b (tree.StartCopy at object x) around p same known g is = stands_nowhere ds around.choice l is
-  makes_statement calls L b (tree.StartList at object stores) around p same known g is = stands_nowhere ds around.choice l is
-  makes_statement calls L b (tree.Block xs items) around p same known g is = makes_left s.at xs _ (makes_all items (in_scope around p.scopes) (all_entered s.at xs (with_scope p)) is)
-  makes_statement calls L b (tree.If e body) around p same known g is = makes_if e body around p is
-  makes_statement calls L b (tree.IfElse e first second) around p same known g is = makes_else e first second around p (stands_in_two ds around.choice l e first second is)
-  makes_statement calls L b (tree.While e body) around p same known g is = not_plain g.plain
-  makes_statement calls L b (tree.Do body e) around p same known g is = not_plain g.plain
-  makes_statement calls L b (tree.For xs first test after body) around p same known g is = not_plain g.plain
-  makes_statement calls L b (tree.Switch at e cases has_default values body) around p same known g (inl is) = makes_switch at e cases body around p is
-  makes_statement calls L b (tree.Switch at e cases has_default values body) around p same known g (inr is) = stands_nowhere ds around.choice l (inr is)
-  makes_statement calls L b (tree.Case n body) around p same known g is = makes_part _ body around p (in_case n around.choice (dispatch_at p around.choice) body (same_dispatch around.choice b p same (g.choice (has_own_case n body)) known) is)
-  makes_statement calls L b (tree.Default body) around p same known g is = makes_part _ body around p (in_default around.choice (dispatch_at p around.choice) body (same_dispatch around.choice b p same (g.choice (has_own_default body)) known) is)
-  makes_statement calls L b (tree.Label n body) around p same known g is = makes_part n body around p (in_label n around.choice body is)
-  makes_statement calls L b (tree.Goto n) around p same known g is = stands_nowhere ds around.choice l is
-  makes_statement calls L b tree.Break around p same known g is = stands_nowhere ds around.choice l is
-  makes_statement calls L b tree.Continue around p same known g is = stands_nowhere ds around.choice l is
-  makes_statement calls L b (tree.Return at e) around p same known g is = stands_nowhere ds around.choice l is
+  makes_while : (e : TermTree) (body : StatementTree) (around : Surroundings) (p : Plan) → Stands ds around.choice body l → WillMark ds l (while_loop s e body around p)
+  makes_while e body around p is = makes_work _ _ (makes_work _ _ (makes_this (jobs.Statement body (in_loop around (p.labels + 2) p.labels)) _ is))
+
+  makes_do : (body : StatementTree) (e : TermTree) (around : Surroundings) (p : Plan) → Stands ds around.choice body l → WillMark ds l (do_loop body e around p)
+  makes_do body e around p is = makes_work _ _ (makes_work _ _ (makes_work _ _ (makes_this (jobs.Statement body (in_loop around (p.labels + 2) (p.labels + 1))) _ is)))
+
+  makes_for_from : (first : ℕ) (xs : List ℕ) (items : StatementTrees) (test after : Option TermTree) (body : StatementTree) (inside : Surroundings) (p : Plan) → Stands ds inside.choice (list items) l ⊎ Stands ds inside.choice body l → WillMark ds l (for_from s first xs items test after body inside p)
+  makes_for_from first xs items test after body inside p (inl is) = makes_left s.at xs _ (makes_work _ _ (makes_work _ _ (makes_unused after _ (makes_work _ _ (makes_work _ _ (makes_work _ _ (makes_check (first + 1) test (first + 2) (first + 4) _ (makes_all items inside _ is))))))))
+  makes_for_from first xs items test after body inside p (inr is) = makes_left s.at xs _ (makes_work _ _ (makes_work _ _ (makes_unused after _ (makes_work _ _ (makes_this (jobs.Statement body (in_loop inside (first + 4) (first + 3))) _ is)))))
+
+  pub makes_statement : (b : ℕ) (i : StatementTree) (around : Surroundings) (p : Plan) → b ≡ length p.dispatches → Within ds p → (HasOwn i → around.choice < b) → Stands ds around.choice i l → WillMark ds l (statement s i around p)
+  makes_statement b (tree.Value e) around p same known begun is = stands_nowhere ds around.choice l is
+  makes_statement b tree.Nothing around p same known begun is = stands_nowhere ds around.choice l is
+  makes_statement b (tree.Forget at object) around p same known begun is = stands_nowhere ds around.choice l is
+  makes_statement b (tree.Start at object e) around p same known begun is = stands_nowhere ds around.choice l is
+  makes_statement b (tree.StartCopy at object x) around p same known begun is = stands_nowhere ds around.choice l is
+  makes_statement b (tree.StartList at object stores) around p same known begun is = stands_nowhere ds around.choice l is
+  makes_statement b (tree.Block xs items) around p same known begun is = makes_left s.at xs _ (makes_all items (in_scope around p.scopes) (all_entered s.at xs (with_scope p)) is)
+  makes_statement b (tree.If e body) around p same known begun is = makes_if e body around p is
+  makes_statement b (tree.IfElse e first second) around p same known begun is = makes_else e first second around p (stands_in_two ds around.choice l first second is)
+  makes_statement b (tree.While e body) around p same known begun is = makes_while e body around p is
+  makes_statement b (tree.Do body e) around p same known begun is = makes_do body e around p is
+  makes_statement b (tree.For xs first test after body) around p same known begun is = makes_for_from (with_scope p).labels xs first test after body (in_scope around p.scopes) (with_scope p) (stands_in_two ds around.choice l (list first) body is)
+  makes_statement b (tree.Switch at e cases has_default values body) around p same known begun (inl is) = makes_switch at e cases body around p is
+  makes_statement b (tree.Switch at e cases has_default values body) around p same known begun (inr is) = stands_nowhere ds around.choice l (inr is)
+  makes_statement b (tree.Case n body) around p same known begun is = makes_part _ body around p (in_case n around.choice (dispatch_at p around.choice) body (same_dispatch around.choice b p same (begun (has_own_case n body)) known) is)
+  makes_statement b (tree.Default body) around p same known begun is = makes_part _ body around p (in_default around.choice (dispatch_at p around.choice) body (same_dispatch around.choice b p same (begun (has_own_default body)) known) is)
+  makes_statement b (tree.Label n body) around p same known begun is = makes_part n body around p (in_label n around.choice body is)
+  makes_statement b (tree.Goto n) around p same known begun is = stands_nowhere ds around.choice l is
+  makes_statement b tree.Break around p same known begun is = stands_nowhere ds around.choice l is
+  makes_statement b tree.Continue around p same known begun is = stands_nowhere ds around.choice l is
+  makes_statement b (tree.Return at e) around p same known begun is = stands_nowhere ds around.choice l is
 
 -- ---- what a work consists of
 
@@ -221,5 +239,5 @@ module _ (calls : ℕ → Bool) (s : SettingView) (ds : List Dispatch) (L : ℕ 
   makes_parts (jobs.Unused e depth) p other known on l is = absurd is
   makes_parts (jobs.Address place depth) p other known on l is = absurd is
   makes_parts (jobs.Condition e d) p other known on l is = absurd is
-  makes_parts (jobs.Statement i around) p other known on l is = makes_statement s ds l calls L (length p.dispatches) i around p refl (within_before ds p (statement s i around p) (grows_parts s (jobs.Statement i around) p) known) on is
+  makes_parts (jobs.Statement i around) p other known on l is = makes_statement s ds l (length p.dispatches) i around p refl (within_before ds p (statement s i around p) (grows_parts s (jobs.Statement i around) p) known) on.choice is
   makes_parts (jobs.Ready q) p other known on l is = no_piece other

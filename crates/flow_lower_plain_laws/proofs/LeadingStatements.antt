@@ -1,5 +1,5 @@
 -- The works of plain statements lead on.
-use Rattle.std.proofs.Common.{◌≡◌, ◌≤◌, ◌<◌, ◌⊎◌, inl, inr, ℕ, ◌+◌, ◌==◌, Bool, true, false, cond, nat_le, nat_lt, ◌||◌, List, [], ◌∷◌, Option, Some, None, refl, arith, ap, sym, subst, ◌∙◌}
+use Rattle.std.proofs.Common.{◌≡◌, ◌≤◌, ◌<◌, ◌⊎◌, inl, inr, ℕ, ◌+◌, ◌==◌, Bool, true, false, cond, nat_le, nat_lt, ◌||◌, List, [], ◌∷◌, get_or, Option, Some, None, refl, arith, ap, sym, subst, ◌∙◌}
 use Rattle.std.proofs.lemmas.Bool.{leb-true, leb-false}
 use Rattle.cc_base.specs.declared.diagnostics.Place.{Place}
 use Rattle.c_layout.specs.CheckedTrees as tree
@@ -7,8 +7,10 @@ use Rattle.c_layout.specs.CheckedTrees.{TermTree, StatementTree, StatementTrees,
 use Rattle.flow_lower_statements.specs.ScopeJumps.{entered, left, all_entered, all_left, around, objects, way, leap}
 use Rattle.flow_lower_statements.specs.PlainStatements.{stored, all_stored, all_statements, cleared, in_scope, forget, start_scalar, start_struct, start_list, block}
 use Rattle.flow_lower_statements.specs.Loops.{selection, two_way_selection, part}
+use Rattle.flow_lower_statements.specs.Switches.{no_dispatch}
 use Rattle.flow_lower_statements.specs.Jumps.{stopped, exit, given, giving, end_behind}
 use Rattle.flow_lower_tasks.specs.Works as jobs
+use Rattle.flow_lower_tasks.specs.Works.{behind}
 use Rattle.flow_lower_tasks.specs.Plans.{Plan, with_work, with_scope}
 use Rattle.flow_lower_tasks.specs.Scopes.{ScopeView}
 use Rattle.flow_lower_tasks.specs.Settings.{SettingView}
@@ -53,39 +55,29 @@ either_true false b e = inr e
 abbrev pub list : StatementTrees → StatementTree
 list items = tree.Block [] items
 
-pub stands_in_two : (ds : List Dispatch) (choice l : ℕ) (e : TermTree) (first second : StatementTree) → Stands ds choice (tree.IfElse e first second) l → Stands ds choice first l ⊎ Stands ds choice second l
-stands_in_two ds choice l e first second (inl some) = by (one_of (labels_in l first) (labels_in l second) some)
+-- a label stands in one of two statements
+abbrev pub StandsInEither : List Dispatch → ℕ → ℕ → StatementTree → StatementTree → Type 0
+StandsInEither ds choice l first second = (1 ≤ labels_in l first + labels_in l second) ⊎ (((n : ℕ) × (1 ≤ cases_in n first + cases_in n second) × (l ≡ behind (get_or ds choice no_dispatch).cases n)) ⊎ ((1 ≤ defaults_in first + defaults_in second) × (l ≡ (get_or ds choice no_dispatch).fallback)))
+
+pub stands_in_two : (ds : List Dispatch) (choice l : ℕ) (first second : StatementTree) → StandsInEither ds choice l first second → Stands ds choice first l ⊎ Stands ds choice second l
+stands_in_two ds choice l first second (inl some) = by (one_of (labels_in l first) (labels_in l second) some)
   where
     by : (1 ≤ labels_in l first) ⊎ (1 ≤ labels_in l second) → Stands ds choice first l ⊎ Stands ds choice second l
     by (inl x) = inl (inl x)
     by (inr x) = inr (inl x)
-stands_in_two ds choice l e first second (inr (inl x)) = by (one_of (cases_in x.0 first) (cases_in x.0 second) x.1)
+stands_in_two ds choice l first second (inr (inl x)) = by (one_of (cases_in x.0 first) (cases_in x.0 second) x.1)
   where
     by : (1 ≤ cases_in x.0 first) ⊎ (1 ≤ cases_in x.0 second) → Stands ds choice first l ⊎ Stands ds choice second l
     by (inl y) = inl (inr (inl (x.0, y, x.2)))
     by (inr y) = inr (inr (inl (x.0, y, x.2)))
-stands_in_two ds choice l e first second (inr (inr x)) = by (one_of (defaults_in first) (defaults_in second) x.0)
+stands_in_two ds choice l first second (inr (inr x)) = by (one_of (defaults_in first) (defaults_in second) x.0)
   where
     by : (1 ≤ defaults_in first) ⊎ (1 ≤ defaults_in second) → Stands ds choice first l ⊎ Stands ds choice second l
     by (inl y) = inl (inr (inr (y, x.1)))
     by (inr y) = inr (inr (inr (y, x.1)))
 
 pub stands_in_all : (ds : List Dispatch) (choice l : ℕ) (first : StatementTree) (rest : StatementTrees) → Stands ds choice (list (tree.And first rest)) l → Stands ds choice first l ⊎ Stands ds choice (list rest) l
-stands_in_all ds choice l first rest (inl some) = by (one_of (labels_in l first) (all_labels_in l rest) some)
-  where
-    by : (1 ≤ labels_in l first) ⊎ (1 ≤ all_labels_in l rest) → Stands ds choice first l ⊎ Stands ds choice (list rest) l
-    by (inl x) = inl (inl x)
-    by (inr x) = inr (inl x)
-stands_in_all ds choice l first rest (inr (inl x)) = by (one_of (cases_in x.0 first) (all_cases_in x.0 rest) x.1)
-  where
-    by : (1 ≤ cases_in x.0 first) ⊎ (1 ≤ all_cases_in x.0 rest) → Stands ds choice first l ⊎ Stands ds choice (list rest) l
-    by (inl y) = inl (inr (inl (x.0, y, x.2)))
-    by (inr y) = inr (inr (inl (x.0, y, x.2)))
-stands_in_all ds choice l first rest (inr (inr x)) = by (one_of (defaults_in first) (all_defaults_in rest) x.0)
-  where
-    by : (1 ≤ defaults_in first) ⊎ (1 ≤ all_defaults_in rest) → Stands ds choice first l ⊎ Stands ds choice (list rest) l
-    by (inl y) = inl (inr (inr (y, x.1)))
-    by (inr y) = inr (inr (inr (y, x.1)))
+stands_in_all ds choice l first rest is = stands_in_two ds choice l first (list rest) is
 
 no_some : {A : Type 0} → 1 ≤ 0 → A
 no_some e = absurd (no e)
@@ -99,19 +91,19 @@ stands_nowhere ds choice l (inl some) = no_some some
 stands_nowhere ds choice l (inr (inl x)) = no_some x.1
 stands_nowhere ds choice l (inr (inr x)) = no_some x.0
 
-own_in_first : (e : TermTree) (first second : StatementTree) → HasOwn first → HasOwn (tree.IfElse e first second)
+pub own_in_first : (e : TermTree) (first second : StatementTree) → HasOwn first → HasOwn (tree.IfElse e first second)
 own_in_first e first second (inl x) = inl (x.0, first_some (cases_in x.0 first) (cases_in x.0 second) x.1)
 own_in_first e first second (inr x) = inr (first_some (defaults_in first) (defaults_in second) x)
 
-own_in_second : (e : TermTree) (first second : StatementTree) → HasOwn second → HasOwn (tree.IfElse e first second)
+pub own_in_second : (e : TermTree) (first second : StatementTree) → HasOwn second → HasOwn (tree.IfElse e first second)
 own_in_second e first second (inl x) = inl (x.0, second_some (cases_in x.0 first) (cases_in x.0 second) x.1)
 own_in_second e first second (inr x) = inr (second_some (defaults_in first) (defaults_in second) x)
 
-own_in_one : (first : StatementTree) (rest : StatementTrees) → HasOwn first → HasOwn (list (tree.And first rest))
+pub own_in_one : (first : StatementTree) (rest : StatementTrees) → HasOwn first → HasOwn (list (tree.And first rest))
 own_in_one first rest (inl x) = inl (x.0, first_some (cases_in x.0 first) (all_cases_in x.0 rest) x.1)
 own_in_one first rest (inr x) = inr (first_some (defaults_in first) (all_defaults_in rest) x)
 
-own_in_rest : (first : StatementTree) (rest : StatementTrees) → HasOwn (list rest) → HasOwn (list (tree.And first rest))
+pub own_in_rest : (first : StatementTree) (rest : StatementTrees) → HasOwn (list rest) → HasOwn (list (tree.And first rest))
 own_in_rest first rest (inl x) = inl (x.0, second_some (cases_in x.0 first) (all_cases_in x.0 rest) x.1)
 own_in_rest first rest (inr x) = inr (second_some (defaults_in first) (all_defaults_in rest) x)
 
@@ -232,11 +224,11 @@ module _ (calls : ℕ → Bool) (s : SettingView) (ds : List Dispatch) where
 
   pub lead_statements : (begun count b : ℕ) (L : ℕ → Type 0) (items : StatementTrees) (around : Surroundings) (p : Plan) → b ≡ begun + count → GoesAll calls s b L items around → Leading calls s ds begun count (λ l. Stands ds around.choice (list items) l ⊎ L l) p
       → Leading calls s ds begun (count + all_switches_in items) L (all_statements items around p)
-  lead_statements begun count b L tree.NoMore around p e g k = subst (λ c. Leading calls s ds begun c L p) (none_more count) (lead_more p (λ l x. behind l x) k)
+  lead_statements begun count b L tree.NoMore around p e g k = subst (λ c. Leading calls s ds begun c L p) (none_more count) (lead_more p (λ l x. rest l x) k)
     where
-      behind : (l : ℕ) → Stands ds around.choice (list tree.NoMore) l ⊎ L l → L l
-      behind l (inl x) = stands_nowhere ds around.choice l x
-      behind l (inr x) = x
+      rest : (l : ℕ) → Stands ds around.choice (list tree.NoMore) l ⊎ L l → L l
+      rest l (inl x) = stands_nowhere ds around.choice l x
+      rest l (inr x) = x
   lead_statements begun count b L (tree.And first rest) around p e g k =
       let M = λ (l : ℕ). Stands ds around.choice (list rest) l ⊎ L l in
       let one : Leading calls s ds begun (count + switches_in first) M (with_work (jobs.Statement first around) p) = lead_statement first around p (subst (λ c. Goes calls s c M first around) e (first_goes b L first rest around g)) (lead_more p (λ l x. split l x) k) in

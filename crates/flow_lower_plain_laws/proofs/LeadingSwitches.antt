@@ -10,8 +10,9 @@ use Rattle.flow_program.specs.declared.machine_instructions.Scalar.TheVariants a
 use Rattle.flow_lower_conditions.specs.Tests.{named}
 use Rattle.flow_lower_conditions.specs.declared.branch_tests.NamedObject.{NamedObject}
 use Rattle.flow_lower_statements.specs.ScopeJumps.{enters_between, leap}
-use Rattle.flow_lower_statements.specs.Switches.{no_dispatch, choice_at, mention_of, mention_if, switched_object, targeted, edge_target, case_landing, case_arms, case_exit, dispatch_exits, edge_block, edge_blocks, landing_of, other_landing, begin_switch, in_switch, switch}
+use Rattle.flow_lower_statements.specs.Switches.{no_dispatch, choice_at, mention_of, mention_if, switched_object, targeted, edge_target, case_landing, case_arms, case_exit, dispatch_exits, edge_block, edge_blocks, landing_of, other_landing, dispatch, begin_switch, in_switch, switch}
 use Rattle.flow_lower_statements.specs.declared.switch_statements.CaseArm.{CaseArm}
+use Rattle.flow_lower_statements.specs.declared.switch_statements.SwitchBegun.{SwitchBegun}
 use Rattle.flow_lower_tasks.specs.Pieces.{ExitView, Mark}
 use Rattle.flow_lower_tasks.specs.Works as jobs
 use Rattle.flow_lower_tasks.specs.Works.{behind}
@@ -21,6 +22,7 @@ use Rattle.flow_lower_tasks.specs.declared.template_builder.Dispatch.{Dispatch}
 use Rattle.flow_lower_tasks.specs.declared.pending_works.Landing.{Landing}
 use Rattle.flow_lower_tasks.specs.declared.pending_works.Surroundings.{Surroundings}
 use Rattle.flow_lower_debts.specs.Marks.{labels_in, cases_in, defaults_in}
+use Rattle.flow_lower_plain.specs.PlainTerms.{is_plain_term}
 use Rattle.template_runs_scopes.specs.Scopes.{switches_in}
 use Rattle.flow_lower_plain_works.specs.LeadingPieces.{AllTo, AreOfObjects}
 use Rattle.flow_lower_plain_works.specs.SwitchLabels.{HasDefault, LabelsStand}
@@ -133,24 +135,51 @@ cases_are s from P first n label number (c ∷ cs) p e all =
       cases_are s from P first (suc n) (behind label 1) (behind number 1) cs (edge_target s from to p).after (next_behind first n label e) (λ i less. all i (more_less i n (length cs) less)),
     )
 
+first_behind : (a : ℕ) → a ≤ 2 ^ 32 - 1 → a ≡ behind a 0
+first_behind a few = omega (arith, few)
+
+-- where the values without a case go
+to_others : (s : SettingView) (from to : ℕ) (landing : Landing) → (enters_between s from landing.scope ≡ true) ⊎ (to ≡ landing.label) → (N : ℕ → Type 0) → N landing.label → BlockTo s from to landing N to
+to_others s from to landing (inl t) N there = inl (t, refl)
+to_others s from to landing (inr t) N there = inr (subst N (sym t) there)
+
+in_all : (i n : ℕ) → i < 0 + n → i < n
+in_all i n less = omega (arith, less)
+
+-- the dispatch of a switch, and the blocks of its edges
+pub lead_dispatch : {calls : ℕ → Bool} {s : SettingView} {ds : List Dispatch} {begun count : ℕ} {N : ℕ → Type 0} (at : Place) (e : TermTree) (cases : List CaseLabel) (from : ℕ) (b : SwitchBegun) (p : Plan) → is_plain_term calls e ≡ true → b.dispatch.cases ≤ 2 ^ 32 - 1 → ((i : ℕ) → i < length cases → N (behind b.dispatch.cases i)) → N (other_landing (choice_at s b.choice) b.dispatch b.after).label
+    → ((K : ℕ → Type 0) → Leading calls s ds begun count K p) → Leading calls s ds begun count N (dispatch s at e cases from b p)
+lead_dispatch {s = s} {N = N} at e cases from b p plain few cases_there lands start =
+    let landing = other_landing (choice_at s b.choice) b.dispatch b.after in
+    let first = (choice_at s b.choice).first in
+    let a = case_arms s from b.dispatch.cases first cases p in
+    let other = edge_target s from landing a.after in
+    let found = switched_object e other.after in
+    let O = BlockTo s from other.to landing N in
+    let arms : AreArms s from O a.arms = cases_are s from O b.dispatch.cases 0 b.dispatch.cases first cases p (first_behind b.dispatch.cases few) (λ i less. inr (cases_there i (in_all i (length cases) less))) in
+    let to_other : O other.to = to_others s from other.to landing (target_goes s from landing a.after) N lands in
+    let exits : AllTo (ArmsTo s from a.arms O) (dispatch_exits a.arms cases found.base other.to) =
+    all_and (ArmsTo s from a.arms O) (map (case_exit found.base) a.arms) _ (to_arms s from a.arms found.base O arms) (behind_arms s from a.arms O other.to to_other) in
+    lead_block from other.to landing _ lands (lead_blocks from a.arms _ arms (lead_end _ _ _ refl exits (lead_value e 0 found.after plain (lead_mention (named e) other.after (lead_target from landing a.after (lead_arms from b.dispatch.cases first cases p (start _)))))))
+
 -- ---- what a switch gives away
 
 abbrev pub own_dispatch : ℕ → Plan → Dispatch
 own_dispatch count p = record { cases = p.labels; fallback = p.labels + count }
 
-begins_choice : (count scope : ℕ) (p : Plan) → (begin_switch count scope p).begun.choice ≡ length p.dispatches
+pub begins_choice : (count scope : ℕ) (p : Plan) → (begin_switch count scope p).begun.choice ≡ length p.dispatches
 unfolding with_labels
 begins_choice count scope p = refl
 
-begins_dispatch : (count scope : ℕ) (p : Plan) → (begin_switch count scope p).begun.dispatch ≡ own_dispatch count p
+pub begins_dispatch : (count scope : ℕ) (p : Plan) → (begin_switch count scope p).begun.dispatch ≡ own_dispatch count p
 unfolding with_labels
 begins_dispatch count scope p = refl
 
-begins_jobs : (count scope : ℕ) (p : Plan) → (begin_switch count scope p).after.jobs ≡ p.jobs
+pub begins_jobs : (count scope : ℕ) (p : Plan) → (begin_switch count scope p).after.jobs ≡ p.jobs
 unfolding with_labels with_dispatch
 begins_jobs count scope p = refl
 
-begins_names : (count scope : ℕ) (p : Plan) → (begin_switch count scope p).after.names ≡ p.names
+pub begins_names : (count scope : ℕ) (p : Plan) → (begin_switch count scope p).after.names ≡ p.names
 unfolding with_labels with_dispatch
 begins_names count scope p = refl
 
@@ -161,14 +190,11 @@ begins_dispatches count scope p = refl
 pub own_there : (count scope : ℕ) (p : Plan) → get_or (begin_switch count scope p).after.dispatches (length p.dispatches) no_dispatch ≡ own_dispatch count p
 own_there count scope p = ap (λ xs. get_or xs (length p.dispatches) no_dispatch) (begins_dispatches count scope p) ∙ get_or-append_seam p.dispatches (own_dispatch count p) [] no_dispatch
 
-one_more : (count scope : ℕ) (p : Plan) → length (begin_switch count scope p).after.dispatches ≡ suc (length p.dispatches)
+pub one_more : (count scope : ℕ) (p : Plan) → length (begin_switch count scope p).after.dispatches ≡ suc (length p.dispatches)
 one_more count scope p = ap length (begins_dispatches count scope p) ∙ length-append p.dispatches (own_dispatch count p ∷ []) ∙ plus_one (length p.dispatches)
   where
     plus_one : (a : ℕ) → a + 1 ≡ suc a
     plus_one a = omega arith
-
-first_behind : (a : ℕ) → a ≤ 2 ^ 32 - 1 → a ≡ behind a 0
-first_behind a few = omega (arith, few)
 
 just_below : (a b c : ℕ) → a ≡ b → c ≡ suc b → a < c + 0
 just_below a b c e f = omega (arith, e, f)
@@ -204,31 +230,17 @@ module _ (calls : ℕ → Bool) (s : SettingView) (ds : List Dispatch) (L : ℕ 
         choice = λ o. just_below b.begun.choice (length p.dispatches) begun choice (one_more n around.scope p);
         switches = subst (λ c. LabelsStand s body c) (sym (one_more n around.scope p) ∙ none_more begun) g.switches.2;
       } in
-      let case_there : (i : ℕ) → i < 0 + n → N (behind b.begun.dispatch.cases i) = λ i less. inl (inr (inl (i, g.switches.0 i (in_all i n less), ap (λ (d : Dispatch). behind d.cases i) (sym own)))) in
+      let case_there : (i : ℕ) → i < n → N (behind b.begun.dispatch.cases i) = λ i less. inl (inr (inl (i, g.switches.0 i less, ap (λ (d : Dispatch). behind d.cases i) (sym own)))) in
       let landing = other_landing (choice_at s b.begun.choice) b.begun.dispatch b.begun.after in
       let lands : N landing.label = landed (choice_at s b.begun.choice).fallback b.begun.dispatch b.begun.after (get_or ds b.begun.choice no_dispatch) (ap (λ (d : Dispatch). d.fallback) (sym own)) (subst (λ c. HasDefault (choice_at s c).fallback body) (sym choice) g.switches.1) (inl refl) in
-      let first = (choice_at s b.begun.choice).first in
-      let a = case_arms s around.scope b.begun.dispatch.cases first cases b.after in
-      let other = edge_target s around.scope landing a.after in
-      let found = switched_object e other.after in
-      let O = BlockTo s around.scope other.to landing N in
-      let arms : AreArms s around.scope O a.arms = cases_are s around.scope O b.begun.dispatch.cases 0 b.begun.dispatch.cases first cases b.after
-      (first_behind b.begun.dispatch.cases (subst (λ (d : Dispatch). d.cases ≤ 2 ^ 32 - 1) (sym (begins_dispatch n around.scope p)) few)) (λ i less. inr (case_there i less)) in
-      let to_other : O other.to = others landing other.to (target_goes s around.scope landing a.after) N lands in
-      let exits : AllTo (ArmsTo s around.scope a.arms O) (dispatch_exits a.arms cases found.base other.to) =
-      all_and (ArmsTo s around.scope a.arms O) (map (case_exit found.base) a.arms) _ (to_arms s around.scope a.arms found.base O arms) (behind_arms s around.scope a.arms O other.to to_other) in
+      let few_cases = subst (λ (d : Dispatch). d.cases ≤ 2 ^ 32 - 1) (sym (begins_dispatch n around.scope p)) few in
       record {
         begun = begun;
         count = 0 + switches_in body;
-        leading = lead_mark b.begun.after.label _ (lead_statement body (in_switch around b.begun) _ inside
-            (lead_block around.scope other.to landing _ lands (lead_blocks around.scope a.arms _ arms
-            (lead_end _ _ _ refl exits (lead_value e 0 found.after x.0 (lead_mention (named e) other.after (lead_target around.scope landing a.after (lead_arms around.scope b.begun.dispatch.cases first cases b.after (start _)))))))));
+        leading = lead_mark b.begun.after.label _ (lead_statement body (in_switch around b.begun) _ inside (lead_dispatch at e cases around.scope b.begun b.after x.0 few_cases case_there lands start));
         total = sum begun (length p.dispatches) (switches_in body) (one_more n around.scope p);
       }
     where
-      in_all : (i n : ℕ) → i < 0 + n → i < n
-      in_all i n less = omega (arith, less)
-
       sum : (a b c : ℕ) → a ≡ suc b → a + (0 + c) ≡ b + suc c
       sum a b c e = omega (arith, e)
 
@@ -236,7 +248,3 @@ module _ (calls : ℕ → Bool) (s : SettingView) (ds : List Dispatch) (L : ℕ 
           → ((1 ≤ labels_in (landing_of o d after).label body) ⊎ (((n : ℕ) × (1 ≤ cases_in n body) × ((landing_of o d after).label ≡ behind known.cases n)) ⊎ ((1 ≤ defaults_in body) × ((landing_of o d after).label ≡ known.fallback)))) ⊎ (((landing_of o d after).label ≡ (begin_switch (length cases) around.scope p).begun.after.label) ⊎ L (landing_of o d after).label)
       landed None d after known same has end = inr end
       landed (Some scope) d after known same has end = inl (inr (inr (has, same)))
-
-      others : (landing : Landing) (to : ℕ) → (enters_between s around.scope landing.scope ≡ true) ⊎ (to ≡ landing.label) → (N : ℕ → Type 0) → N landing.label → BlockTo s around.scope to landing N to
-      others landing to (inl t) N there = inl (t, refl)
-      others landing to (inr t) N there = inr (subst N (sym t) there)

@@ -29,29 +29,29 @@ use Rattle.flow_lower_plain_laws.proofs.LeadingForms.{Within, within_before, com
 
 -- ---- pieces
 
-behind_all : (ps : List PieceView) (L : ℕ → Type 0) (l : ℕ) → L l → Marked ps L l
+pub behind_all : (ps : List PieceView) (L : ℕ → Type 0) (l : ℕ) → L l → Marked ps L l
 behind_all [] L l is = is
 behind_all (p ∷ ps) L l is = inr (behind_all ps L l is)
 
-marked_more : (ps : List PieceView) (L M : ℕ → Type 0) → ((l : ℕ) → L l → M l) → (l : ℕ) → Marked ps L l → Marked ps M l
+pub marked_more : (ps : List PieceView) (L M : ℕ → Type 0) → ((l : ℕ) → L l → M l) → (l : ℕ) → Marked ps L l → Marked ps M l
 marked_more [] L M more l is = more l is
 marked_more (p ∷ ps) L M more l (inl is) = inl is
 marked_more (p ∷ ps) L M more l (inr is) = inr (marked_more ps L M more l is)
 
-lead_on_more : (calls : ℕ → Bool) (ps : List PieceView) (L M : ℕ → Type 0) → ((l : ℕ) → L l → M l) → LeadOn calls L ps → LeadOn calls M ps
+pub lead_on_more : (calls : ℕ → Bool) (ps : List PieceView) (L M : ℕ → Type 0) → ((l : ℕ) → L l → M l) → LeadOn calls L ps → LeadOn calls M ps
 lead_on_more calls [] L M more is = tt
 lead_on_more calls (p ∷ ps) L M more (one, is) = (leading_more calls (Marked ps L) (Marked ps M) p (marked_more ps L M more) one, lead_on_more calls ps L M more is)
 
-marked_append : (ps qs : List PieceView) (L : ℕ → Type 0) (l : ℕ) → Marked ps (Marked qs L) l → Marked (ps ++ qs) L l
+pub marked_append : (ps qs : List PieceView) (L : ℕ → Type 0) (l : ℕ) → Marked ps (Marked qs L) l → Marked (ps ++ qs) L l
 marked_append [] qs L l is = is
 marked_append (p ∷ ps) qs L l (inl is) = inl is
 marked_append (p ∷ ps) qs L l (inr is) = inr (marked_append ps qs L l is)
 
-lead_append : (calls : ℕ → Bool) (ps qs : List PieceView) (L : ℕ → Type 0) → LeadOn calls (Marked qs L) ps → LeadOn calls L qs → LeadOn calls L (ps ++ qs)
+pub lead_append : (calls : ℕ → Bool) (ps qs : List PieceView) (L : ℕ → Type 0) → LeadOn calls (Marked qs L) ps → LeadOn calls L qs → LeadOn calls L (ps ++ qs)
 lead_append calls [] qs L one other = other
 lead_append calls (p ∷ ps) qs L (first, one) other = (leading_more calls (Marked ps (Marked qs L)) (Marked (ps ++ qs) L) p (marked_append ps qs L) first, lead_append calls ps qs L one other)
 
-marked_first : (ps qs : List PieceView) (l : ℕ) → Marked ps NoLabel l → Marked (ps ++ qs) NoLabel l
+pub marked_first : (ps qs : List PieceView) (l : ℕ) → Marked ps NoLabel l → Marked (ps ++ qs) NoLabel l
 marked_first ps qs l is = marked_append ps qs NoLabel l (marked_more ps NoLabel (Marked qs NoLabel) (λ l x. absurd x) l is)
 
 none_more : (a : ℕ) → a ≡ a + 0
@@ -67,13 +67,13 @@ after_none a b = omega arith
 
 module _ (calls : ℕ → Bool) (s : SettingView) (ds : List Dispatch) where
   -- works come to pieces that lead on, and mark what the works are to mark
-  record Led (L : ℕ → Type 0) (js : List Job) (ps : List PieceView) (p r : Plan) : Type 0 where
-    pieces : LeadOn calls L ps
-    marks : (l : ℕ) → Brought ds js NoLabel l → Marked ps NoLabel l
-    names : AreOfObjects r.names
-    count : length r.dispatches ≡ length p.dispatches + all_switches_of js
+  pub record Led (L : ℕ → Type 0) (js : List Job) (ps : List PieceView) (p r : Plan) : Type 0 where
+    pub pieces : LeadOn calls L ps
+    pub marks : (l : ℕ) → Brought ds js NoLabel l → Marked ps NoLabel l
+    pub names : AreOfObjects r.names
+    pub count : length r.dispatches ≡ length p.dispatches + all_switches_of js
 
-  brought_or : (js : List Job) (L : ℕ → Type 0) (l : ℕ) → Brought ds js L l → Brought ds js NoLabel l ⊎ L l
+  pub brought_or : (js : List Job) (L : ℕ → Type 0) (l : ℕ) → Brought ds js L l → Brought ds js NoLabel l ⊎ L l
   brought_or [] L l is = inr is
   brought_or (j ∷ js) L l (inl is) = inl (inl is)
   brought_or (j ∷ js) L l (inr is) = by (brought_or js L l is)
@@ -99,7 +99,7 @@ module _ (calls : ℕ → Bool) (s : SettingView) (ds : List Dispatch) where
   last : (q r p x y : ℕ) → q ≡ p + x → r ≡ q + y → r ≡ p + (x + y)
   last q r p x y e f = omega (arith, e, f)
 
-  led : (L : ℕ → Type 0) (p : Plan) (js : List Job) (ps : List PieceView) (r : Plan) → Makes s p js ps r → p.jobs ≡ [] → AreOfObjects p.names → r.labels ≤ 2 ^ 32 - 1 → Within ds r → AreOn calls s ds (length p.dispatches) L js → Led L js ps p r
+  pub led : (L : ℕ → Type 0) (p : Plan) (js : List Job) (ps : List PieceView) (r : Plan) → Makes s p js ps r → p.jobs ≡ [] → AreOfObjects p.names → r.labels ≤ 2 ^ 32 - 1 → Within ds r → AreOn calls s ds (length p.dispatches) L js → Led L js ps p r
   led L p _ _ r (nothing _) none names few known on = record { pieces = tt; marks = λ l x. x; names = names; count = none_more (length p.dispatches) }
   led L p _ _ r (piece _ q js qs _ m) none names few known (one, on) =
       let x = led L p js qs r m none names few known (subst (λ b. AreOn calls s ds b L js) (after_none (length p.dispatches) 0) on) in

@@ -111,7 +111,7 @@ among_function s f = by s.is_entry
     by true = among_work _ _ (among_statements s f (no_plan f.labels))
     by false = among_outcome s.at f.returns _ (among_work _ _ (among_left s.at s.parameters _ (among_statements s f _)))
 
-few_labels : (structs : List StructView) (pointer int_bytes : ℕ) (f : FunctionView) (is_entry : Bool) (t : TemplateView) → IsTemplate structs pointer int_bytes f is_entry t → t.labels ≤ 2 ^ 32 - 1 → length (function_scopes f).cases ≤ 2 ^ 32 - 1
+pub few_labels : (structs : List StructView) (pointer int_bytes : ℕ) (f : FunctionView) (is_entry : Bool) (t : TemplateView) → IsTemplate structs pointer int_bytes f is_entry t → t.labels ≤ 2 ^ 32 - 1 → length (function_scopes f).cases ≤ 2 ^ 32 - 1
 few_labels structs pointer int_bytes f is_entry t is few =
     let s = setting_of structs pointer int_bytes f is_entry in
     let p = function s f (no_plan f.labels) in
