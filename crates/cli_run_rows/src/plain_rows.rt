@@ -1,4 +1,4 @@
-//! What the analysis and the run tell of units that pass the look of plain units, and take nothing from outside.
+//! What the analysis and the run tell of units that are plain, or but for their loops or for casts of pointers.
 use crate::replay_call::{answer, with_files};
 use crate::run_rows::run_tells;
 use std::alloc::Global;
@@ -48,6 +48,35 @@ const UNTYPED: [Plain<'static>; 3] = [
     ),
 ];
 
+/// A unit with loops, and the texts of its analysis, of that with four turns unrolled, and of its run; the status of the
+/// last two.
+type Looped<'a> = (&'a str, &'a str, &'a str, &'a str, u8);
+
+/// Units whose run ends within four turns: with those unrolled the analysis tells what the run violates, and nothing more.
+const LOOPED: [Looped<'static>; 3] = [
+    (
+        "int main(void){int s=0;int i;for(i=0;i<3;i++)s=s+i;return 1/(s-2);}",
+        "a.c:1:49: intoflow: signed result is out of range\na.c:1:60: diverr: division is undefined\n2 diagnostics in a.c\n",
+        "0 diagnostics in a.c\n",
+        "end: ended, 0 draws used\n0 diagnostics in a.c\n",
+        0,
+    ),
+    (
+        "int main(void){int a[3];int i;for(i=0;i<3;i++)a[i]=i-2;return 1/a[2];}",
+        "a.c:1:64: diverr: division is undefined\na.c:1:66: uninitref: uninitialized memory is read\n2 diagnostics in a.c\n",
+        "a.c:1:64: diverr: division is undefined\n1 diagnostics in a.c\n",
+        "a.c:1:64: diverr: division is undefined\nend: violation, 0 draws used\n1 diagnostics in a.c\n",
+        1,
+    ),
+    (
+        "int main(void){int n=3;again:n=n-1;if(n)goto again;return 1/n;}",
+        "a.c:1:60: diverr: division is undefined\n1 diagnostics in a.c\n",
+        "a.c:1:60: diverr: division is undefined\n1 diagnostics in a.c\n",
+        "a.c:1:60: diverr: division is undefined\nend: violation, 0 draws used\n1 diagnostics in a.c\n",
+        1,
+    ),
+];
+
 /// Fails unless the words, on the unit, are answered with one line or more, and so.
 fn check_tells(
     rt: &impl Abort,
@@ -75,6 +104,17 @@ fn accesses_of_another_type_have_lines_that_no_run_has(rt: HostRuntime) -> Resul
     for (source, analysed, run) in &UNTYPED {
         check_tells(&rt, rt.alloc(), "check a.c", source, analysed)?;
         run_tells(&rt, rt.alloc(), source, "", 0, run)?;
+    }
+    Ok(())
+}
+
+#[test]
+fn loops_within_the_turns_are_told_as_they_run(rt: HostRuntime) -> Result<(), Fail> {
+    for (source, analysed, unrolled, run, status) in &LOOPED {
+        check_tells(&rt, rt.alloc(), "check a.c", source, analysed)?;
+        let tree = with_files(rt.alloc(), Vec::new(rt.alloc()), &[("a.c", source)])?;
+        answer(&rt, rt.alloc(), "check a.c --turns 4", tree, *status, unrolled)?;
+        run_tells(&rt, rt.alloc(), source, "", *status, run)?;
     }
     Ok(())
 }
