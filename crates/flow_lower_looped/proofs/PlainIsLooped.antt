@@ -1,16 +1,16 @@
 -- What is plain is plain but for loops, and templates that lead on are calm.
-use Rattle.std.proofs.Common.{◌≡◌, ◌⊎◌, inl, inr, ℕ, Bool, true, false, ◌&&◌, List, [], ◌∷◌, refl, ap, ◌∙◌}
+use Rattle.std.proofs.Common.{◌≡◌, inl, inr, ℕ, Bool, true, false, ◌&&◌, List, [], ◌∷◌, refl, ap, ◌∙◌}
 use Rattle.std.proofs.lemmas.Bool.{and_parts}
 use Rattle.c_layout.specs.CheckedTrees as tree
 use Rattle.c_layout.specs.CheckedTrees.{StatementTree, StatementTrees, statement_trees}
 use Rattle.c_layout.specs.CheckedUnits.{FunctionView, UnitView}
 use Rattle.std.specs.List.{list_all}
-use Rattle.flow_lower_tasks.specs.Pieces.{PieceView, Do, DoIfUsed, End, Mark, Call, TemplateView}
-use Rattle.flow_lower_plain.specs.PlainTerms.{is_plain_term, is_plain_place, is_plain_option}
+use Rattle.flow_lower_tasks.specs.Pieces.{PieceView, TemplateView}
+use Rattle.flow_lower_plain.specs.PlainTerms.{is_plain_term}
 use Rattle.flow_lower_plain.specs.PlainStatements.{stands_or, stands_among, is_plain_statement, are_plain_statements}
 use Rattle.flow_lower_plain.specs.PlainUnits.{no_label, is_plain_function}
 use Rattle.flow_lower_plain.specs.ShortArrays.{has_short_arrays, is_short_local}
-use Rattle.flow_lower_plain_works.specs.LeadingPieces.{Marks, Marked, IsLeading, LeadOn, NoLabel, LeadsOn}
+use Rattle.flow_lower_plain_works.specs.LeadingPieces.{Marked, LeadOn, NoLabel, LeadsOn}
 use Rattle.flow_lower_plain_works.proofs.LeadingWorks.{leading_more}
 use Rattle.flow_lower_looped.specs.LoopedStatements.{is_looped_statement, are_looped_statements}
 use Rattle.flow_lower_looped.specs.LoopedUnits.{is_looped_function}

@@ -20,7 +20,6 @@ use Rattle.flow_lower_tasks.specs.declared.template_builder.Dispatch.{Dispatch}
 use Rattle.flow_lower_tasks.specs.declared.pending_works.Surroundings.{Surroundings}
 use Rattle.flow_lower_works.specs.Derivations.{is_piece, parts}
 use Rattle.flow_lower_growth.specs.Growth.{Grows}
-use Rattle.flow_lower_growth.proofs.Growth as growth
 use Rattle.flow_lower_growth.proofs.Growth.{grows_not, grows_work}
 use Rattle.flow_lower_growth.proofs.GrowingStatements.{grows_dispatch_of}
 use Rattle.flow_lower_growth.proofs.GrowingWorks.{grows_parts}

@@ -13,7 +13,7 @@ use Rattle.flow_lower_tasks.specs.Acts as acts
 use Rattle.flow_lower_tasks.specs.Pieces.{Local, Outcome, Mark}
 use Rattle.flow_lower_tasks.specs.TermKinds.{scalar_of, is_void}
 use Rattle.flow_lower_tasks.specs.Works as jobs
-use Rattle.flow_lower_tasks.specs.Plans.{Plan, with_labels, begun}
+use Rattle.flow_lower_tasks.specs.Plans.{Plan, with_labels}
 use Rattle.flow_lower_tasks.specs.Settings.{SettingView}
 use Rattle.flow_lower_tasks.specs.declared.template_builder.Dispatch.{Dispatch}
 use Rattle.flow_program_types.specs.PointedTypes.{Element, Known, Pointing, is_same, IsLess, IsStorable}

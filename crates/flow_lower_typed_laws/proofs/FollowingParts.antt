@@ -5,7 +5,6 @@ use Rattle.cc_base.specs.declared.diagnostics.Place.{Place}
 use Rattle.c_layout.specs.CheckedTrees.{TermTree, LvalueTree, StoreTree, StoreValue, StoreCopy, StoreText}
 use Rattle.c_layout.specs.CheckedUnits.{FunctionView, UnitView}
 use Rattle.c_layout.specs.Types.{Ty}
-use Rattle.c_layout.specs.declared.checked_tree.checked_terms.ObjectRef.TheVariants as ref
 use Rattle.flow_lower_expressions.specs.Branches.{jump}
 use Rattle.flow_lower_functions.specs.Functions.{local_type}
 use Rattle.flow_lower_plain.specs.PlainTerms.{is_plain_option}

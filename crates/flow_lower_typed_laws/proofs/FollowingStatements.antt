@@ -16,7 +16,7 @@ use Rattle.flow_lower_plain_laws.proofs.LeadingSwitches.{own_dispatch, begins_di
 use Rattle.flow_lower_statements.specs.Switches.{no_dispatch, dispatch_at, begin_switch, switch}
 use Rattle.flow_lower_statements.specs.Statements.{statement}
 use Rattle.flow_lower_tasks.specs.Works.{behind}
-use Rattle.flow_lower_tasks.specs.Plans.{Plan, begun}
+use Rattle.flow_lower_tasks.specs.Plans.{Plan}
 use Rattle.flow_lower_tasks.specs.Settings.{SettingView}
 use Rattle.flow_lower_tasks.specs.declared.template_builder.Dispatch.{Dispatch}
 use Rattle.flow_lower_tasks.specs.declared.pending_works.Surroundings.{Surroundings}

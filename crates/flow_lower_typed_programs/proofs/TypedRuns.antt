@@ -10,7 +10,6 @@ use Rattle.flow_lower_plain_works.specs.LeadingPieces.{AllTo}
 use Rattle.flow_lower_functions.specs.Functions.{local_type}
 use Rattle.flow_lower_tasks.specs.Acts.{Step}
 use Rattle.flow_lower_tasks.specs.Pieces.{ExitView, PieceView, Do, DoIfUsed, End, Mark, Call, TemplateView}
-use Rattle.flow_lower_tasks.specs.Works.{behind}
 use Rattle.flow_lower_tasks.specs.declared.template_pieces.OwnCall.{OwnCall}
 use Rattle.flow_program_types.specs.TypedStates.{Temporaries}
 use Rattle.flow_lower_typed.specs.KnownValues.{type_known, nothing}

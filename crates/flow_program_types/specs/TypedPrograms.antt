@@ -1,12 +1,12 @@
 -- Programs whose pointers have types: of each base the type of its object, and at each instruction what is known of temporaries.
-use Rattle.std.specs.Prelude.{◌≡◌, ℕ, suc, ◌+◌, ◌<◌, ℤ, pos, true, List, [], ◌++◌, map, Option, Some, None, length, slice_get}
+use Rattle.std.specs.Prelude.{◌≡◌, ℕ, suc, ◌<◌, ℤ, pos, true, List, [], ◌++◌, map, Option, Some, None, length, slice_get}
 use Rattle.std.specs.List.{Contains}
 use Rattle.cc_base.specs.declared.int_types.IntType.{IntType}
 use Rattle.c_layout.specs.CheckedUnits.{StaticStoreView, SetValue, StaticView, LiteralView, UnitView}
 use Rattle.c_layout.specs.Layout.{size_of_type}
 use Rattle.c_layout.specs.Leaves.{leaves_of}
 use Rattle.c_layout.specs.StructViews.{StructView, structs_view}
-use Rattle.c_layout.specs.Types.{Ty, Int, Pointer, Struct}
+use Rattle.c_layout.specs.Types.{Ty, Pointer, Struct}
 use Rattle.c_layout.specs.declared.checked_tree.checked_units.StaticValue.TheVariants as static_value
 use Rattle.c_layout.specs.declared.shapes.BaseInfo.{BaseInfo}
 use Rattle.flow_program.specs.WellFormed.{On, leads}
