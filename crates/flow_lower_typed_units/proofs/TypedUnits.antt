@@ -300,7 +300,7 @@ module _ (laws : Laws) (u : UnitView) (limits : Limits) (flow : Flow) (o : IsPro
       let typed = all_at (is_typed_function u) u.functions n f functions_typed there in
       let owned = all_at (is_own_function u) u.functions n f own_functions there in
       let pieces = λ (used : Bool). laws.settled u f calls used k.template k.table k.are_counts k.all_counted known.calm known.once
-          (laws.typed u f calls (n == u.entry) k.template laid is.is_template k.few typed regular (statements_looped calls f (own f there)) used) in
+      (laws.typed u f calls (n == u.entry) k.template laid is.is_template k.few typed regular (statements_looped calls f (own f there)) used) in
       let all_there = λ (m at : ℕ) (p : PieceView) (is_at : slice_get k.template.pieces at ≡ Some p) (call : called p ≡ Some m). reached_there m (further n m f k.template k.reached is (at, p, is_at, call)) in
       let calm_there : IsCalm (has_template ts) k.template = record { pieces = lead_more calls (has_template ts) (IsMarkedIn k.template) k.template.pieces all_there known.calm.pieces; names = known.calm.names } in
       subst (IsTypedFunction u ts f) (sym k.settles) (record {
