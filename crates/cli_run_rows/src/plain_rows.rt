@@ -113,7 +113,14 @@ fn loops_within_the_turns_are_told_as_they_run(rt: HostRuntime) -> Result<(), Fa
     for (source, analysed, unrolled, run, status) in &LOOPED {
         check_tells(&rt, rt.alloc(), "check a.c", source, analysed)?;
         let tree = with_files(rt.alloc(), Vec::new(rt.alloc()), &[("a.c", source)])?;
-        answer(&rt, rt.alloc(), "check a.c --turns 4", tree, *status, unrolled)?;
+        answer(
+            &rt,
+            rt.alloc(),
+            "check a.c --turns 4",
+            tree,
+            *status,
+            unrolled,
+        )?;
         run_tells(&rt, rt.alloc(), source, "", *status, run)?;
     }
     Ok(())

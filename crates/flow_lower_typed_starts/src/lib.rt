@@ -4,6 +4,6 @@
 mod theorems;
 
 pub use theorems::{
-    settled_templates_are_calm, settled_templates_are_typed,
-    typed_objects_are_typed, types_stand_where_they_begin,
+    settled_templates_are_calm, settled_templates_are_typed, typed_objects_are_typed,
+    types_stand_where_they_begin,
 };
