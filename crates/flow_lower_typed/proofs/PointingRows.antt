@@ -85,6 +85,13 @@ module _ (at : Place) where
   from_number : is_typed_unit (unit (tree.Value (term (Pointer int) (tree.Assign (object (Pointer int) 3) (term (Pointer int) (tree.Convert Cast (number 5))))) ∷ [])) ≡ false
   from_number = refl
 
+  -- in a function that is not called
+  abbrev apart : FunctionView
+  apart = function int 0 (local (Pointer int) ∷ []) (tree.Value (term (Pointer int) (tree.Assign (object (Pointer int) 0) (term (Pointer int) (tree.Convert Cast (number 5))))) ∷ [])
+
+  not_called : is_typed_unit (record (unit []) { functions = function int 0 [] [] ∷ (apart ∷ []) }) ≡ true
+  not_called = refl
+
   -- `*(char *)&n`
   abbrev bytes : TermTree
   bytes = term (Pointer char) (tree.Convert Cast (term (Pointer int) (tree.AddressOf (object int 2))))

@@ -26,7 +26,7 @@ short_literal u l e = ap (λ depth. has_short_arrays_within depth u.structs (lit
 pub types_own : ShortTypesAreOwn
 types_own u few own =
     let short = both _ _ few in
-    let kinds = both _ _ (both _ _ own).1 in
+    let kinds = both _ _ own in
     record {
       objects = λ i o is. record { kinds = of_all (is_own_object u) u.objects i o kinds.0 is; small = of_all (is_short_object u.structs) u.objects i o short.0 is };
       literals = λ i l is. record { kinds = of_all (is_own_literal u) u.literals i l kinds.1 is; small = short_literal u l (of_all is_short_literal u.literals i l short.1 is) };

@@ -57,14 +57,13 @@ use Rattle.template_runs_settled.specs.SettledRuns.{LabelsStandOnce}
 use Rattle.template_runs_units.specs.UnitRuns.{IsProgramOf}
 use Rattle.abstract_steps_single_runs.specs.SingleRuns.{HasTypedAccesses}
 use Rattle.store_domain_sound.proofs.Slices.{get_there}
-use Rattle.store_domain_sound_programs.proofs.ShapedBases.{all_at}
 use Rattle.flow_program_types.specs.StandingTypes.{AreLaidOut}
 use Rattle.flow_program_types.specs.TypedPrograms.{structs_of, IsObjectOf, first_types, IsTypedOperation, IsTypedProgram}
 use Rattle.flow_program_types_runs.specs.TypedRuns.{TypedProgramsHaveTypedAccesses}
 use Rattle.flow_lower_typed.specs.TypedBases.{IsMadeOf}
-use Rattle.flow_lower_typed.specs.TypedObjects.{is_typed_object, is_own_function, is_own_object, is_own_literal}
+use Rattle.flow_lower_typed.specs.TypedObjects.{is_typed_object, is_own_function}
 use Rattle.flow_lower_typed.specs.TypedStatements.{is_typed_function}
-use Rattle.flow_lower_typed.specs.TypedUnits.{has_own_types, is_typed_unit}
+use Rattle.flow_lower_typed.specs.TypedUnits.{is_typed_and_calls, is_typed_if_there, is_typed_from, has_own_types, is_typed_unit}
 use Rattle.flow_lower_typed.specs.WorkLaws.{TemplatesAreTyped}
 use Rattle.flow_lower_typed.specs.ProgramLaws.{TypedObjectsAreTyped, ShortTypesAreOwn, LoopedLocalsAreOwn, SettledTemplatesAreTyped, SettledTemplatesAreCalm, HasLowSteps, steps_of, IsTypedOpening, AreThere, IsTypedFunction, AreTypedFunctions, OpenedProgramsAreTyped}
 use Rattle.flow_lower_typed_bases.specs.FirstObjects.{FirstObjectsAreTyped}
@@ -213,17 +212,11 @@ module _ (laws : Laws) (u : UnitView) (limits : Limits) (flow : Flow) (o : IsPro
 
   -- ---- looks
 
-  functions_typed : list_all (is_typed_function u) u.functions ≡ true
-  functions_typed = (and_parts (list_all (is_typed_function u) u.functions) _ looked).0
-
   objects_typed : list_all (is_typed_object u) u.objects ≡ true
-  objects_typed = (and_parts (list_all (is_typed_object u) u.objects) _ (and_parts (list_all (is_typed_function u) u.functions) _ looked).1).0
+  objects_typed = (and_parts (list_all (is_typed_object u) u.objects) _ (and_parts (is_typed_from u (length u.functions) u.entry) _ looked).1).0
 
   own_types : has_own_types u ≡ true
-  own_types = (and_parts (list_all (is_typed_object u) u.objects) _ (and_parts (list_all (is_typed_function u) u.functions) _ looked).1).1
-
-  own_functions : list_all (is_own_function u) u.functions ≡ true
-  own_functions = (and_parts (list_all (is_own_function u) u.functions) (list_all (is_own_object u) u.objects && list_all (is_own_literal u) u.literals) own_types).0
+  own_types = (and_parts (list_all (is_typed_object u) u.objects) _ (and_parts (is_typed_from u (length u.functions) u.entry) _ looked).1).1
 
   takes_none : (x : Option FunctionView) (f : FunctionView) → x ≡ Some f → takes_nothing x ≡ true → f.parameters ≡ 0
   takes_none None f is e = absurd (cc)
@@ -238,24 +231,38 @@ module _ (laws : Laws) (u : UnitView) (limits : Limits) (flow : Flow) (o : IsPro
   looped_from zero n is = absurd (true≢false (sym is ∙ reached_by.none n))
   looped_from (suc depth) n is = (depth, λ f there. reached_by.looped depth n f is there)
 
-  -- what a template of such a function is
-  record Known (depth n : ℕ) (f : FunctionView) (t : TemplateView) : Type 0 where
-    once : LabelsStandOnce t
-    calm : IsCalm (from depth) t
+  abbrev IsTyped : ℕ → Type 0
+  IsTyped n = (depth : ℕ) × ((f : FunctionView) → slice_get u.functions n ≡ Some f → is_typed_and_calls u (is_typed_from u depth) f ≡ true)
+
+  typed_from : (depth n : ℕ) → is_typed_from u depth n ≡ true → IsTyped n
+  typed_from zero n is = absurd (cc)
+  typed_from (suc depth) n is = (depth, λ f there. by (slice_get u.functions n) f there is)
+    where
+      by : (x : Option FunctionView) (f : FunctionView) → x ≡ Some f → is_typed_if_there u (is_typed_from u depth) x ≡ true → is_typed_and_calls u (is_typed_from u depth) f ≡ true
+      by None f there e = absurd (cc)
+      by (Some g) f there e = subst (λ h. is_typed_and_calls u (is_typed_from u depth) h ≡ true) (same_function g f there) e
 
   statements_looped : (calls : ℕ → Bool) (f : FunctionView) → is_looped_function u calls f ≡ true → are_looped_statements calls (statement_trees f.body) ≡ true
   statements_looped calls f e = (and_parts (list_all (is_short_local u.structs) f.locals && has_short_arrays u.structs f.returns) (are_looped_statements calls (statement_trees f.body)) e).1
 
+  statements_typed : (calls : ℕ → Bool) (f : FunctionView) → is_typed_and_calls u calls f ≡ true → are_looped_statements calls (statement_trees f.body) ≡ true
+  statements_typed calls f e = (and_parts (is_typed_function u f && is_own_function u f) (are_looped_statements calls (statement_trees f.body)) e).1
+
   numbered : (f : FunctionView) → is_regular_function u f ≡ true → is_numbered f ≡ true
   numbered f e = (and_parts (is_numbered f) (has_own_objects f && are_regular_statements u f false false (statement_trees f.body)) e).0
 
-  known_of : (depth n : ℕ) (f : FunctionView) (t : TemplateView) → IsTemplateOf u n f t → t.labels ≤ 2 ^ 32 - 1 → is_looped_function u (from depth) f ≡ true → Known depth n f t
-  known_of depth n f t is few own =
+  -- what a template of such a function is
+  record Known (calls : ℕ → Bool) (n : ℕ) (f : FunctionView) (t : TemplateView) : Type 0 where
+    once : LabelsStandOnce t
+    calm : IsCalm calls t
+
+  known_of : (calls : ℕ → Bool) (n : ℕ) (f : FunctionView) (t : TemplateView) → IsTemplateOf u n f t → t.labels ≤ 2 ^ 32 - 1 → are_looped_statements calls (statement_trees f.body) ≡ true → Known calls n f t
+  known_of calls n f t is few statements =
       let regular = laws.regular u n f o.regular is.stands in
       let labelled = laws.labelled f (numbered f regular) in
       record {
         once = laws.marked u.structs u.model.pointer u.model.int f (n == u.entry) t is.is_template labelled few;
-        calm = laws.calm u (from depth) f (n == u.entry) t is.is_template few regular (statements_looped (from depth) f own);
+        calm = laws.calm u calls f (n == u.entry) t is.is_template few regular statements;
       }
 
   -- a function has one template, which has labels of 32 bits where the entry reaches it
@@ -272,8 +279,16 @@ module _ (laws : Laws) (u : UnitView) (limits : Limits) (flow : Flow) (o : IsPro
   reached_looped m (further n _ f t reached is calls) =
       let (depth, own) = reached_looped n reached in
       let (at, p, there, call) = calls in
-      let k = known_of depth n f t is (few_labels n f t reached is) (own f is.stands) in
+      let k = known_of (from depth) n f t is (few_labels n f t reached is) (statements_looped (from depth) f (own f is.stands)) in
       looped_from depth m (led_call (from depth) (IsMarkedIn t) t.pieces k.calm.pieces m at p there call)
+
+  reached_typed : (n : ℕ) → Reaches u n → IsTyped n
+  reached_typed n begun = typed_from (length u.functions) u.entry (and_parts (is_typed_from u (length u.functions) u.entry) _ looked).0
+  reached_typed m (further n _ f t reached is calls) =
+      let (depth, own) = reached_typed n reached in
+      let (at, p, there, call) = calls in
+      let k = known_of (is_typed_from u depth) n f t is (few_labels n f t reached is) (statements_typed (is_typed_from u depth) f (own f is.stands)) in
+      typed_from depth m (led_call (is_typed_from u depth) (IsMarkedIn t) t.pieces k.calm.pieces m at p there call)
 
   -- ---- typed functions
 
@@ -295,12 +310,12 @@ module _ (laws : Laws) (u : UnitView) (limits : Limits) (flow : Flow) (o : IsPro
       let is : IsTemplateOf u n f k.template = subst (λ (g : FunctionView). IsTemplateOf u n g k.template) same k.is_template in
       let (depth, own) = reached_looped n k.reached in
       let calls = from depth in
-      let known = known_of depth n f k.template is k.few (own f there) in
+      let known = known_of calls n f k.template is k.few (statements_looped calls f (own f there)) in
       let regular = laws.regular u n f o.regular there in
-      let typed = all_at (is_typed_function u) u.functions n f functions_typed there in
-      let owned = all_at (is_own_function u) u.functions n f own_functions there in
+      let (inner, passes) = reached_typed n k.reached in
+      let both = and_parts (is_typed_function u f) (is_own_function u f) (and_parts (is_typed_function u f && is_own_function u f) _ (passes f there)).0 in
       let pieces = λ (used : Bool). laws.settled u f calls used k.template k.table k.are_counts k.all_counted known.calm known.once
-      (laws.typed u f calls (n == u.entry) k.template laid is.is_template k.few typed regular (statements_looped calls f (own f there)) used) in
+      (laws.typed u f calls (n == u.entry) k.template laid is.is_template k.few both.0 regular (statements_looped calls f (own f there)) used) in
       let all_there = λ (m at : ℕ) (p : PieceView) (is_at : slice_get k.template.pieces at ≡ Some p) (call : called p ≡ Some m). reached_there m (further n m f k.template k.reached is (at, p, is_at, call)) in
       let calm_there : IsCalm (has_template ts) k.template = record { pieces = lead_more calls (has_template ts) (IsMarkedIn k.template) k.template.pieces all_there known.calm.pieces; names = known.calm.names } in
       subst (IsTypedFunction u ts f) (sym k.settles) (record {
@@ -309,7 +324,7 @@ module _ (laws : Laws) (u : UnitView) (limits : Limits) (flow : Flow) (o : IsPro
         calm = laws.settled_calm calls k.template k.table known.once known.calm;
         room = settled_below k.table k.template known.once;
         there = pieces_there (IsMarkedIn (settled k.table k.template)) (settled k.table k.template).pieces (laws.settled_calm (has_template ts) k.template k.table known.once calm_there).pieces;
-        locals = laws.own_locals u calls f (own f there) owned;
+        locals = laws.own_locals u calls f (own f there) both.1;
       })
     where
       reached_there : (m : ℕ) → Reaches u m → has_template ts m ≡ true

@@ -7,10 +7,10 @@ use Rattle.flow_lower_typed.specs.TypedUnits.{is_typed_unit}
 use Rattle.abstract_steps_single_runs.specs.SingleRuns.{HasTypedAccesses}
 
 -- a unit whose entry has no parameters, in whose reached functions are no loops, no jumps back and no calls of the
--- library but of exit, abort, putchar and the functions of <ctype.h>, and whose arrays have at most 64 elements; and none of
--- whose functions converts a pointer but null, so that pointers point to what their types say. A unit that converts one is
--- plain where in its run under no numbers of the outside each access of memory is of the type of what lies there, and places
--- of a copy are one or apart (6.5p7, 6.5.16.1)
+-- library but of exit, abort, putchar and the functions of <ctype.h>, and whose arrays have at most 64 elements; and in whose
+-- reached functions no pointer is converted but null, so that pointers point to what their types say. Where one is, a unit is
+-- plain if in its run under no numbers of the outside each access of memory is of the type of what lies there, and places of
+-- a copy are one or apart (6.5p7, 6.5.16.1)
 pub record IsPlainUnit (u : UnitView) (program : Flow) : Type 0 where
   pub look : is_plain_unit u ≡ true
   pub types : (is_typed_unit u ≡ true) ⊎ HasTypedAccesses program u
