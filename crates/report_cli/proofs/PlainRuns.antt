@@ -12,7 +12,7 @@ use Rattle.flow_program.specs.declared.programs.Flow.{Flow}
 use Rattle.abstract_steps_sound_units.specs.Analyses.{IsAnalysis}
 use Rattle.abstract_steps_single_units.specs.CheckedStarts.{IsUnitOf}
 use Rattle.flow_lower_plain_programs.specs.SingleRuns.{HasTypedAccesses, IsSingleProgram}
-use Rattle.abstract_steps_single_units.specs.SingleUnits.{FindsJustUnitRuns}
+use Rattle.abstract_steps_single_units.specs.SingleUnits.{RunViolates, FindsJustUnitRuns}
 use Rattle.flow_lower_plain_programs.specs.PlainPrograms.{IsPlainFlow, PlainUnitsHavePlainPrograms}
 use Rattle.flow_lower_plain_programs.specs.UnitRuns.{IsProgramOf}
 use Rattle.flow_lower_typed_units.specs.PlainUnits.{IsPlainUnit}
