@@ -1,6 +1,5 @@
 -- A proved text of a plain unit shows what an analysis finds, and that is just what the unit's run violates.
-use Rattle.std.specs.Prelude.{◌≡◌, ◌⊎◌, inl, inr, ℤ, true, List}
-use Rattle.std.proofs.Common.{sym, ap, subst, ◌∙◌}
+use Rattle.std.proofs.Common.{◌≡◌, ◌⊎◌, inl, inr, ℤ, true, List, sym, ap, subst, ◌∙◌}
 use Rattle.cc_base.specs.Standard.{standard_limits}
 use Rattle.cc_base.specs.declared.diagnostics.Diag.{Diag}
 use Rattle.c_layout.specs.CheckedUnits.{UnitView, unit_view}
