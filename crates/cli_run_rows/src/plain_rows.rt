@@ -77,23 +77,24 @@ const LOOPED: [Looped<'static>; 3] = [
     ),
 ];
 
-/// Fails unless the words, on the unit, are answered with one line or more, and so.
+/// Fails unless the words, on the unit, are answered so.
 fn check_tells(
     rt: &impl Abort,
     alloc: Global,
     words: &str,
     source: &str,
+    status: u8,
     text: &str,
 ) -> Result<(), Fail> {
     let tree = with_files(alloc, Vec::new(alloc), &[("a.c", source)])?;
-    answer(rt, alloc, words, tree, 1, text)
+    answer(rt, alloc, words, tree, status, text)
 }
 
 #[test]
 fn copies_of_structs_are_told_as_they_run(rt: HostRuntime) -> Result<(), Fail> {
     for (source, analysed, run) in &COPYING {
-        check_tells(&rt, rt.alloc(), "check a.c", source, analysed)?;
-        check_tells(&rt, rt.alloc(), "check a.c --turns 2", source, analysed)?;
+        check_tells(&rt, rt.alloc(), "check a.c", source, 1, analysed)?;
+        check_tells(&rt, rt.alloc(), "check a.c --turns 2", source, 1, analysed)?;
         run_tells(&rt, rt.alloc(), source, "", 1, run)?;
     }
     Ok(())
@@ -102,7 +103,7 @@ fn copies_of_structs_are_told_as_they_run(rt: HostRuntime) -> Result<(), Fail> {
 #[test]
 fn accesses_of_another_type_have_lines_that_no_run_has(rt: HostRuntime) -> Result<(), Fail> {
     for (source, analysed, run) in &UNTYPED {
-        check_tells(&rt, rt.alloc(), "check a.c", source, analysed)?;
+        check_tells(&rt, rt.alloc(), "check a.c", source, 1, analysed)?;
         run_tells(&rt, rt.alloc(), source, "", 0, run)?;
     }
     Ok(())
@@ -111,13 +112,12 @@ fn accesses_of_another_type_have_lines_that_no_run_has(rt: HostRuntime) -> Resul
 #[test]
 fn loops_within_the_turns_are_told_as_they_run(rt: HostRuntime) -> Result<(), Fail> {
     for (source, analysed, unrolled, run, status) in &LOOPED {
-        check_tells(&rt, rt.alloc(), "check a.c", source, analysed)?;
-        let tree = with_files(rt.alloc(), Vec::new(rt.alloc()), &[("a.c", source)])?;
-        answer(
+        check_tells(&rt, rt.alloc(), "check a.c", source, 1, analysed)?;
+        check_tells(
             &rt,
             rt.alloc(),
             "check a.c --turns 4",
-            tree,
+            source,
             *status,
             unrolled,
         )?;
