@@ -1,0 +1,2 @@
+pub mod TypedTerms
+pub mod TypedStatements

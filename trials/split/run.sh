@@ -1,0 +1,4 @@
+OLD=$1; NEW=$2; J=$3; shift 3
+cd /work/h/sp
+python3 /work/h/tools_split/split.py $OLD $NEW $J; python3 /work/h/tools_split/vis.py $NEW $OLD "$@"
+cd /work/h;  python3 tools_split/verify.py /work/h/sp > new_v.txt; tail -1 new_v.txt; diff <(grep -v "^?name\|^order" base_v.txt|sed 's#/work/h/plc##g' ) <(grep -v "^?name\|^order" new_v.txt |sed 's#/work/h/sp##g' ) | head -60; cd sp; tools/unused-edges;  for c in $NEW $OLD; do python3 /work/h/ana.py $c | grep -E "^(total|[a-z_]+ [0-9]+/)" | cut -c1-140; for f in src/lib.rt specs/Lib.antt proofs/Lib.antt; do [ -f crates/$c/$f ] && echo "-- $c/$f" && cat crates/$c/$f; done; grep "^$c:" crates.txt; done; python3 /work/h/chain.py $OLD; python3 /work/h/resolve.py /work/h/sp | tail -1; python3 tools/check_docs.py --bin /bin/true 2>&1 | grep -v "ccheck\|console\|tags\|refused\|marked\|^$"; git diff HEAD -M crates/$OLD/src | grep "^[+-]" | grep -v "^-" ; date
