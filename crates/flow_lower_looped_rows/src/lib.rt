@@ -1,0 +1,2 @@
+//! Worked rows of the look at units with loops.
+#![tactic(auto)]
