@@ -9,7 +9,7 @@ use Rattle.c_parser_tokens.specs.declared.terminals.Punctuator.TheVariants as p
 use Rattle.c_parser_expressions.specs.Expressions.{height_of}
 use Rattle.c_parser_expressions.specs.Findings.{Found}
 use Rattle.c_parser_expressions.specs.Fronts.{first_symbol, first_place, IsSign, IsWord, IsName}
-use Rattle.c_parser_declarations.specs.Findings.{FoundLocal}
+use Rattle.c_parser_declarations.specs.Grammar.Findings.{FoundLocal}
 use Rattle.c_parser.proofs.Jumps.{shut}
 use Rattle.c_parser.specs.Findings.{FoundCondition, FoundMaybe, FoundFirst, FoundStatement, FoundItem, FoundItems, FoundBraced, FoundBlock, is_else}
 use Rattle.c_parser.specs.Statements.{is_statement, is_open, DeriveStatement, DeriveStatements, statement_height, statements_height, maybe_height, first_height}

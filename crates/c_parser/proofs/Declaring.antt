@@ -5,12 +5,12 @@ use Rattle.c_layout.specs.DeclarationTrees.{InitDeclaratorView, Object, Initiali
 use Rattle.c_parser_tokens.specs.declared.terminals.Terminal.{Terminal}
 use Rattle.c_parser_tokens.specs.declared.terminals.Punctuator.TheVariants as p
 use Rattle.c_parser_expressions.specs.Fronts.{first_place, IsSign}
-use Rattle.c_parser_declarations.specs.Declarations.{IsDeclared, IsInitialized, bare, name_of, init_height, function_height}
-use Rattle.c_parser_declarations.specs.Findings.{FoundSpec, FoundBare, FoundTail}
-use Rattle.c_parser_declarations.specs.Lists.{highest}
-use Rattle.c_parser_declarations.specs.Specifiers.{IsSpec, spec_height}
-use Rattle.c_parser_declarations.specs.StorageClasses.{is_typedef}
-use Rattle.c_parser_declarations.proofs.InitDeclarators as lower
+use Rattle.c_parser_declarations.specs.Grammar.Declarations.{IsDeclared, IsInitialized, bare, name_of, init_height, function_height}
+use Rattle.c_parser_declarations.specs.Grammar.Findings.{FoundSpec, FoundBare, FoundTail}
+use Rattle.c_parser_declarations.specs.Grammar.Lists.{highest}
+use Rattle.c_parser_declarations.specs.Grammar.Specifiers.{IsSpec, spec_height}
+use Rattle.c_parser_declarations.specs.Grammar.StorageClasses.{is_typedef}
+use Rattle.c_parser_declarations.proofs.readers.InitDeclarators as lower
 use Rattle.c_parser.specs.Externals.{with_name, with_declared, with_all, IsFileDeclarator, Further, IsExternal, external_height}
 use Rattle.c_parser.specs.Findings.{FoundBlock, FoundFurther, FoundLast, Begins, FoundBehind, FoundNamed, FoundExternal}
 use Rattle.c_parser.specs.Statements.{IsBlock}

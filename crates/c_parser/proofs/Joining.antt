@@ -7,11 +7,11 @@ use Rattle.c_parser_tokens.specs.declared.terminals.Symbol.TheVariants as symbol
 use Rattle.c_parser_tokens.specs.declared.terminals.Terminal.{Terminal}
 use Rattle.c_parser_expressions.specs.Fronts.{first_symbol, first_place, behind_first, IsSign}
 use Rattle.c_parser_expressions.specs.Readings.{is_left_brace}
-use Rattle.c_parser_declarations.specs.DeclarationReaders.{file_declarator, initialized}
-use Rattle.c_parser_declarations.specs.Items.{GotItem, item_of, after_item, one_more}
-use Rattle.c_parser_declarations.specs.SpecifierReaders.{raised, is_semicolon, specifiers}
-use Rattle.c_parser_declarations.specs.StorageClasses.{is_typedef}
-use Rattle.c_parser_declarations.proofs.Reading.{inner_is, words_listed}
+use Rattle.c_parser_declarations.specs.Grammar.DeclarationReaders.{file_declarator, initialized}
+use Rattle.c_parser_declarations.specs.Grammar.Items.{GotItem, item_of, after_item, one_more}
+use Rattle.c_parser_declarations.specs.Grammar.SpecifierReaders.{raised, is_semicolon, specifiers}
+use Rattle.c_parser_declarations.specs.Grammar.StorageClasses.{is_typedef}
+use Rattle.c_parser_declarations.proofs.grammar.Reading.{inner_is, words_listed}
 use Rattle.c_parser.specs.Externals.{with_declared}
 use Rattle.c_parser.specs.StatementReaders.{block, statement_inside}
 use Rattle.c_parser.specs.UnitReaders.{further, declaration_of, declaration_named, definition_of, definition_within, behind_declarator, external, within, behind_items}

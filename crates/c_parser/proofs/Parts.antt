@@ -7,7 +7,7 @@ use Rattle.c_parser_tokens.specs.declared.terminals.Punctuator.{Punctuator}
 use Rattle.c_parser_tokens.specs.declared.terminals.Punctuator.TheVariants as p
 use Rattle.c_parser_expressions.specs.Findings.{Found}
 use Rattle.c_parser_expressions.specs.Fronts.{IsSign}
-use Rattle.c_parser_declarations.specs.Findings.{FoundLocal}
+use Rattle.c_parser_declarations.specs.Grammar.Findings.{FoundLocal}
 use Rattle.c_parser.specs.Findings.{FoundCondition, FoundMaybe, FoundFirst}
 
 pub in_parentheses : {known : List (List ℕ)} {budget h : ℕ} {e v : Tree} {ts a b rest : List Terminal} →

@@ -10,8 +10,8 @@ use Rattle.c_parser_tokens.specs.declared.terminals.Punctuator.TheVariants as p
 use Rattle.c_parser_tokens.specs.declared.terminals.Symbol.TheVariants as symbol
 use Rattle.c_parser_tokens.specs.declared.terminals.Terminal.{Terminal}
 use Rattle.c_parser_expressions.specs.Fronts.{IsName}
-use Rattle.c_parser_declarations.specs.Specifiers.{DeriveWord, IsSpec}
-use Rattle.c_parser_declarations.proofs.Rows.{at, sign, word, name, sign_at, word_at, name_at}
+use Rattle.c_parser_declarations.specs.Grammar.Specifiers.{DeriveWord, IsSpec}
+use Rattle.c_parser_declarations.proofs.readers.Rows.{at, sign, word, name, sign_at, word_at, name_at}
 use Rattle.c_parser.specs.Externals.{in_force, IsExternal, external_height}
 use Rattle.c_parser.specs.Pieces.{piece_length}
 use Rattle.c_parser.specs.Statements.{Condition, DeriveStatement, statement_height}

@@ -11,9 +11,9 @@ use Rattle.c_parser_expressions.specs.ExpressionReaders.{Readers}
 use Rattle.c_parser_expressions.specs.Fronts.{first_symbol, first_place, behind_first, is_identifier_first, IsName, IsSign, IsWord}
 use Rattle.c_parser_expressions.specs.Readings.{Reading, got, is_colon, is_left_parenthesis, is_right_parenthesis}
 use Rattle.c_parser_expressions.specs.TypeNameReaders.{all_readers, readers_inside}
-use Rattle.c_parser_declarations.specs.Items.{Item, GotItem, item_of, after_item}
-use Rattle.c_parser_declarations.specs.SpecifierReaders.{raised, is_semicolon}
-use Rattle.c_parser_declarations.proofs.Reading.{inner_is, raised_is}
+use Rattle.c_parser_declarations.specs.Grammar.Items.{Item, GotItem, item_of, after_item}
+use Rattle.c_parser_declarations.specs.Grammar.SpecifierReaders.{raised, is_semicolon}
+use Rattle.c_parser_declarations.proofs.grammar.Reading.{inner_is, raised_is}
 use Rattle.c_parser.specs.StatementReaders.{first_value, tree_item, expected, condition, optional_expression, for_first_within, value_statement, return_statement, labelled, case_statement, default_statement, if_statement, behind_if, switch_statement, while_statement, is_while, do_statement, ended_do, for_statement, for_clauses, for_body, block, items_within, statement, statement_inside}
 use Rattle.c_parser.specs.Findings.{is_else}
 

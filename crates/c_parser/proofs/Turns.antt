@@ -8,10 +8,10 @@ use Rattle.c_parser_tokens.specs.declared.terminals.Symbol.TheVariants as symbol
 use Rattle.c_parser_tokens.specs.declared.terminals.Terminal.{Terminal}
 use Rattle.c_parser_expressions.specs.Fronts.{first_symbol, behind_first}
 use Rattle.c_parser_expressions.specs.Readings.{is_comma, is_right_brace}
-use Rattle.c_parser_declarations.specs.DeclarationReaders.{file_declarator, initialized}
-use Rattle.c_parser_declarations.specs.Items.{Item, GotItem, item_of, after_item, one_more}
-use Rattle.c_parser_declarations.specs.SpecifierReaders.{is_semicolon}
-use Rattle.c_parser_declarations.proofs.Turns.{front, front_more, begun}
+use Rattle.c_parser_declarations.specs.Grammar.DeclarationReaders.{file_declarator, initialized}
+use Rattle.c_parser_declarations.specs.Grammar.Items.{Item, GotItem, item_of, after_item, one_more}
+use Rattle.c_parser_declarations.specs.Grammar.SpecifierReaders.{is_semicolon}
+use Rattle.c_parser_declarations.proofs.grammar.Turns.{front, front_more, begun}
 use Rattle.c_parser.specs.Externals.{with_declared}
 use Rattle.c_parser.specs.StatementReaders.{block_items, no_item}
 use Rattle.c_parser.specs.UnitReaders.{further, no_declarator, behind_items}

@@ -7,10 +7,10 @@ use Rattle.c_parser_tokens.specs.Classes.{classified}
 use Rattle.c_parser_tokens.specs.declared.terminals.Terminal.{Terminal}
 use Rattle.c_parser_tokens.specs.declared.terminals.Punctuator.TheVariants as p
 use Rattle.c_parser_expressions.specs.Fronts.{first_place, IsSign, with_text}
-use Rattle.c_parser_declarations.specs.Declarations.{Initializes, IsFunction, name_of, init_height, function_height}
-use Rattle.c_parser_declarations.specs.Lists.{highest}
-use Rattle.c_parser_declarations.specs.Specifiers.{IsSpec, spec_height}
-use Rattle.c_parser_declarations.specs.StorageClasses.{is_typedef}
+use Rattle.c_parser_declarations.specs.Grammar.Declarations.{Initializes, IsFunction, name_of, init_height, function_height}
+use Rattle.c_parser_declarations.specs.Grammar.Lists.{highest}
+use Rattle.c_parser_declarations.specs.Grammar.Specifiers.{IsSpec, spec_height}
+use Rattle.c_parser_declarations.specs.Grammar.StorageClasses.{is_typedef}
 use Rattle.c_parser.specs.Pieces.{piece_length}
 use Rattle.c_parser.specs.Statements.{IsBlock, block_height}
 

@@ -11,10 +11,10 @@ use Rattle.c_parser_tokens.specs.declared.terminals.Symbol.{Symbol}
 use Rattle.c_parser_tokens.specs.declared.terminals.Symbol.TheVariants as symbol
 use Rattle.c_parser_expressions.specs.Expressions.{height_of}
 use Rattle.c_parser_expressions.specs.Fronts.{first_symbol, first_place, IsSign}
-use Rattle.c_parser_declarations.specs.Declarations.{IsDeclared, bare, init_height}
-use Rattle.c_parser_declarations.specs.Lists.{highest}
-use Rattle.c_parser_declarations.specs.Specifiers.{IsSpec, spec_height}
-use Rattle.c_parser_declarations.specs.StorageClasses.{is_typedef}
+use Rattle.c_parser_declarations.specs.Grammar.Declarations.{IsDeclared, bare, init_height}
+use Rattle.c_parser_declarations.specs.Grammar.Lists.{highest}
+use Rattle.c_parser_declarations.specs.Grammar.Specifiers.{IsSpec, spec_height}
+use Rattle.c_parser_declarations.specs.Grammar.StorageClasses.{is_typedef}
 use Rattle.c_parser.specs.Externals.{with_declared, with_all, in_force, in_force_behind, Further, IsExternal, external_height, ArePieces}
 use Rattle.c_parser.specs.Statements.{Maybe, Condition, FirstClause, is_statement, is_open, DeriveStatement, DeriveStatements, maybe_height, first_height, statement_height, statements_height, IsBlock, block_height}
 

@@ -12,10 +12,10 @@ use Rattle.c_parser.specs.Findings.{is_else}
 use Rattle.c_parser_expressions.specs.Readings.{Reading, is_left_parenthesis, is_right_parenthesis, is_left_brace, is_right_brace, is_colon}
 use Rattle.c_parser_expressions.specs.ExpressionReaders.{Readers}
 use Rattle.c_parser_expressions.specs.TypeNameReaders.{readers_inside, all_readers}
-use Rattle.c_parser_declarations.specs.Items.{Item, GotItem, item_of, after_item, one_more}
-use Rattle.c_parser_declarations.specs.DeclarationReaders.{local_declaration}
-use Rattle.c_parser_declarations.specs.DeclaratorReaders.{name_at}
-use Rattle.c_parser_declarations.specs.SpecifierReaders.{raised, is_semicolon}
+use Rattle.c_parser_declarations.specs.Grammar.Items.{Item, GotItem, item_of, after_item, one_more}
+use Rattle.c_parser_declarations.specs.Grammar.DeclarationReaders.{local_declaration}
+use Rattle.c_parser_declarations.specs.Grammar.DeclaratorReaders.{name_at}
+use Rattle.c_parser_declarations.specs.Grammar.SpecifierReaders.{raised, is_semicolon}
 
 -- ---- what statements are made of besides statements
 

@@ -8,7 +8,7 @@ use Rattle.c_parser_tokens.specs.declared.terminals.Keyword.TheVariants as k
 use Rattle.c_parser_tokens.specs.declared.terminals.Punctuator.TheVariants as p
 use Rattle.c_parser_expressions.specs.Expressions.{Derives, height_of}
 use Rattle.c_parser_expressions.specs.Fronts.{first_place, IsSign, IsWord, IsName}
-use Rattle.c_parser_declarations.specs.Declarations.{IsLocal, local_height}
+use Rattle.c_parser_declarations.specs.Grammar.Declarations.{IsLocal, local_height}
 
 -- an expression, or nothing
 abbrev pub Maybe : List (List ℕ) → Option Tree → List Terminal → List Terminal → Type 0

@@ -4,14 +4,14 @@ use Rattle.cc_base.specs.declared.diagnostics.Place.{Place}
 use Rattle.c_layout.specs.DeclarationTrees.{SpecTrees, StatementTree, FunctionDeclaratorView, InitDeclaratorView, Object, Initialized, Prototype, ExternalTree, Declared, Defined}
 use Rattle.c_parser_tokens.specs.declared.terminals.Terminal.{Terminal}
 use Rattle.c_parser_expressions.specs.Fronts.{first_symbol, first_place, behind_first}
-use Rattle.c_parser_declarations.specs.StorageClasses.{is_typedef}
+use Rattle.c_parser_declarations.specs.Grammar.StorageClasses.{is_typedef}
 use Rattle.c_parser.specs.Externals.{with_declared, in_force}
 use Rattle.c_parser.specs.Pieces.{piece_length}
 use Rattle.c_parser_expressions.specs.Readings.{is_comma, is_left_brace}
-use Rattle.c_parser_declarations.specs.Items.{Item, GotItem, item_of, after_item, one_more}
-use Rattle.c_parser_declarations.specs.DeclarationReaders.{file_declarator, initialized}
-use Rattle.c_parser_declarations.specs.ParameterReaders.{words_list}
-use Rattle.c_parser_declarations.specs.SpecifierReaders.{raised, is_semicolon, specifiers}
+use Rattle.c_parser_declarations.specs.Grammar.Items.{Item, GotItem, item_of, after_item, one_more}
+use Rattle.c_parser_declarations.specs.Grammar.DeclarationReaders.{file_declarator, initialized}
+use Rattle.c_parser_declarations.specs.Grammar.ParameterReaders.{words_list}
+use Rattle.c_parser_declarations.specs.Grammar.SpecifierReaders.{raised, is_semicolon, specifiers}
 use Rattle.c_parser.specs.StatementReaders.{block, statement_inside}
 
 -- ---- declarations. `b` is the budget of what stands inside, `gives` says that declarators give typedef names.

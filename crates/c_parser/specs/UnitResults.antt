@@ -6,8 +6,8 @@ use Rattle.cc_base.specs.declared.refusals.Stop.{Stop}
 use Rattle.cc_base.specs.declared.refusals.Stop.TheVariants as stop
 use Rattle.c_layout.specs.DeclarationTrees.{ExternalTree}
 use Rattle.c_parser_tokens.specs.declared.terminals.Terminal.{Terminal}
-use Rattle.c_parser_expressions_grammar.specs.declared.heights.Trouble.{Trouble}
-use Rattle.c_parser_expressions_grammar.specs.declared.heights.Trouble.TheVariants as trouble
+use Rattle.c_parser_expression_grammar.specs.declared.heights.Trouble.{Trouble}
+use Rattle.c_parser_expression_grammar.specs.declared.heights.Trouble.TheVariants as trouble
 use Rattle.c_parser.specs.Externals.{ArePieces, in_force_behind}
 use Rattle.c_parser.specs.Pieces.{piece_length}
 use Rattle.c_parser.specs.UnitReaders.{piece}

@@ -1,22 +1,24 @@
 //! External declarations (6.9).
 ghost use Rattle.std.specs.Prelude.{◌≡◌, ◌+◌, ◌≤◌, List, [], length, map, IfOk};
 ghost use Rattle.c_layout.specs.DeclarationTrees.{Declared, Prototype, spec_tree, spec_trees, function_declarator_view, init_declarator_view, external_tree};
-ghost use Rattle.c_parser_declarations.specs.Findings.{FoundSpec, FoundBare, FoundTail};
+ghost use Rattle.c_parser_declarations.specs.Grammar.Findings.{FoundSpec, FoundBare, FoundTail};
 ghost use Rattle.c_parser_expressions.specs.Fronts.{first_place};
 ghost use Rattle.c_parser.specs.Externals.{with_declared};
 ghost use Rattle.c_parser.specs.Findings.{FoundLast, FoundBehind, FoundNamed, FoundExternal};
 ghost use Rattle.c_parser_tokens.specs.declared.terminals.Terminal.{Terminal};
 ghost use Rattle.c_parser_expressions.specs.ReadingResults.{Reads};
-ghost use Rattle.c_parser_declarations.specs.Answers.{as_item};
-ghost use Rattle.c_parser_declarations.specs.DeclarationReaders.{file_declarator, initialized};
-ghost use Rattle.c_parser_declarations.specs.Items.{item_of, after_item};
-ghost use Rattle.c_parser_declarations.specs.SpecifierReaders.{raised, specifiers};
+ghost use Rattle.c_parser_declarations.specs.Grammar.Answers.{as_item};
+ghost use Rattle.c_parser_declarations.specs.Grammar.DeclarationReaders.{file_declarator, initialized};
+ghost use Rattle.c_parser_declarations.specs.Grammar.Items.{item_of, after_item};
+ghost use Rattle.c_parser_declarations.specs.Grammar.SpecifierReaders.{raised, specifiers};
 ghost use Rattle.c_parser.specs.UnitReaders as readers;
 ghost use Rattle.c_parser.specs.UnitReaders.{within, behind_items};
 
 use crate::statements::block;
 use c_layout::{External, FunctionDeclarator, InitDeclarator, SpecWord};
-use c_parser_declarations::{file_declarator, initialized, is_typedef, named_by, specifiers};
+use c_parser_declarations::readers::{
+    file_declarator, initialized, is_typedef, named_by, specifiers,
+};
 use c_parser_expressions::{Parsed, Reader, Scope, Trouble, TypedefNames, inner, made};
 use c_parser_tokens::Punctuator;
 use cc_base::Place;

@@ -7,7 +7,7 @@ ghost use Rattle.c_parser_tokens.specs.declared.terminals.Symbol.TheVariants as 
 ghost use Rattle.c_parser_expressions.specs.Fronts.{first_symbol};
 ghost use Rattle.c_parser_expressions.specs.TypeNameReaders.{readers_inside};
 ghost use Rattle.c_parser_expressions.specs.ReadingResults.{Reads};
-ghost use Rattle.c_parser_declarations.specs.Answers.{as_item};
+ghost use Rattle.c_parser_declarations.specs.Grammar.Answers.{as_item};
 ghost use Rattle.c_parser.specs.StatementReaders as readers;
 
 use crate::statement_nodes::{

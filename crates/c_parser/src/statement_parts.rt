@@ -8,11 +8,11 @@ ghost use Rattle.c_parser_tokens.specs.declared.terminals.Symbol.{Symbol};
 ghost use Rattle.c_parser_tokens.specs.declared.terminals.Symbol.TheVariants as symbol;
 ghost use Rattle.c_parser_expressions.specs.TypeNameReaders.{all_readers};
 ghost use Rattle.c_parser_expressions.specs.ReadingResults.{Reads};
-ghost use Rattle.c_parser_declarations.specs.Answers.{as_item};
+ghost use Rattle.c_parser_declarations.specs.Grammar.Answers.{as_item};
 ghost use Rattle.c_parser.specs.StatementReaders as readers;
 
 use c_layout::{Expr, ForFirst};
-use c_parser_declarations::local_declaration;
+use c_parser_declarations::readers::local_declaration;
 use c_parser_expressions::{Parsed, Reader, Scope, Trouble, expression};
 use c_parser_tokens::Punctuator;
 

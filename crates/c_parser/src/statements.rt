@@ -7,8 +7,8 @@ ghost use Rattle.c_parser_tokens.specs.declared.terminals.Keyword.TheVariants as
 ghost use Rattle.c_parser_tokens.specs.declared.terminals.Symbol.TheVariants as symbol;
 ghost use Rattle.c_parser_expressions.specs.TypeNameReaders.{readers_inside};
 ghost use Rattle.c_parser_expressions.specs.ReadingResults.{Reads};
-ghost use Rattle.c_parser_declarations.specs.Answers.{as_item};
-ghost use Rattle.c_parser_declarations.specs.Items.{item_of};
+ghost use Rattle.c_parser_declarations.specs.Grammar.Answers.{as_item};
+ghost use Rattle.c_parser_declarations.specs.Grammar.Items.{item_of};
 ghost use Rattle.c_parser.specs.StatementReaders as readers;
 ghost use Rattle.c_parser.specs.StatementReaders.{statement_inside};
 
@@ -19,7 +19,7 @@ use crate::statement_nodes::{
 };
 use crate::statement_parts::{condition, for_first, optional_expression};
 use c_layout::Statement;
-use c_parser_declarations::local_declaration;
+use c_parser_declarations::readers::local_declaration;
 use c_parser_expressions::{Parsed, Reader, Scope, Trouble, conditional, inner, made};
 use c_parser_tokens::{Keyword, Punctuator, Symbol};
 

@@ -1,14 +1,1 @@
-pub use Rattle.c_parser_declarations_grammar.specs.Answers
-pub use Rattle.c_parser_declarations_grammar.specs.DeclarationReaders
-pub use Rattle.c_parser_declarations_grammar.specs.Declarations
-pub use Rattle.c_parser_declarations_grammar.specs.DeclaratorReaders
-pub use Rattle.c_parser_declarations_grammar.specs.Declarators
-pub use Rattle.c_parser_declarations_grammar.specs.Findings
-pub use Rattle.c_parser_declarations_grammar.specs.InitializerReaders
-pub use Rattle.c_parser_declarations_grammar.specs.Initializers
-pub use Rattle.c_parser_declarations_grammar.specs.Items
-pub use Rattle.c_parser_declarations_grammar.specs.Lists
-pub use Rattle.c_parser_declarations_grammar.specs.ParameterReaders
-pub use Rattle.c_parser_declarations_grammar.specs.SpecifierReaders
-pub use Rattle.c_parser_declarations_grammar.specs.Specifiers
-pub use Rattle.c_parser_declarations_grammar.specs.StorageClasses
+pub mod Grammar

@@ -3,10 +3,10 @@ use Rattle.std.proofs.Common.{◌≡◌, ℕ, List, [], ◌∷◌, ◌++◌, max
 use Rattle.c_layout.specs.SyntaxTrees.{Tree, trees}
 use Rattle.c_parser_tokens.specs.declared.terminals.Terminal.{Terminal}
 use Rattle.c_parser_tokens.specs.declared.terminals.Punctuator.TheVariants as p
-use Rattle.c_parser_expressions_grammar.specs.Expressions.{Derives, DeriveEach, height_of, heights_of}
-use Rattle.c_parser_expressions_grammar.specs.Findings.{Found, FoundSome, FoundArguments}
-use Rattle.c_parser_expressions_grammar.specs.Fronts.{IsSign}
-use Rattle.c_parser_expressions_grammar.specs.TypeNames.{greatest}
+use Rattle.c_parser_expression_grammar.specs.Expressions.{Derives, DeriveEach, height_of, heights_of}
+use Rattle.c_parser_expression_grammar.specs.Findings.{Found, FoundSome, FoundArguments}
+use Rattle.c_parser_expression_grammar.specs.Fronts.{IsSign}
+use Rattle.c_parser_expression_grammar.specs.TypeNames.{greatest}
 use Rattle.c_parser_expressions.proofs.Listing.{trailed_more, separated_last, each_append, heights_append, greatest_append}
 
 pub none_read : (known : List (List ℕ)) (b : ℕ) (ts : List Terminal) → FoundSome known b [] 0 ts ts

@@ -11,12 +11,12 @@ use Rattle.c_parser_tokens.specs.declared.terminals.Punctuator.{Punctuator}
 use Rattle.c_parser_tokens.specs.declared.terminals.Punctuator.TheVariants as p
 use Rattle.c_parser_tokens.specs.declared.terminals.Symbol.{Symbol}
 use Rattle.c_parser_tokens.specs.declared.terminals.Symbol.TheVariants as symbol
-use Rattle.c_parser_expressions_grammar.specs.declared.operators.Infix.{Infix}
-use Rattle.c_parser_expressions_grammar.specs.declared.operators.Infix.TheVariants as between
-use Rattle.c_parser_expressions_grammar.specs.Expressions.{Derives, height_of}
-use Rattle.c_parser_expressions_grammar.specs.Findings.{Found, FoundLevel, Climbs, infix_tree}
-use Rattle.c_parser_expressions_grammar.specs.Fronts.{first_symbol, first_place, IsSign}
-use Rattle.c_parser_expressions_grammar.specs.Levels.{op_sign, op_level, sign_level, symbol_level, binary_sign, binary_level, logical_sign, logical_level}
+use Rattle.c_parser_expression_grammar.specs.declared.operators.Infix.{Infix}
+use Rattle.c_parser_expression_grammar.specs.declared.operators.Infix.TheVariants as between
+use Rattle.c_parser_expression_grammar.specs.Expressions.{Derives, height_of}
+use Rattle.c_parser_expression_grammar.specs.Findings.{Found, FoundLevel, Climbs, infix_tree}
+use Rattle.c_parser_expression_grammar.specs.Fronts.{first_symbol, first_place, IsSign}
+use Rattle.c_parser_expression_grammar.specs.Levels.{op_sign, op_level, sign_level, symbol_level, binary_sign, binary_level, logical_sign, logical_level}
 use Rattle.c_parser_expressions.proofs.Productions.{lower}
 
 binary_sign_level : (op : BinaryOp) → sign_level (binary_sign op) ≡ binary_level op

@@ -5,12 +5,12 @@ use Rattle.c_parser_tokens.specs.declared.terminals.Punctuator.TheVariants as p
 use Rattle.c_parser_tokens.specs.declared.terminals.Symbol.{Symbol}
 use Rattle.c_parser_tokens.specs.declared.terminals.Symbol.TheVariants as symbol
 use Rattle.c_parser_tokens.specs.declared.terminals.Terminal.{Terminal}
-use Rattle.c_parser_expressions_grammar.specs.declared.operators.Infix.{Infix}
-use Rattle.c_parser_expressions_grammar.specs.Continuations.{continuation_of, continuation_of_sign}
-use Rattle.c_parser_expressions_grammar.specs.Fronts.{first_symbol, behind_first}
-use Rattle.c_parser_expressions_grammar.specs.Levels.{op_sign, op_level}
-use Rattle.c_parser_expressions_grammar.specs.Readings.{Reading}
-use Rattle.c_parser_expressions_grammar.specs.ExpressionReaders.{Readers, infix_of, keep_from, infix_from}
+use Rattle.c_parser_expression_grammar.specs.declared.operators.Infix.{Infix}
+use Rattle.c_parser_expression_grammar.specs.Continuations.{continuation_of, continuation_of_sign}
+use Rattle.c_parser_expression_grammar.specs.Fronts.{first_symbol, behind_first}
+use Rattle.c_parser_expression_grammar.specs.Levels.{op_sign, op_level}
+use Rattle.c_parser_expression_grammar.specs.Readings.{Reading}
+use Rattle.c_parser_expression_grammar.specs.ExpressionReaders.{Readers, infix_of, keep_from, infix_from}
 
 abbrev sign_in : Option Infix → Punctuator
 sign_in None = p.Comma

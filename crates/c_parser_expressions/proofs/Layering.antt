@@ -6,11 +6,11 @@ use Rattle.c_layout.specs.declared.syntax_tree.expressions.AbstractLayer.{Abstra
 use Rattle.c_layout.specs.declared.syntax_tree.expressions.Brackets.{Brackets}
 use Rattle.c_layout.specs.declared.syntax_tree.expressions.TypeNameWord.{TypeNameWord}
 use Rattle.c_parser_tokens.specs.declared.terminals.Terminal.{Terminal}
-use Rattle.c_parser_expressions_grammar.specs.Findings.{layer_of, is_empty, IsSomething}
-use Rattle.c_parser_expressions_grammar.specs.Findings as found
-use Rattle.c_parser_expressions_grammar.specs.Readings.{GotLayers, got, made}
-use Rattle.c_parser_expressions_grammar.specs.TypeNames.{is_something, is_lone_star, words_height}
-use Rattle.c_parser_expressions_grammar.specs.TypeNameReaders.{GotArrays, both, is_layer, layer_height, layered_at, layered, plain}
+use Rattle.c_parser_expression_grammar.specs.Findings.{layer_of, is_empty, IsSomething}
+use Rattle.c_parser_expression_grammar.specs.Findings as found
+use Rattle.c_parser_expression_grammar.specs.Readings.{GotLayers, got, made}
+use Rattle.c_parser_expression_grammar.specs.TypeNames.{is_something, is_lone_star, words_height}
+use Rattle.c_parser_expression_grammar.specs.TypeNameReaders.{GotArrays, both, is_layer, layer_height, layered_at, layered, plain}
 
 pub below : (a b : ℕ) → a < b → nat_lt a b ≡ true
 below a b h = grind arith

@@ -12,12 +12,12 @@ use Rattle.c_layout.specs.declared.syntax_tree.expressions.Brackets.{Brackets}
 use Rattle.c_layout.specs.declared.syntax_tree.expressions.TypeNameWord.{TypeNameWord}
 use Rattle.c_parser_tokens.specs.declared.terminals.Terminal.{Terminal}
 use Rattle.c_parser_tokens.specs.declared.terminals.Punctuator.TheVariants as p
-use Rattle.c_parser_expressions_grammar.specs.declared.type_name_parts.ArrayLength.{ArrayLength}
-use Rattle.c_parser_expressions_grammar.specs.Expressions.{height_of, heights_of}
-use Rattle.c_parser_expressions_grammar.specs.Findings.{Found, FoundPair, FoundArrays, FoundLayers, FoundNested, FoundTypeName, IsSomeLayer, lengths_of, brackets_of, layer_height, is_empty, IsSomething}
-use Rattle.c_parser_expressions_grammar.specs.Fronts.{first_place, IsSign}
-use Rattle.c_parser_expressions_grammar.specs.Spans.{Span, Chain}
-use Rattle.c_parser_expressions_grammar.specs.TypeNames.{IsTypeNameWord, IsBrackets, Length, Arrays, Stars, Layers, Nested, Declarator, is_one_type, counts_of, words_height, length_count, greatest, layers_height, nested_height, declared_height}
+use Rattle.c_parser_expression_grammar.specs.declared.type_name_parts.ArrayLength.{ArrayLength}
+use Rattle.c_parser_expression_grammar.specs.Expressions.{height_of, heights_of}
+use Rattle.c_parser_expression_grammar.specs.Findings.{Found, FoundPair, FoundArrays, FoundLayers, FoundNested, FoundTypeName, IsSomeLayer, lengths_of, brackets_of, layer_height, is_empty, IsSomething}
+use Rattle.c_parser_expression_grammar.specs.Fronts.{first_place, IsSign}
+use Rattle.c_parser_expression_grammar.specs.Spans.{Span, Chain}
+use Rattle.c_parser_expression_grammar.specs.TypeNames.{IsTypeNameWord, IsBrackets, Length, Arrays, Stars, Layers, Nested, Declarator, is_one_type, counts_of, words_height, length_count, greatest, layers_height, nested_height, declared_height}
 use Rattle.c_parser_expressions.proofs.Listing.{each_append, each_length, heights_append, greatest_append}
 
 map_onto : {X Y : Type 0} (f : X → Y) (xs ys : List X) → map f (reverse_aux xs ys) ≡ reverse_aux (map f xs) (map f ys)

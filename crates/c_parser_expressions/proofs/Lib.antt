@@ -1,4 +1,4 @@
-pub use Rattle.c_parser_expressions_grammar.proofs.NameTexts
+pub use Rattle.c_parser_expression_grammar.proofs.NameTexts
 pub mod Arguments
 pub mod Climbing
 pub mod Layers

@@ -6,10 +6,10 @@ use Rattle.c_layout.specs.SyntaxTrees.{Tree, trees}
 use Rattle.c_layout.specs.declared.syntax_tree.expressions.TypeNameWord.{TypeNameWord}
 use Rattle.c_parser_tokens.specs.declared.terminals.Terminal.{Terminal}
 use Rattle.c_parser_tokens.specs.declared.terminals.Punctuator.TheVariants as p
-use Rattle.c_parser_expressions_grammar.specs.Expressions.{DeriveEach, height_of, heights_of}
-use Rattle.c_parser_expressions_grammar.specs.Fronts.{first_symbol, behind_first, IsSign}
-use Rattle.c_parser_expressions_grammar.specs.Spans.{Span, Trailed, Separated, Chain}
-use Rattle.c_parser_expressions_grammar.specs.TypeNames.{Qualifiers, is_pointer_qualifier, counted, counts_of, no_words, greatest}
+use Rattle.c_parser_expression_grammar.specs.Expressions.{DeriveEach, height_of, heights_of}
+use Rattle.c_parser_expression_grammar.specs.Fronts.{first_symbol, behind_first, IsSign}
+use Rattle.c_parser_expression_grammar.specs.Spans.{Span, Trailed, Separated, Chain}
+use Rattle.c_parser_expression_grammar.specs.TypeNames.{Qualifiers, is_pointer_qualifier, counted, counts_of, no_words, greatest}
 
 pub trailed_more : (spans : List Span) (ts a b c : List Terminal) → Trailed spans ts a → IsSign p.Comma b c → Trailed (spans ++ (record { from = a; to = b } ∷ [])) ts c
 trailed_more [] ts a b c t sign = (c, sym t, sign, refl)

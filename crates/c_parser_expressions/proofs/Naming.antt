@@ -2,12 +2,12 @@
 use Rattle.std.proofs.Common.{◌≡◌, ℕ, Bool, true, false, List, length, cond, Option, Some, None, refl, sym, ap, ◌∙◌}
 use Rattle.c_parser_tokens.specs.declared.terminals.Punctuator.TheVariants as p
 use Rattle.c_parser_tokens.specs.declared.terminals.Terminal.{Terminal}
-use Rattle.c_parser_expressions_grammar.specs.Fronts.{first_symbol, behind_first, IsSign}
-use Rattle.c_parser_expressions_grammar.specs.Readings.{Got, GotLayers, GotName, Reading, after_layers, is_left_parenthesis, is_right_parenthesis, is_left_bracket, is_right_bracket}
-use Rattle.c_parser_expressions_grammar.specs.ReadingResults.{bracketed}
-use Rattle.c_parser_expressions_grammar.specs.ExpressionReaders.{Readers}
-use Rattle.c_parser_expressions_grammar.specs.TypeNames.{is_one_type, counts_of}
-use Rattle.c_parser_expressions_grammar.specs.TypeNameReaders.{GotWords, GotStars, GotArrays, pair, with_empty, closed_length, with_length, after_arrays, declarator, stars, nested, closed_layers, no_layers, behind_stars, layered, pairs, words, after_words, of_one_type, named, begins_abstract, declared, plain, type_name}
+use Rattle.c_parser_expression_grammar.specs.Fronts.{first_symbol, behind_first, IsSign}
+use Rattle.c_parser_expression_grammar.specs.Readings.{Got, GotLayers, GotName, Reading, after_layers, is_left_parenthesis, is_right_parenthesis, is_left_bracket, is_right_bracket}
+use Rattle.c_parser_expression_grammar.specs.ReadingResults.{bracketed}
+use Rattle.c_parser_expression_grammar.specs.ExpressionReaders.{Readers}
+use Rattle.c_parser_expression_grammar.specs.TypeNames.{is_one_type, counts_of}
+use Rattle.c_parser_expression_grammar.specs.TypeNameReaders.{GotWords, GotStars, GotArrays, pair, with_empty, closed_length, with_length, after_arrays, declarator, stars, nested, closed_layers, no_layers, behind_stars, layered, pairs, words, after_words, of_one_type, named, begins_abstract, declared, plain, type_name}
 
 -- ---- brackets
 

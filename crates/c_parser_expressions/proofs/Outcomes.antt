@@ -6,11 +6,11 @@ use Rattle.std.specs.Result.{IsErrAnd}
 use Rattle.c_layout.specs.SyntaxTrees.{Tree, tree_of}
 use Rattle.c_layout.specs.declared.syntax_tree.expressions.Expr.{Expr}
 use Rattle.c_parser_tokens.specs.declared.terminals.Terminal.{Terminal}
-use Rattle.c_parser_expressions_grammar.specs.declared.heights.Parsed.{Parsed}
-use Rattle.c_parser_expressions_grammar.specs.declared.heights.Trouble.{Trouble}
-use Rattle.c_parser_expressions_grammar.specs.declared.heights.Trouble.TheVariants as trouble
-use Rattle.c_parser_expressions_grammar.specs.Readings.{Reading, got, made}
-use Rattle.c_parser_expressions_grammar.specs.ReadingResults.{OnSyntax, Reads}
+use Rattle.c_parser_expression_grammar.specs.declared.heights.Parsed.{Parsed}
+use Rattle.c_parser_expression_grammar.specs.declared.heights.Trouble.{Trouble}
+use Rattle.c_parser_expression_grammar.specs.declared.heights.Trouble.TheVariants as trouble
+use Rattle.c_parser_expression_grammar.specs.Readings.{Reading, got, made}
+use Rattle.c_parser_expression_grammar.specs.ReadingResults.{OnSyntax, Reads}
 use Rattle.c_parser_expressions.proofs.Layering.{made_is, made_none}
 
 -- an error that is handed on

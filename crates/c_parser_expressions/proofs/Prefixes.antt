@@ -6,14 +6,14 @@ use Rattle.c_layout.specs.declared.syntax_tree.expressions.Brackets.{Brackets}
 use Rattle.c_layout.specs.declared.syntax_tree.expressions.TypeNameWord.{TypeNameWord}
 use Rattle.c_parser_tokens.specs.declared.terminals.Punctuator.TheVariants as p
 use Rattle.c_parser_tokens.specs.declared.terminals.Terminal.{Terminal}
-use Rattle.c_parser_expressions_grammar.specs.declared.type_name_parts.ArrayLength.{ArrayLength}
-use Rattle.c_parser_expressions_grammar.specs.Findings.{lengths_of, brackets_of}
-use Rattle.c_parser_expressions_grammar.specs.Fronts.{first_symbol, behind_first, begins_specifiers, IsSign}
-use Rattle.c_parser_expressions_grammar.specs.Readings.{Got, GotSome, is_comma, is_right_parenthesis, is_left_bracket}
-use Rattle.c_parser_expressions_grammar.specs.ReadingResults.{bracketed, with_pair}
-use Rattle.c_parser_expressions_grammar.specs.ExpressionReaders.{Readers, some_arguments, argument_then, more_arguments, last_argument}
-use Rattle.c_parser_expressions_grammar.specs.TypeNames.{is_pointer_qualifier}
-use Rattle.c_parser_expressions_grammar.specs.TypeNameReaders.{GotWords, GotStars, GotArrays, words, word_by, with_word, word_before, qualifiers, qualified, stars, with_star, is_star, both, pairs, pair, after_arrays, no_arrays}
+use Rattle.c_parser_expression_grammar.specs.declared.type_name_parts.ArrayLength.{ArrayLength}
+use Rattle.c_parser_expression_grammar.specs.Findings.{lengths_of, brackets_of}
+use Rattle.c_parser_expression_grammar.specs.Fronts.{first_symbol, behind_first, begins_specifiers, IsSign}
+use Rattle.c_parser_expression_grammar.specs.Readings.{Got, GotSome, is_comma, is_right_parenthesis, is_left_bracket}
+use Rattle.c_parser_expression_grammar.specs.ReadingResults.{bracketed, with_pair}
+use Rattle.c_parser_expression_grammar.specs.ExpressionReaders.{Readers, some_arguments, argument_then, more_arguments, last_argument}
+use Rattle.c_parser_expression_grammar.specs.TypeNames.{is_pointer_qualifier}
+use Rattle.c_parser_expression_grammar.specs.TypeNameReaders.{GotWords, GotStars, GotArrays, words, word_by, with_word, word_before, qualifiers, qualified, stars, with_star, is_star, both, pairs, pair, after_arrays, no_arrays}
 use Rattle.c_parser_expressions.proofs.Turns.{one_left, none_left}
 
 max_zero : (n : ℕ) → max n 0 ≡ n

@@ -6,10 +6,10 @@ use Rattle.c_layout.specs.declared.syntax_tree.expressions.AssignOp.{AssignOp}
 use Rattle.c_parser_tokens.specs.declared.terminals.Terminal.{Terminal}
 use Rattle.c_parser_tokens.specs.declared.terminals.Punctuator.{Punctuator}
 use Rattle.c_parser_tokens.specs.declared.terminals.Punctuator.TheVariants as p
-use Rattle.c_parser_expressions_grammar.specs.Expressions.{Derives}
-use Rattle.c_parser_expressions_grammar.specs.Findings.{Found, FoundLevel, is_unary}
-use Rattle.c_parser_expressions_grammar.specs.Fronts.{first_place, IsSign}
-use Rattle.c_parser_expressions_grammar.specs.Levels.{assign_sign}
+use Rattle.c_parser_expression_grammar.specs.Expressions.{Derives}
+use Rattle.c_parser_expression_grammar.specs.Findings.{Found, FoundLevel, is_unary}
+use Rattle.c_parser_expression_grammar.specs.Fronts.{first_place, IsSign}
+use Rattle.c_parser_expression_grammar.specs.Levels.{assign_sign}
 
 -- what derives at a level derives at each lower one
 pub lower : (e : Tree) (known : List (List ℕ)) (l m : ℕ) (ts rest : List Terminal) → m ≤ l → Derives e known l ts rest → Derives e known m ts rest

@@ -11,12 +11,12 @@ use Rattle.c_parser_tokens.specs.declared.terminals.Punctuator.TheVariants as p
 use Rattle.c_parser_tokens.specs.declared.terminals.Symbol.{Symbol}
 use Rattle.c_parser_tokens.specs.declared.terminals.Symbol.TheVariants as symbol
 use Rattle.c_parser_tokens.specs.declared.terminals.Terminal.{Terminal}
-use Rattle.c_parser_expressions_grammar.specs.Findings.{is_unary}
-use Rattle.c_parser_expressions_grammar.specs.Fronts.{first_symbol, first_place, first_text, behind_first, IsSign, IsWord, IsName, is_identifier}
-use Rattle.c_parser_expressions_grammar.specs.Levels.{assign_of}
-use Rattle.c_parser_expressions_grammar.specs.Readings.{Got, GotSome, GotName, Reading, got, after, after_some, after_name, is_left_parenthesis, is_right_parenthesis, is_left_bracket, is_right_bracket, is_question, is_colon, expect, made}
-use Rattle.c_parser_expressions_grammar.specs.ExpressionReaders.{Readers, no_readers, parenthesized, call, name_or_call, arguments, subscript, unary_by, size_of_type, size_of_expression, cast_to, chosen, conditional, binary, assignment, assigned}
-use Rattle.c_parser_expressions_grammar.specs.TypeNameReaders.{all_readers, readers_inside}
+use Rattle.c_parser_expression_grammar.specs.Findings.{is_unary}
+use Rattle.c_parser_expression_grammar.specs.Fronts.{first_symbol, first_place, first_text, behind_first, IsSign, IsWord, IsName, is_identifier}
+use Rattle.c_parser_expression_grammar.specs.Levels.{assign_of}
+use Rattle.c_parser_expression_grammar.specs.Readings.{Got, GotSome, GotName, Reading, got, after, after_some, after_name, is_left_parenthesis, is_right_parenthesis, is_left_bracket, is_right_bracket, is_question, is_colon, expect, made}
+use Rattle.c_parser_expression_grammar.specs.ExpressionReaders.{Readers, no_readers, parenthesized, call, name_or_call, arguments, subscript, unary_by, size_of_type, size_of_expression, cast_to, chosen, conditional, binary, assignment, assigned}
+use Rattle.c_parser_expression_grammar.specs.TypeNameReaders.{all_readers, readers_inside}
 
 -- ---- budgets
 

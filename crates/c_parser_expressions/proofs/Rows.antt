@@ -10,9 +10,9 @@ use Rattle.c_parser_tokens.specs.declared.terminals.Punctuator.{Punctuator}
 use Rattle.c_parser_tokens.specs.declared.terminals.Punctuator.TheVariants as p
 use Rattle.c_parser_tokens.specs.declared.terminals.Symbol.TheVariants as symbol
 use Rattle.c_parser_tokens.specs.declared.terminals.Terminal.{Terminal}
-use Rattle.c_parser_expressions_grammar.specs.Expressions.{Derives, height_of}
-use Rattle.c_parser_expressions_grammar.specs.Fronts.{IsName, IsSign}
-use Rattle.c_parser_expressions_grammar.specs.TypeNames.{counts_of, is_one_type, words_height}
+use Rattle.c_parser_expression_grammar.specs.Expressions.{Derives, height_of}
+use Rattle.c_parser_expression_grammar.specs.Fronts.{IsName, IsSign}
+use Rattle.c_parser_expression_grammar.specs.TypeNames.{counts_of, is_one_type, words_height}
 
 abbrev at : ℕ → Place
 at n = record { file = 0; line = 1; col = n }

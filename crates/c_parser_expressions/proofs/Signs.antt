@@ -4,8 +4,8 @@ use Rattle.c_parser_tokens.specs.declared.terminals.Keyword.TheVariants as k
 use Rattle.c_parser_tokens.specs.declared.terminals.Punctuator.TheVariants as p
 use Rattle.c_parser_tokens.specs.declared.terminals.Symbol.{Symbol}
 use Rattle.c_parser_tokens.specs.declared.terminals.Symbol.TheVariants as symbol
-use Rattle.c_parser_expressions_grammar.specs.Readings.{is_left_parenthesis, is_right_parenthesis, is_left_bracket, is_right_bracket, is_question, is_colon, is_comma, is_sizeof}
-use Rattle.c_parser_expressions_grammar.specs.TypeNameReaders.{is_star}
+use Rattle.c_parser_expression_grammar.specs.Readings.{is_left_parenthesis, is_right_parenthesis, is_left_bracket, is_right_bracket, is_question, is_colon, is_comma, is_sizeof}
+use Rattle.c_parser_expression_grammar.specs.TypeNameReaders.{is_star}
 
 pub no_right_parenthesis : (s : Symbol) → s ≢ symbol.Punctuator p.RightParenthesis → is_right_parenthesis s ≡ false
 no_right_parenthesis (symbol.Punctuator p.RightParenthesis) n = absurd (n refl)

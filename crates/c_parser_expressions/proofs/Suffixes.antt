@@ -3,10 +3,10 @@ use Rattle.std.proofs.Common.{◌≡◌, ℕ, ◌+◌, ◌≤◌, List, max, ari
 use Rattle.std.proofs.lemmas.Grind.{common_steps}
 use Rattle.c_layout.specs.SyntaxTrees.{Tree}
 use Rattle.c_parser_tokens.specs.declared.terminals.Terminal.{Terminal}
-use Rattle.c_parser_expressions_grammar.specs.declared.postfix_operators.Suffix.{Suffix}
-use Rattle.c_parser_expressions_grammar.specs.declared.postfix_operators.Suffix.TheVariants as suffix
-use Rattle.c_parser_expressions_grammar.specs.Expressions.{Derives, height_of}
-use Rattle.c_parser_expressions_grammar.specs.Findings.{Found, FoundSuffix, IsSuffix, suffixed, suffix_height}
+use Rattle.c_parser_expression_grammar.specs.declared.postfix_operators.Suffix.{Suffix}
+use Rattle.c_parser_expression_grammar.specs.declared.postfix_operators.Suffix.TheVariants as suffix
+use Rattle.c_parser_expression_grammar.specs.Expressions.{Derives, height_of}
+use Rattle.c_parser_expression_grammar.specs.Findings.{Found, FoundSuffix, IsSuffix, suffixed, suffix_height}
 
 derives : (s : Suffix) (x : Tree) (known : List (List ℕ)) (ts a rest : List Terminal) → Derives x known 15 ts a → IsSuffix known s a rest → Derives (suffixed s x) known 15 ts rest
 derives (suffix.Subscript at index) x known ts a rest d s = (omega arith, a, s.1, s.2, s.0, d, s.3, s.4, s.5)

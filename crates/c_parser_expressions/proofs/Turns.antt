@@ -1,12 +1,12 @@
 -- The loops of the readers of expressions, turn by turn.
 use Rattle.std.proofs.Common.{◌≡◌, ℕ, zero, suc, ◌+◌, ◌-◌, ◌<◌, ◌≤◌, true, false, List, cond, max, Some, None, ap, ◌∙◌, arith}
 use Rattle.c_layout.specs.SyntaxTrees.{Comma}
-use Rattle.c_parser_expressions_grammar.specs.declared.operators.Infix.{Infix}
-use Rattle.c_parser_expressions_grammar.specs.Findings.{infix_tree}
-use Rattle.c_parser_expressions_grammar.specs.Fronts.{first_symbol, first_place, behind_first}
-use Rattle.c_parser_expressions_grammar.specs.Levels.{op_level, goes_on}
-use Rattle.c_parser_expressions_grammar.specs.Readings.{Got, Reading, after, is_comma, made}
-use Rattle.c_parser_expressions_grammar.specs.ExpressionReaders.{Readers, infix_from, infix_by, refuse, climb, suffix, suffixes, commas}
+use Rattle.c_parser_expression_grammar.specs.declared.operators.Infix.{Infix}
+use Rattle.c_parser_expression_grammar.specs.Findings.{infix_tree}
+use Rattle.c_parser_expression_grammar.specs.Fronts.{first_symbol, first_place, behind_first}
+use Rattle.c_parser_expression_grammar.specs.Levels.{op_level, goes_on}
+use Rattle.c_parser_expression_grammar.specs.Readings.{Got, Reading, after, is_comma, made}
+use Rattle.c_parser_expression_grammar.specs.ExpressionReaders.{Readers, infix_from, infix_by, refuse, climb, suffix, suffixes, commas}
 
 -- of n turns t are over
 pub one_left : (n t : ℕ) → t < n → n - t ≡ suc (n - (t + 1))

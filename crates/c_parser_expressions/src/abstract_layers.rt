@@ -1,15 +1,15 @@
 //! Layers of abstract declarators put together (6.7.7).
 ghost use Rattle.std.specs.Prelude.{◌≡◌, ◌+◌, ◌≤◌, ◌&&◌, false, List, [], ◌∷◌, ◌++◌, max, map, reverse, IfOk, IfErr};
 ghost use Rattle.c_layout.specs.SyntaxTrees.{trees, tree_of, layer_view, type_name_view};
-ghost use Rattle.c_parser_expressions_grammar.specs.Findings.{lengths_of, brackets_of, layer_of, layer_height, is_empty, IsSomething};
-ghost use Rattle.c_parser_expressions_grammar.specs.ReadingResults.{Reads, arrays_got, layers_got};
-ghost use Rattle.c_parser_expressions_grammar.specs.TypeNameReaders.{layered, declared};
-ghost use Rattle.c_parser_expressions_grammar.specs.TypeNames.{is_lone_star, words_height};
+ghost use Rattle.c_parser_expression_grammar.specs.Findings.{lengths_of, brackets_of, layer_of, layer_height, is_empty, IsSomething};
+ghost use Rattle.c_parser_expression_grammar.specs.ReadingResults.{Reads, arrays_got, layers_got};
+ghost use Rattle.c_parser_expression_grammar.specs.TypeNameReaders.{layered, declared};
+ghost use Rattle.c_parser_expression_grammar.specs.TypeNames.{is_lone_star, words_height};
 ghost use Rattle.c_parser_tokens.specs.declared.terminals.Terminal.{Terminal};
 
 use crate::pointer_stars::is_one_star;
 use c_layout::{AbstractLayer, Brackets, Expr, TypeName, TypeNameWord};
-use c_parser_expressions_grammar::{
+use c_parser_expression_grammar::{
     AbstractParts, ArrayLength, ArrayParts, Parsed, Trouble, TypeNameParts, add_expression, made,
 };
 use std::alloc::{AllocError, Global};

@@ -1,14 +1,14 @@
 //! Expressions from the comma operator down to the binary operators (6.5.5 to 6.5.17).
 ghost use Rattle.std.specs.Prelude.{◌≡◌, ◌<◌, ◌≤◌, IfOk};
 ghost use Rattle.c_layout.specs.SyntaxTrees.{tree_of};
-ghost use Rattle.c_parser_expressions_grammar.specs.Findings.{Found, FoundLevel, is_unary};
-ghost use Rattle.c_parser_expressions_grammar.specs.Readings.{got};
-ghost use Rattle.c_parser_expressions_grammar.specs.ReadingResults.{Reads};
-ghost use Rattle.c_parser_expressions_grammar.specs.TypeNameReaders.{all_readers};
+ghost use Rattle.c_parser_expression_grammar.specs.Findings.{Found, FoundLevel, is_unary};
+ghost use Rattle.c_parser_expression_grammar.specs.Readings.{got};
+ghost use Rattle.c_parser_expression_grammar.specs.ReadingResults.{Reads};
+ghost use Rattle.c_parser_expression_grammar.specs.TypeNameReaders.{all_readers};
 
 use crate::unary_expressions::cast;
 use c_layout::Expr;
-use c_parser_expressions_grammar::{
+use c_parser_expression_grammar::{
     LOGICAL_OR, Parsed, Reader, Scope, Trouble, assign_at, assign_node, assign_sign, comma_node,
     conditional_node, infix_from, infix_level, infix_node, infix_sign, inner,
 };

@@ -9,7 +9,7 @@ mod postfix_expressions;
 mod type_names;
 mod unary_expressions;
 
-pub use c_parser_expressions_grammar::{
+pub use c_parser_expression_grammar::{
     GREATEST_HEIGHT, Parsed, Reader, Scope, SpecifierCounts, Trouble, TypedefNames, inner,
     is_qualifier, made, storage_class, type_word,
 };

@@ -1,11 +1,11 @@
 //! The stars of declarators (6.7.6.1).
 ghost use Rattle.std.specs.Prelude.{◌≡◌, ◌≢◌, length, IfOk, IfErr};
-ghost use Rattle.c_parser_expressions_grammar.specs.Fronts.{first_symbol, behind_first};
-ghost use Rattle.c_parser_expressions_grammar.specs.TypeNames.{is_pointer_qualifier, Qualifiers, IsStar, Stars, is_one_star};
-ghost use Rattle.c_parser_expressions_grammar.specs.ReadingResults.{OnSyntax};
-ghost use Rattle.c_parser_expressions_grammar.specs.TypeNameReaders.{qualified, stars};
+ghost use Rattle.c_parser_expression_grammar.specs.Fronts.{first_symbol, behind_first};
+ghost use Rattle.c_parser_expression_grammar.specs.TypeNames.{is_pointer_qualifier, Qualifiers, IsStar, Stars, is_one_star};
+ghost use Rattle.c_parser_expression_grammar.specs.ReadingResults.{OnSyntax};
+ghost use Rattle.c_parser_expression_grammar.specs.TypeNameReaders.{qualified, stars};
 
-use c_parser_expressions_grammar::{Reader, Trouble};
+use c_parser_expression_grammar::{Reader, Trouble};
 use c_parser_tokens::{Keyword, Punctuator, Symbol};
 use std::alloc::Global;
 

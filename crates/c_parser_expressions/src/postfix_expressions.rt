@@ -1,17 +1,17 @@
 //! Primary and postfix expressions (6.5.1, 6.5.2).
 ghost use Rattle.std.specs.Prelude.{◌≡◌, ◌≤◌, ℕ, cond, length, map, IfOk, Some, None};
 ghost use Rattle.c_layout.specs.SyntaxTrees.{trees, tree_of};
-ghost use Rattle.c_parser_expressions_grammar.specs.Findings.{Found, FoundSome, FoundArguments, FoundSuffix};
-ghost use Rattle.c_parser_expressions_grammar.specs.Levels.{goes_on};
-ghost use Rattle.c_parser_expressions_grammar.specs.Fronts.{first_symbol, is_identifier};
-ghost use Rattle.c_parser_expressions_grammar.specs.Readings.{got};
-ghost use Rattle.c_parser_expressions_grammar.specs.ReadingResults.{Reads, ReadsSuffix};
-ghost use Rattle.c_parser_expressions_grammar.specs.ExpressionReaders.{no_readers, some_arguments, arguments, name_or_call, parenthesized, primary_by, primary, subscript, suffix_by, suffix};
-ghost use Rattle.c_parser_expressions_grammar.specs.TypeNameReaders.{all_readers, readers_inside};
+ghost use Rattle.c_parser_expression_grammar.specs.Findings.{Found, FoundSome, FoundArguments, FoundSuffix};
+ghost use Rattle.c_parser_expression_grammar.specs.Levels.{goes_on};
+ghost use Rattle.c_parser_expression_grammar.specs.Fronts.{first_symbol, is_identifier};
+ghost use Rattle.c_parser_expression_grammar.specs.Readings.{got};
+ghost use Rattle.c_parser_expression_grammar.specs.ReadingResults.{Reads, ReadsSuffix};
+ghost use Rattle.c_parser_expression_grammar.specs.ExpressionReaders.{no_readers, some_arguments, arguments, name_or_call, parenthesized, primary_by, primary, subscript, suffix_by, suffix};
+ghost use Rattle.c_parser_expression_grammar.specs.TypeNameReaders.{all_readers, readers_inside};
 
 use crate::expressions::{assignment, expression};
 use c_layout::{Constant, Expr, Name};
-use c_parser_expressions_grammar::{
+use c_parser_expression_grammar::{
     Parsed, Reader, Scope, Suffix, Trouble, add_expression, call_node, inner, leaf_node,
     paren_node, step_at, step_sign, suffix_node,
 };

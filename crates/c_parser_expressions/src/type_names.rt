@@ -1,19 +1,19 @@
 //! Type names and abstract declarators (6.7.7).
 ghost use Rattle.std.specs.Prelude.{◌≡◌, true, length, map, List, Option, IfOk, MatchResult};
 ghost use Rattle.c_layout.specs.SyntaxTrees.{trees, tree_of, layer_view, type_name_view};
-ghost use Rattle.c_parser_expressions_grammar.specs.Findings.{FoundPair, FoundArrays, FoundLayers, FoundNested, FoundTypeName};
-ghost use Rattle.c_parser_expressions_grammar.specs.Spans.{Chain};
-ghost use Rattle.c_parser_expressions_grammar.specs.TypeNames.{IsTypeNameWord, type_word_of, words_height, is_one_type, counts_of};
-ghost use Rattle.c_parser_expressions_grammar.specs.Fronts.{first_symbol};
-ghost use Rattle.c_parser_expressions_grammar.specs.ReadingResults.{Reads, Refuses, bracketed, with_pair, arrays_got, layers_got};
-ghost use Rattle.c_parser_expressions_grammar.specs.TypeNameReaders.{GotArrays, other_word, keyword_word, word_by, words, after_words, of_one_type, pair, after_arrays, pairs, nested, begins_abstract, all_readers, readers_inside};
+ghost use Rattle.c_parser_expression_grammar.specs.Findings.{FoundPair, FoundArrays, FoundLayers, FoundNested, FoundTypeName};
+ghost use Rattle.c_parser_expression_grammar.specs.Spans.{Chain};
+ghost use Rattle.c_parser_expression_grammar.specs.TypeNames.{IsTypeNameWord, type_word_of, words_height, is_one_type, counts_of};
+ghost use Rattle.c_parser_expression_grammar.specs.Fronts.{first_symbol};
+ghost use Rattle.c_parser_expression_grammar.specs.ReadingResults.{Reads, Refuses, bracketed, with_pair, arrays_got, layers_got};
+ghost use Rattle.c_parser_expression_grammar.specs.TypeNameReaders.{GotArrays, other_word, keyword_word, word_by, words, after_words, of_one_type, pair, after_arrays, pairs, nested, begins_abstract, all_readers, readers_inside};
 ghost use Rattle.c_parser_tokens.specs.declared.terminals.Terminal.{Terminal};
 
 use crate::abstract_layers::{add_brackets, declared_name, layered, plain_name};
 use crate::expressions::conditional;
 use crate::pointer_stars::stars;
 use c_layout::TypeNameWord;
-use c_parser_expressions_grammar::{
+use c_parser_expression_grammar::{
     AbstractParts, ArrayLength, ArrayParts, Parsed, Reader, Scope, SpecifierCounts, Trouble,
     TypeNameParts, count_word, inner, is_qualifier, storage_class, type_word, words_height,
 };

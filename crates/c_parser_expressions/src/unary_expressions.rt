@@ -1,18 +1,18 @@
 //! Casts and unary expressions (6.5.3, 6.5.4).
 ghost use Rattle.std.specs.Prelude.{◌≡◌, ◌≤◌, IfOk, Some, None};
 ghost use Rattle.c_layout.specs.SyntaxTrees.{tree_of};
-ghost use Rattle.c_parser_expressions_grammar.specs.Findings.{Found};
-ghost use Rattle.c_parser_expressions_grammar.specs.Fronts.{first_symbol};
-ghost use Rattle.c_parser_expressions_grammar.specs.Levels.{step_of, unary_of};
-ghost use Rattle.c_parser_expressions_grammar.specs.Readings.{got, expect, is_sizeof, is_left_parenthesis};
-ghost use Rattle.c_parser_expressions_grammar.specs.ReadingResults.{Reads};
-ghost use Rattle.c_parser_expressions_grammar.specs.ExpressionReaders.{size_of_type, size_of_expression, unary_by, cast_to};
-ghost use Rattle.c_parser_expressions_grammar.specs.TypeNameReaders.{all_readers, readers_inside};
+ghost use Rattle.c_parser_expression_grammar.specs.Findings.{Found};
+ghost use Rattle.c_parser_expression_grammar.specs.Fronts.{first_symbol};
+ghost use Rattle.c_parser_expression_grammar.specs.Levels.{step_of, unary_of};
+ghost use Rattle.c_parser_expression_grammar.specs.Readings.{got, expect, is_sizeof, is_left_parenthesis};
+ghost use Rattle.c_parser_expression_grammar.specs.ReadingResults.{Reads};
+ghost use Rattle.c_parser_expression_grammar.specs.ExpressionReaders.{size_of_type, size_of_expression, unary_by, cast_to};
+ghost use Rattle.c_parser_expression_grammar.specs.TypeNameReaders.{all_readers, readers_inside};
 
 use crate::postfix_expressions::postfix;
 use crate::type_names::type_name;
 use c_layout::{Expr, StepOp, UnaryOp};
-use c_parser_expressions_grammar::{
+use c_parser_expression_grammar::{
     Parsed, Reader, Scope, Trouble, cast_node, inner, prefix_node, sizeof_node, sizeof_type_node,
     step_at, step_sign, unary_at, unary_node, unary_sign,
 };

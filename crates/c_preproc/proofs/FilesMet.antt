@@ -11,14 +11,14 @@ use Rattle.cc_base.specs.declared.lexemes.Token.{Token}
 use Rattle.cc_base.specs.declared.refusals.Fault.{Fault}
 use Rattle.cc_base.specs.declared.refusals.Stop.{Stop}
 use Rattle.cc_base.specs.declared.refusals.Stop.TheVariants as stop
-use Rattle.c_tokens.specs.declared.pieces.Shape.{Shape}
-use Rattle.c_tokens.specs.declared.pieces.Shape.TheVariants as shape
-use Rattle.c_tokens.specs.declared.pieces.State.{State}
-use Rattle.c_tokens.specs.Splicing.{Cell, bytes_of, place_of}
-use Rattle.c_tokens.specs.Cutting.{after, start, token_list, Bit, tokens_of, Lexes, Stuck, Refuses}
-use Rattle.c_tokens.specs.Cutting.Stuck.{nothing, many, bad}
-use Rattle.c_tokens.specs.FileTokens.{file_tokens, IsFileAnswer}
-use Rattle.c_tokens.proofs.Total.{answer_is}
+use Rattle.c_lexer.specs.declared.pieces.Shape.{Shape}
+use Rattle.c_lexer.specs.declared.pieces.Shape.TheVariants as shape
+use Rattle.c_lexer.specs.declared.pieces.State.{State}
+use Rattle.c_lexer.specs.Splicing.{Cell, bytes_of, place_of}
+use Rattle.c_lexer.specs.Cutting.{after, start, token_list, Bit, tokens_of, Lexes, Stuck, Refuses}
+use Rattle.c_lexer.specs.Cutting.Stuck.{nothing, many, bad}
+use Rattle.c_lexer.specs.FileTokens.{file_tokens, IsFileAnswer}
+use Rattle.c_lexer.proofs.Total.{answer_is}
 use Rattle.c_preproc_macros.specs.declared.lexeme.Mark.{Mark}
 use Rattle.c_preproc_macros.specs.declared.lexeme.Lexeme.{Lexeme}
 use Rattle.c_preproc_macros.specs.declared.lexeme.Lexeme.TheVariants.{Name, Painted, Open, Close, Comma, Other}

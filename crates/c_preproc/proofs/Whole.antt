@@ -6,7 +6,7 @@ use Rattle.cc_base.specs.declared.refusals.Stop.{Stop}
 use Rattle.cc_base.specs.declared.refusals.Stop.TheVariants as stop
 use Rattle.c_layout.specs.declared.data_model.Model.{Model}
 use Rattle.c_layout.specs.declared.unit_tokens.Unit7.{Unit7}
-use Rattle.c_tokens.specs.FileTokens.{file_tokens}
+use Rattle.c_lexer.specs.FileTokens.{file_tokens}
 use Rattle.c_preproc_macros.specs.Numbering.{number_in, with_text}
 use Rattle.c_preproc_directives.specs.OpenFiles.{Opened}
 use Rattle.c_preproc.specs.Searching.{found_of}

@@ -11,7 +11,7 @@ use Rattle.cc_base.specs.declared.refusals.Fault.{Fault}
 use Rattle.cc_base.specs.declared.refusals.Refusal.TheVariants as refusal
 use Rattle.cc_base.specs.declared.refusals.Stop.{Stop}
 use Rattle.cc_base.specs.declared.refusals.Stop.TheVariants as stop
-use Rattle.c_tokens.specs.Cutting.{fault_of}
+use Rattle.c_lexer.specs.Cutting.{fault_of}
 use Rattle.c_preproc_macros.specs.declared.lexeme.Mark.{Mark}
 use Rattle.c_preproc_macros.specs.declared.lexeme.Lexeme.{Lexeme}
 use Rattle.c_preproc_macros.specs.declared.lexeme.Lexeme.TheVariants.{Name, Other}

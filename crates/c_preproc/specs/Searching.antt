@@ -2,7 +2,7 @@
 use Rattle.std.specs.Prelude.{◌≡◌, ℕ, suc, ◌==◌, if◌then◌else◌, List, [], ◌∷◌, ◌++◌, take, map, Option, Some, None, ◌⊎◌, codes, option_map}
 use Rattle.cc_base.specs.Outside.{Files, file_at, Rose}
 use Rattle.c_layout.specs.declared.data_model.Model.{Model}
-use Rattle.lib_models.specs.Headers.{header_text}
+use Rattle.c_library.specs.Headers.Headers.{header_text}
 
 -- the place behind the last `/` of the rest of a name, or the last one before that
 abbrev pub slash_end : ℕ → ℕ → List ℕ → ℕ

@@ -7,7 +7,7 @@ use Rattle.cc_base.specs.declared.refusals.Stop.{Stop}
 use Rattle.cc_base.specs.declared.refusals.Stop.TheVariants as stop
 use Rattle.c_layout.specs.declared.data_model.Model.{Model}
 use Rattle.c_layout.specs.declared.unit_tokens.Unit7.{Unit7}
-use Rattle.c_tokens.specs.Cutting.{fault_of}
+use Rattle.c_lexer.specs.Cutting.{fault_of}
 use Rattle.c_preproc_directives.specs.OpenFiles.{Opened, opened_of}
 use Rattle.c_preproc_directives.specs.declared.open_files.OpenFile.{OpenFile}
 use Rattle.c_preproc.specs.declared.found_file.FoundFile.{FoundFile}

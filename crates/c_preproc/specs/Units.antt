@@ -6,8 +6,8 @@ use Rattle.cc_base.specs.declared.lexemes.Token.{Token}
 use Rattle.cc_base.specs.declared.refusals.Fault.{Fault}
 use Rattle.cc_base.specs.declared.refusals.Refusal.TheVariants as refusal
 use Rattle.c_layout.specs.declared.data_model.Model.{Model}
-use Rattle.c_tokens.specs.Cutting.{fault_of}
-use Rattle.c_tokens.specs.FileTokens.{file_tokens}
+use Rattle.c_lexer.specs.Cutting.{fault_of}
+use Rattle.c_lexer.specs.FileTokens.{file_tokens}
 use Rattle.c_preproc_macros.specs.declared.lexeme.Lexeme.{Lexeme}
 use Rattle.c_preproc_macros.specs.Numbering.{number_in, with_text}
 use Rattle.c_preproc_directives.specs.Directives.{is_conditional, is_include}

@@ -1,6 +1,6 @@
 //! Finds an included file (6.10.2).
 ghost use Rattle.std.specs.Prelude.{◌≡◌, ◌≤◌, ◌++◌, ◌∷◌, [], ℕ, Option, None, Some, true, length, map, string_bytes, option_map, slice_get, codes, IfOk, IfErr, IfSome};
-ghost use Rattle.lib_models.specs.Headers.{header_text};
+ghost use Rattle.c_library.specs.Headers.Headers.{header_text};
 ghost use Rattle.c_layout.specs.Models.{is_model};
 ghost use Rattle.c_preproc.specs.Searching.{searched_names, built_in};
 ghost use Rattle.std.specs.Prelude.{List};
@@ -12,8 +12,8 @@ ghost use Rattle.c_preproc.specs.Told.{IsLongStop, Reads, Seeks};
 use crate::file_names::FileNames;
 use crate::found_file::FoundFile;
 use c_layout::Model;
+use c_library::headers::header;
 use cc_base::{Fault, Place, Refusal, Stop, Tree, TreeFault};
-use lib_models::header;
 use std::alloc::Global;
 
 /// The refusal of a file that is too long; its name joins the list.

@@ -2,7 +2,7 @@
 ghost use Rattle.std.specs.Prelude.{◌≡◌, ◌∷◌, [], Some, not, true, false, IfErr, IfOk, option_map};
 ghost use Rattle.c_preproc_macros.specs.Numbering.{texts_of};
 ghost use Rattle.c_preproc_conditions.specs.DefinedNames.{named_of};
-ghost use Rattle.c_tokens.specs.Cutting.{fault_of};
+ghost use Rattle.c_lexer.specs.Cutting.{fault_of};
 ghost use Rattle.c_preproc.specs.Causes.{IsOwn, IsOwnRefusal};
 ghost use Rattle.c_preproc_directives.specs.OpenFiles.{opened_of};
 ghost use Rattle.c_preproc.specs.Known.{known_of, reading_of, Gives, start, trouble_fault, unclosed_fault, uneven_fault, condition_fault, appended, text_read, condition, decided, begun_if, begun_ifdef, turned_elif, else_turned, if_ended, define, undefine, pragma, is_once, name_of, only_name, name_before, first_name, is_nil, define_as, condition_expanded, IsConditionStop};

@@ -1,5 +1,2 @@
-pub mod UnitDefinitions
-pub mod UnitEntries
-pub mod Streams
-pub mod FunctionDefinitions
-pub mod UnitChecks
+pub mod FileScope
+pub mod Units

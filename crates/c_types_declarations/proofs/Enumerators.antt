@@ -11,8 +11,8 @@ use Rattle.c_layout.specs.declared.syntax_tree.declarations.Enumerator.{Enumerat
 use Rattle.c_types_scopes.specs.Answers.{after, Leads}
 use Rattle.c_types_scopes.specs.Refusals.{Ruled}
 use Rattle.c_types_scopes.specs.States.{State}
-use Rattle.c_types_expressions.specs.Expressions.{before}
-use Rattle.c_types_expressions.proofs.Walks.{behind}
+use Rattle.c_types_expressions.specs.Expressions.Expressions.{before}
+use Rattle.c_types_expressions.proofs.expressions.Walks.{behind}
 use Rattle.c_types_declarations.specs.Enumerations.{declare_enumerator, enumerator_values}
 
 abbrev pub Values : Type 0

@@ -10,8 +10,8 @@ use Rattle.c_layout.specs.DeclarationTrees as tree
 use Rattle.c_layout.specs.DeclarationTrees.{NameView, SuffixView, DeclaratorLayerView, DeclaratorView, SpecTree, MemberTree, spec_trees, member_trees}
 use Rattle.c_layout.specs.StructViews.{StructView}
 use Rattle.c_layout.specs.declared.syntax_tree.declarations.TypeWord.TheVariants as word
-use Rattle.c_types_rules.specs.declared.integer_kinds.Rank.TheVariants as rank
-use Rattle.c_types_rules.specs.IntegerKinds.{kind_of}
+use Rattle.c_types_rules.specs.declared.rules.integer_kinds.Rank.TheVariants as rank
+use Rattle.c_types_rules.specs.Rules.IntegerKinds.{kind_of}
 use Rattle.c_types_scopes.specs.DeclaredTypes.{DeclaredView, plain}
 use Rattle.c_types_scopes.specs.Refusals.{Ruled, constant_needed}
 use Rattle.c_types_scopes.specs.ScopeTables.{newest_from}

@@ -12,7 +12,7 @@ use Rattle.c_types_scopes.specs.States.{State}
 use Rattle.c_types_scopes.specs.TypeSteps.{declarator_type}
 use Rattle.c_types_scopes.specs.declared.type_steps.TypeStep.{TypeStep}
 use Rattle.c_types_scopes.specs.declared.type_steps.TypeStep.TheVariants as step
-use Rattle.c_types_expressions.specs.Expressions as expressions
+use Rattle.c_types_expressions.specs.Expressions.Expressions as expressions
 use Rattle.c_types_declarations.specs.declared.declarators.TypedSteps.{TypedSteps}
 
 -- the steps of a declarator from its name outwards, and whether each length that it gives is a constant above 0

@@ -4,9 +4,9 @@ use Rattle.cc_base.specs.declared.diagnostics.Place.{Place}
 use Rattle.c_layout.specs.CheckedTrees.{TermTree}
 use Rattle.c_layout.specs.SyntaxTrees.{Tree}
 use Rattle.c_layout.specs.DeclarationTrees.{NameView, EnumeratorView}
-use Rattle.c_types_rules.specs.IntegerKinds.{kind_of}
-use Rattle.c_types_rules.specs.ConstantFolding.{has_number}
-use Rattle.c_types_rules.specs.declared.integer_kinds.Rank.TheVariants as rank
+use Rattle.c_types_rules.specs.Rules.IntegerKinds.{kind_of}
+use Rattle.c_types_rules.specs.Rules.ConstantFolding.{has_number}
+use Rattle.c_types_rules.specs.declared.rules.integer_kinds.Rank.TheVariants as rank
 use Rattle.c_types_scopes.specs.Answers.{after}
 use Rattle.c_types_scopes.specs.Names.{number_in, found_here, found_tag_here}
 use Rattle.c_types_scopes.specs.Refusals.{Ruled, constant_needed, redeclared}
@@ -15,7 +15,7 @@ use Rattle.c_types_scopes.specs.declared.meanings.Tag.{Tag}
 use Rattle.c_types_scopes.specs.declared.meanings.Tag.TheVariants as tag
 use Rattle.c_types_scopes.specs.declared.meanings.Meaning.TheVariants as meaning
 use Rattle.c_types_operands.specs.Operands.{OperandView, term_of, term_type, term_constant, is_integer}
-use Rattle.c_types_expressions.specs.Expressions.{typed, before}
+use Rattle.c_types_expressions.specs.Expressions.Expressions.{typed, before}
 use Rattle.c_types_declarations.specs.Specifiers.{is_library_name}
 use Rattle.c_types_declarations.specs.ContextSteps.{with_tag, with_meaning}
 

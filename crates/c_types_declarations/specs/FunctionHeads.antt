@@ -8,7 +8,7 @@ use Rattle.c_types_scopes.specs.Known.{Known}
 use Rattle.c_types_scopes.specs.DeclaredTypes.{DeclaredView, declared_view}
 use Rattle.c_types_scopes.specs.Refusals.{Ruled}
 use Rattle.c_types_scopes.specs.States.{State}
-use Rattle.c_types_expressions.specs.Expressions.{before}
+use Rattle.c_types_expressions.specs.Expressions.Expressions.{before}
 use Rattle.c_types_declarations.specs.Declarators.{declared_type}
 use Rattle.c_types_declarations.specs.Specifiers.{SpecifiedView}
 use Rattle.c_types_declarations.specs.SpecifierTrees.{specifiers}

@@ -8,12 +8,12 @@ use Rattle.c_layout.specs.DeclarationTrees.{NameView, SpecTree, SpecTrees, Membe
 use Rattle.c_layout.specs.declared.syntax_tree.expressions.Name.{Name}
 use Rattle.c_layout.specs.declared.syntax_tree.declarations.TypeWord.{TypeWord}
 use Rattle.c_layout.specs.declared.syntax_tree.declarations.Storage.{Storage}
-use Rattle.c_types_rules.specs.TypeWords.{with_word}
+use Rattle.c_types_rules.specs.Rules.TypeWords.{with_word}
 use Rattle.c_types_scopes.specs.Answers.{after, kept}
 use Rattle.c_types_scopes.specs.DeclaredTypes.{DeclaredView}
 use Rattle.c_types_scopes.specs.Refusals.{Ruled, type_fault}
 use Rattle.c_types_scopes.specs.States.{State}
-use Rattle.c_types_expressions.specs.TypeNames as names
+use Rattle.c_types_primary.specs.TypeNames as names
 use Rattle.c_types_declarations.specs.Enumerations.{enumeration}
 use Rattle.c_types_declarations.specs.Specifiers.{SpecifiedView, ReadingView, nothing_read, with_struct, with_enumeration, said}
 use Rattle.c_types_declarations.specs.StructBodies.{alone_tag, declared_members, begun_body, ended}

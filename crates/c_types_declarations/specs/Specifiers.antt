@@ -5,14 +5,14 @@ use Rattle.cc_base.specs.declared.diagnostics.Place.{Place}
 use Rattle.c_layout.specs.Types as ty
 use Rattle.c_layout.specs.declared.data_model.Model.{Model}
 use Rattle.c_layout.specs.declared.syntax_tree.declarations.Storage.{Storage}
-use Rattle.lib_models.specs.Library.{function_named}
-use Rattle.c_types_rules.specs.IntegerKinds.{kind_of}
-use Rattle.c_types_rules.specs.TypeWords as words
-use Rattle.c_types_rules.specs.TypeWords.{no_words}
-use Rattle.c_types_rules.specs.declared.integer_kinds.Rank.TheVariants as rank
-use Rattle.c_types_rules.specs.declared.type_words.NamedKind.{NamedKind}
-use Rattle.c_types_rules.specs.declared.type_words.NamedKind.TheVariants as kind
-use Rattle.c_types_rules.specs.declared.type_words.WordCounts.{WordCounts}
+use Rattle.c_library.specs.Headers.Library.{function_named}
+use Rattle.c_types_rules.specs.Rules.IntegerKinds.{kind_of}
+use Rattle.c_types_rules.specs.Rules.TypeWords as words
+use Rattle.c_types_rules.specs.Rules.TypeWords.{no_words}
+use Rattle.c_types_rules.specs.declared.rules.integer_kinds.Rank.TheVariants as rank
+use Rattle.c_types_rules.specs.declared.rules.type_words.NamedKind.{NamedKind}
+use Rattle.c_types_rules.specs.declared.rules.type_words.NamedKind.TheVariants as kind
+use Rattle.c_types_rules.specs.declared.rules.type_words.WordCounts.{WordCounts}
 use Rattle.c_types_scopes.specs.Known.{Known}
 use Rattle.c_types_scopes.specs.Refusals.{Ruled, type_fault}
 use Rattle.c_types_scopes.specs.DeclaredTypes.{DeclaredView, declared_view, plain}

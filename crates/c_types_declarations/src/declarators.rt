@@ -6,12 +6,12 @@ ghost use Rattle.c_types_scopes.specs.Answers.{Gives, Leads};
 ghost use Rattle.c_types_scopes.specs.Known.{known};
 ghost use Rattle.c_types_scopes.specs.DeclaredTypes.{declared_view};
 ghost use Rattle.c_types_scopes.specs.States.{state};
-ghost use Rattle.c_types_expressions.specs.Lengths.{length_view};
+ghost use Rattle.c_types_expressions.specs.Expressions.Lengths.{length_view};
 ghost use Rattle.c_types_declarations.specs.Declarators as spec;
 ghost use Rattle.c_types_declarations.specs.Declarators.{steps_view};
 
 use c_layout::{ArraySuffix, CType, DeclaratorLayer};
-use c_types_expressions::length;
+use c_types_expressions::expressions::length;
 use c_types_scopes::{Context, DeclaredType, TypeStep, constant_needed, stepped, type_fault};
 use cc_base::{Memory, Place, Stop};
 

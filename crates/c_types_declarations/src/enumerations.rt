@@ -11,8 +11,8 @@ ghost use Rattle.c_types_declarations.specs.Enumerations as spec;
 use crate::context_steps::{declare_meaning, declare_tag};
 use crate::specifiers::is_library_name;
 use c_layout::{CType, CheckedTerm, Enumerator, Expr, Name};
-use c_types_expressions::{Operand, term_of, typed};
-use c_types_rules::{has_number, int_kind};
+use c_types_expressions::expressions::{Operand, term_of, typed};
+use c_types_rules::rules::{has_number, int_kind};
 use c_types_scopes::{Context, Meaning, Tag, constant_needed, redeclared};
 use cc_base::{Memory, Place, Stop};
 

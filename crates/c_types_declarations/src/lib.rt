@@ -9,7 +9,7 @@ mod specifier_trees;
 mod specifiers;
 mod struct_bodies;
 
-pub use c_types_braced_lists::initializer_of;
+pub use c_types_expressions::braced_lists::initializer_of;
 pub use c_types_initializers::{Initialized, static_stores};
 pub use declarators::{declared_type, typed_steps};
 pub use parameters::{FunctionHead, function_head};

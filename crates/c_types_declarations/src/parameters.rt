@@ -17,7 +17,7 @@ use crate::specifier_trees::specifiers_of;
 use crate::specifiers::Specified;
 use crate::struct_bodies::is_stored;
 use c_layout::{CType, Declarator, FunctionDeclarator, Name, Parameter, Parameters, Storage};
-use c_types_expressions::is_scalar;
+use c_types_expressions::expressions::is_scalar;
 use c_types_operands::is_void;
 use c_types_scopes::{Context, DeclaredType, Meaning, redeclared, type_fault};
 use cc_base::{Memory, Place, Stop};

@@ -12,7 +12,7 @@ use crate::enumerations::enumeration;
 use crate::specifiers::{Reading, Specified, said};
 use crate::struct_bodies::{alone_tag, begun_body, declared_members, ended};
 use c_layout::{Member, Name, SpecWord, StructLayout};
-use c_types_expressions::{enumeration_tag, struct_tag, typedef_named};
+use c_types_expressions::expressions::{enumeration_tag, struct_tag, typedef_named};
 use c_types_scopes::{Context, type_fault};
 use cc_base::{Place, Stop};
 

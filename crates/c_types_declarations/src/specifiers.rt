@@ -7,10 +7,10 @@ ghost use Rattle.c_types_declarations.specs.Specifiers as spec;
 ghost use Rattle.c_types_declarations.specs.Specifiers.{is_utf8, specified_view, reading_view};
 
 use c_layout::{CType, Storage};
-use c_types_rules::{NamedKind, WordCounts, int_kind};
+use c_library::headers::signature;
+use c_types_rules::rules::{NamedKind, WordCounts, int_kind};
 use c_types_scopes::{Context, DeclaredType, type_fault};
 use cc_base::{Place, Stop, Text};
-use lib_models::signature;
 
 /// What specifiers say.
 #[derive(Drop)]

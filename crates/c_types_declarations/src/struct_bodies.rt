@@ -15,7 +15,7 @@ use crate::context_steps::{begin_body, complete, declare_struct, declare_tag, no
 use crate::declarators::declared_type;
 use crate::specifiers::Specified;
 use c_layout::{Declarator, Name, Storage, StructLayout, StructType};
-use c_types_rules::size_if_complete;
+use c_types_rules::rules::size_if_complete;
 use c_types_scopes::{Context, DeclaredType, Tag, redeclared, type_fault};
 use cc_base::{Memory, Place, Stop};
 

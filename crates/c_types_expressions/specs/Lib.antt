@@ -1,5 +1,2 @@
-pub mod Lengths
-pub mod Leaves
 pub mod Expressions
-pub use Rattle.c_types_primary.specs.TypeNames
-pub use Rattle.c_types_operands.specs.Operands
+pub mod BracedLists

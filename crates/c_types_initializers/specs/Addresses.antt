@@ -10,7 +10,7 @@ use Rattle.c_layout.specs.declared.checked_tree.checked_units.StaticBase.{Static
 use Rattle.c_layout.specs.declared.checked_tree.checked_units.StaticBase.TheVariants as base
 use Rattle.c_layout.specs.declared.checked_tree.checked_units.StaticValue.{StaticValue}
 use Rattle.c_layout.specs.declared.checked_tree.checked_units.StaticValue.TheVariants as value
-use Rattle.c_types_rules.specs.ConstantFolding.{converted}
+use Rattle.c_types_rules.specs.Rules.ConstantFolding.{converted}
 use Rattle.c_types_scopes.specs.Known.{Known, size_of}
 use Rattle.c_types_operands.specs.Operands.{term_type, term_constant, is_integer}
 use Rattle.c_types_initializers.specs.declared.address_constants.Address.{Address}

@@ -10,7 +10,7 @@ use c_layout::{
     CType, CheckedTerm, Lvalue, LvalueForm, ObjectRef, StaticBase, StaticValue, TermForm,
 };
 use c_types_operands::is_integer;
-use c_types_rules::converted;
+use c_types_rules::rules::converted;
 use c_types_scopes::Context;
 use cc_base::IntType;
 

@@ -5,9 +5,9 @@ use Rattle.cc_base.specs.declared.int_types.IntType.{IntType}
 use Rattle.c_layout.specs.Types.{Ty, Int}
 use Rattle.c_layout.specs.CheckedTrees as tree
 use Rattle.c_layout.specs.declared.syntax_tree.expressions.BinaryOp.{BinaryOp}
-use Rattle.c_types_rules.specs.IntegerKinds.{kind_of, promoted, common}
-use Rattle.c_types_rules.specs.declared.integer_kinds.Rank.TheVariants as rank
-use Rattle.c_types_rules.specs.ConstantFolding.{folded, shifted}
+use Rattle.c_types_rules.specs.Rules.IntegerKinds.{kind_of, promoted, common}
+use Rattle.c_types_rules.specs.declared.rules.integer_kinds.Rank.TheVariants as rank
+use Rattle.c_types_rules.specs.Rules.ConstantFolding.{folded, shifted}
 use Rattle.c_types_scopes.specs.Known.{Known}
 use Rattle.c_types_scopes.specs.Refusals.{Ruled, type_fault}
 use Rattle.c_types_operands.specs.Operands.{OperandView, ValueView, node, number, term_type, term_constant}

@@ -6,9 +6,9 @@ use Rattle.c_layout.specs.CheckedTrees as tree
 use Rattle.c_layout.specs.CheckedTrees.{TermTree}
 use Rattle.c_layout.specs.declared.syntax_tree.expressions.BinaryOp.{BinaryOp}
 use Rattle.c_layout.specs.declared.syntax_tree.expressions.BinaryOp.TheVariants as op
-use Rattle.c_types_rules.specs.TypeConversions.{paired_types}
-use Rattle.c_types_rules.specs.declared.type_conversions.Pairing.{Pairing}
-use Rattle.c_types_rules.specs.declared.type_conversions.Pairing.TheVariants as pair
+use Rattle.c_types_rules.specs.Rules.TypeConversions.{paired_types}
+use Rattle.c_types_rules.specs.declared.rules.type_conversions.Pairing.{Pairing}
+use Rattle.c_types_rules.specs.declared.rules.type_conversions.Pairing.TheVariants as pair
 use Rattle.c_types_scopes.specs.Known.{Known}
 use Rattle.c_types_scopes.specs.Refusals.{Ruled, type_fault, pointer_integer}
 use Rattle.c_types_operands.specs.Operands.{OperandView, ValueView, node, plain, value_of, term_type, is_null}

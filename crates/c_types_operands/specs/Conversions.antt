@@ -9,9 +9,9 @@ use Rattle.c_layout.specs.declared.library_functions.LibFn.{LibFn}
 use Rattle.c_layout.specs.declared.library_functions.LibFn.TheVariants as lib
 use Rattle.c_layout.specs.declared.checked_tree.checked_terms.ConversionKind.{ConversionKind}
 use Rattle.c_layout.specs.declared.checked_tree.checked_terms.ConversionKind.TheVariants as kind
-use Rattle.c_types_rules.specs.TypeConversions as types
-use Rattle.c_types_rules.specs.declared.type_conversions.Conversion.{Conversion}
-use Rattle.c_types_rules.specs.declared.type_conversions.Conversion.TheVariants as conversion
+use Rattle.c_types_rules.specs.Rules.TypeConversions as types
+use Rattle.c_types_rules.specs.declared.rules.type_conversions.Conversion.{Conversion}
+use Rattle.c_types_rules.specs.declared.rules.type_conversions.Conversion.TheVariants as conversion
 use Rattle.c_types_scopes.specs.Known.{Known, size_of}
 use Rattle.c_types_scopes.specs.Refusals.{Ruled, type_fault, pointer_integer}
 use Rattle.c_types_operands.specs.Operands.{term_place, term_type, term_constant, is_null}

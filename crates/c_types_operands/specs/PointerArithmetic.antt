@@ -6,7 +6,7 @@ use Rattle.c_layout.specs.CheckedTrees as tree
 use Rattle.c_layout.specs.CheckedTrees.{TermTree}
 use Rattle.c_layout.specs.declared.syntax_tree.expressions.BinaryOp.{BinaryOp}
 use Rattle.c_layout.specs.declared.syntax_tree.expressions.BinaryOp.TheVariants as op
-use Rattle.c_types_rules.specs.IntegerKinds.{kind_of, size_rank}
+use Rattle.c_types_rules.specs.Rules.IntegerKinds.{kind_of, size_rank}
 use Rattle.c_types_scopes.specs.Known.{Known, size_of}
 use Rattle.c_types_scopes.specs.Refusals.{Ruled, type_fault}
 use Rattle.c_types_operands.specs.Operands.{OperandView, ValueView, node, plain, term_type, is_integer}

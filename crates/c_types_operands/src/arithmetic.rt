@@ -10,7 +10,7 @@ ghost use Rattle.c_types_operands.specs.Arithmetic as spec;
 use crate::implicit_conversions::integer_as;
 use crate::operands::{Constancy, Operand, Value, number_operand};
 use c_layout::{BinaryOp, CType, TermForm};
-use c_types_rules::{common_kind, folded, int_kind, promoted, shifted};
+use c_types_rules::rules::{common_kind, folded, int_kind, promoted, shifted};
 use c_types_scopes::{Context, type_fault};
 use cc_base::{IntType, Memory, Place, Stop};
 

@@ -13,7 +13,7 @@ use crate::implicit_conversions::in_type;
 use crate::operands::{Operand, Value, is_null, value_of, value_operand};
 use crate::pointer_arithmetic::{additive, common_target};
 use c_layout::{BinaryOp, CType, CheckedTerm, TermForm};
-use c_types_rules::{Pairing, int_kind, paired};
+use c_types_rules::rules::{Pairing, int_kind, paired};
 use c_types_scopes::{Context, pointer_integer, type_fault};
 use cc_base::{Memory, Place, Stop};
 

@@ -9,7 +9,7 @@ ghost use Rattle.c_types_operands.specs.Conversions as spec;
 
 use crate::operands::{is_null, term_node};
 use c_layout::{CType, CheckedTerm, ConversionKind, LibFn, TermForm};
-use c_types_rules::{Conversion, argument_conversion};
+use c_types_rules::rules::{Conversion, argument_conversion};
 use c_types_scopes::{Context, pointer_integer, type_fault};
 use cc_base::{IntType, Memory, Place, Stop};
 

@@ -11,7 +11,7 @@ ghost use Rattle.c_types_operands.specs.PointerArithmetic.{sum_view};
 use crate::arithmetic::{in_common_kind, value_kinds};
 use crate::operands::{Operand, Value, is_integer, plain, term_node};
 use c_layout::{BinaryOp, CType, CheckedTerm, TermForm};
-use c_types_rules::difference_kind;
+use c_types_rules::rules::difference_kind;
 use c_types_scopes::{Context, type_fault};
 use cc_base::{Memory, Place, Stop};
 

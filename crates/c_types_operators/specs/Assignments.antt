@@ -9,7 +9,7 @@ use Rattle.c_layout.specs.declared.syntax_tree.expressions.BinaryOp.{BinaryOp}
 use Rattle.c_layout.specs.declared.syntax_tree.expressions.BinaryOp.TheVariants as op
 use Rattle.c_layout.specs.declared.syntax_tree.expressions.AssignOp.{AssignOp}
 use Rattle.c_layout.specs.declared.syntax_tree.expressions.AssignOp.TheVariants as assign
-use Rattle.c_types_rules.specs.IntegerKinds.{promoted, common}
+use Rattle.c_types_rules.specs.Rules.IntegerKinds.{promoted, common}
 use Rattle.c_types_scopes.specs.Known.{Known, size_of}
 use Rattle.c_types_scopes.specs.Refusals.{Ruled, type_fault}
 use Rattle.c_types_operands.specs.Operands.{OperandView, OperandForm, AsValue, AsLvalue, node, plain, lvalue, term_of, own_lvalue, lvalue_type, term_type, is_scalar, is_integer, is_struct}

@@ -8,10 +8,10 @@ use Rattle.c_layout.specs.CheckedTrees as tree
 use Rattle.c_layout.specs.CheckedTrees.{TermTree, LvalueTree, term_tree}
 use Rattle.c_layout.specs.declared.syntax_tree.expressions.LogicalOp.{LogicalOp}
 use Rattle.c_layout.specs.declared.syntax_tree.expressions.LogicalOp.TheVariants as op
-use Rattle.c_types_rules.specs.IntegerKinds.{common}
-use Rattle.c_types_rules.specs.ConstantFolding.{converted}
-use Rattle.c_types_rules.specs.declared.type_conversions.Pairing.{Pairing}
-use Rattle.c_types_rules.specs.declared.type_conversions.Pairing.TheVariants as pair
+use Rattle.c_types_rules.specs.Rules.IntegerKinds.{common}
+use Rattle.c_types_rules.specs.Rules.ConstantFolding.{converted}
+use Rattle.c_types_rules.specs.declared.rules.type_conversions.Pairing.{Pairing}
+use Rattle.c_types_rules.specs.declared.rules.type_conversions.Pairing.TheVariants as pair
 use Rattle.c_types_scopes.specs.Known.{Known}
 use Rattle.c_types_scopes.specs.Refusals.{Ruled, type_fault, pointer_integer}
 use Rattle.c_types_operands.specs.Operands.{OperandView, OperandForm, AsValue, AsLvalue, ValueView, node, plain, number, lvalue, value_of, term_of, lvalue_value, lvalue_type, term_type, term_constant, is_scalar, is_void, is_struct}

@@ -6,11 +6,11 @@ use Rattle.c_layout.specs.Types.{Ty, Int, Pointer, Void}
 use Rattle.c_layout.specs.CheckedTrees as tree
 use Rattle.c_layout.specs.CheckedTrees.{TermTree, FormTree, LvalueTree, LvalueFormTree}
 use Rattle.c_layout.specs.declared.checked_tree.checked_terms.ConversionKind.TheVariants as kind
-use Rattle.c_types_rules.specs.IntegerKinds.{kind_of, size_rank}
-use Rattle.c_types_rules.specs.ConstantFolding.{converted}
-use Rattle.c_types_rules.specs.TypeConversions as types
-use Rattle.c_types_rules.specs.declared.type_conversions.Conversion.{Conversion}
-use Rattle.c_types_rules.specs.declared.type_conversions.Conversion.TheVariants as conversion
+use Rattle.c_types_rules.specs.Rules.IntegerKinds.{kind_of, size_rank}
+use Rattle.c_types_rules.specs.Rules.ConstantFolding.{converted}
+use Rattle.c_types_rules.specs.Rules.TypeConversions as types
+use Rattle.c_types_rules.specs.declared.rules.type_conversions.Conversion.{Conversion}
+use Rattle.c_types_rules.specs.declared.rules.type_conversions.Conversion.TheVariants as conversion
 use Rattle.c_types_scopes.specs.Known.{Known, size_of}
 use Rattle.c_types_scopes.specs.Refusals.{Ruled, type_fault, pointer_integer}
 use Rattle.c_types_operands.specs.Operands.{OperandView, OperandForm, AsValue, AsLvalue, ValueView, node, with_constant, plain, number, value_of, lvalue_type, term_type, term_constant, is_null, is_void}

@@ -10,8 +10,8 @@ use Rattle.c_layout.specs.declared.syntax_tree.expressions.StepOp.{StepOp}
 use Rattle.c_layout.specs.declared.syntax_tree.expressions.UnaryOp.{UnaryOp}
 use Rattle.c_layout.specs.declared.syntax_tree.expressions.UnaryOp.TheVariants as op
 use Rattle.c_layout.specs.declared.checked_tree.checked_terms.StepTime.{StepTime}
-use Rattle.c_types_rules.specs.IntegerKinds.{promoted}
-use Rattle.c_types_rules.specs.ConstantFolding.{converted, negated, complemented}
+use Rattle.c_types_rules.specs.Rules.IntegerKinds.{promoted}
+use Rattle.c_types_rules.specs.Rules.ConstantFolding.{converted, negated, complemented}
 use Rattle.c_types_scopes.specs.Known.{Known, size_of}
 use Rattle.c_types_scopes.specs.Refusals.{Ruled, type_fault}
 use Rattle.c_types_operands.specs.Operands.{OperandView, ValueView, node, plain, number, value_of, term_of, own_lvalue, lvalue_type, term_type, term_constant, is_scalar}

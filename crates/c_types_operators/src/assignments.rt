@@ -12,7 +12,7 @@ use c_types_operands::{
     Form, KindPair, Operand, assigned, integer_as, integer_kinds, is_integer, is_scalar, is_struct,
     lvalue_operand, own_lvalue, target_size, term_of, value_operand,
 };
-use c_types_rules::{common_kind, promoted};
+use c_types_rules::rules::{common_kind, promoted};
 use c_types_scopes::{Context, type_fault};
 use cc_base::{IntType, Place, Stop};
 

@@ -14,7 +14,7 @@ use c_types_operands::{
     is_void, lvalue_operand, lvalue_value, number_operand, pairing, term_of, unused, value_of,
     value_operand,
 };
-use c_types_rules::{Pairing, common_kind, converted, int_kind};
+use c_types_rules::rules::{Pairing, common_kind, converted, int_kind};
 use c_types_scopes::{Context, pointer_integer, type_fault};
 use cc_base::{IntType, Memory, Place, Stop};
 

@@ -13,7 +13,7 @@ use c_types_operands::{
     Constancy, Form, Operand, Value, converted_term, is_null, is_void, loaded, number_operand,
     unused, value_of, value_operand,
 };
-use c_types_rules::{Conversion, cast_conversion, size_kind};
+use c_types_rules::rules::{Conversion, cast_conversion, size_kind};
 use c_types_scopes::{Context, pointer_integer, type_fault};
 use cc_base::{Memory, Place, Stop};
 

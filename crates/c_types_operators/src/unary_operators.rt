@@ -12,7 +12,7 @@ use c_types_operands::{
     Constancy, Operand, Value, indirection, integer_as, is_scalar, number_operand, own_lvalue,
     pointer_to, term_of, value_of, value_operand,
 };
-use c_types_rules::{complemented, converted, int_kind, negated, promoted};
+use c_types_rules::rules::{complemented, converted, int_kind, negated, promoted};
 use c_types_scopes::{Context, type_fault};
 use cc_base::{IntType, Memory, Place, Stop};
 

@@ -16,7 +16,7 @@ use Rattle.c_types_operands.specs.Operands.{OperandView, operand_view}
 use Rattle.c_types_operands.specs.declared.operands.Operand.{Operand}
 use Rattle.c_types_primary.specs.Lists.{with_first, if_first, behind}
 use Rattle.c_types_primary.specs.Calls.{converted_argument, each_converted, formatted, each_formatted}
-use Rattle.c_types_primary_formats.specs.declared.printf_formats.Wanted.{Wanted}
+use Rattle.c_library.specs.declared.formats.printf_formats.Wanted.{Wanted}
 
 pub behind_first : {V : Type 0} (made : List V) (v : V) (r : Ruled (List V)) → behind made (with_first v r) ≡ behind (made ++ v ∷ []) r
 behind_first made v (Ok vs) = ap Ok (sym (append_assoc made (v ∷ []) vs))

@@ -6,7 +6,7 @@ use Rattle.std.proofs.lemmas.Str.{IsUtf8-from_ascii}
 use Rattle.std.proofs.lemmas.Str.Ascii.{IsAscii-nil, IsAscii-cons}
 use Rattle.std.specs.Cmp.Lexicographic.{pointwise, same_text}
 use Rattle.c_layout.specs.declared.library_functions.LibFn.{LibFn}
-use Rattle.lib_models.specs.Library.{memory_function, string_function, character_function, stream_function, either_of, function_named}
+use Rattle.c_library.specs.Headers.Library.{memory_function, string_function, character_function, stream_function, either_of, function_named}
 
 -- whether each byte is below 128
 abbrev all_low : List ℕ → Bool

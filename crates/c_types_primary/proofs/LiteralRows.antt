@@ -4,7 +4,7 @@ use Rattle.cc_base.specs.declared.diagnostics.Place.{Place}
 use Rattle.cc_base.specs.declared.int_types.IntType.{IntType}
 use Rattle.c_layout.specs.StructViews.{StructView}
 use Rattle.c_layout.specs.Types.{Int, Array}
-use Rattle.c_types_rules.specs.TypeSizes.{sized}
+use Rattle.c_types_rules.specs.Rules.TypeSizes.{sized}
 use Rattle.c_types_scopes.specs.Refusals.{type_fault}
 use Rattle.c_types_scopes.specs.States.{State}
 use Rattle.c_types_primary.specs.Primaries.{literal_of_size}

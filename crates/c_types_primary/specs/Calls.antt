@@ -11,8 +11,8 @@ use Rattle.c_layout.specs.SyntaxTrees.{Tree}
 use Rattle.c_layout.specs.declared.checked_tree.checked_terms.CheckedTerm.{CheckedTerm}
 use Rattle.c_layout.specs.declared.library_functions.LibFn.{LibFn}
 use Rattle.c_layout.specs.declared.library_functions.LibFn.TheVariants as lib
-use Rattle.c_types_rules.specs.IntegerKinds.{number_of, size_rank}
-use Rattle.c_types_rules.specs.declared.integer_kinds.Rank.TheVariants as rank
+use Rattle.c_types_rules.specs.Rules.IntegerKinds.{number_of, size_rank}
+use Rattle.c_types_rules.specs.declared.rules.integer_kinds.Rank.TheVariants as rank
 use Rattle.c_types_scopes.specs.Known.{Known}
 use Rattle.c_types_scopes.specs.DeclaredTypes.{DeclaredView, SignatureView}
 use Rattle.c_types_scopes.specs.LibraryTypes.{library_result, library_parameters}
@@ -26,11 +26,11 @@ use Rattle.c_types_operands.specs.Arithmetic.{int_kind}
 use Rattle.c_types_operators.specs.UnaryOperators.{promoted_kind}
 use Rattle.c_types_primary.specs.Lists.{if_first}
 use Rattle.c_types_primary.specs.Primaries.{no_number, is_missing, char_kind, library_named, meaning_of}
-use Rattle.c_types_primary_formats.specs.PrintfFormats.{wanted_by}
-use Rattle.c_types_primary_formats.specs.declared.printf_formats.Length.{Length}
-use Rattle.c_types_primary_formats.specs.declared.printf_formats.Length.TheVariants as size
-use Rattle.c_types_primary_formats.specs.declared.printf_formats.Wanted.{Wanted}
-use Rattle.c_types_primary_formats.specs.declared.printf_formats.Wanted.TheVariants as want
+use Rattle.c_library.specs.Formats.PrintfFormats.{wanted_by}
+use Rattle.c_library.specs.declared.formats.printf_formats.Length.{Length}
+use Rattle.c_library.specs.declared.formats.printf_formats.Length.TheVariants as size
+use Rattle.c_library.specs.declared.formats.printf_formats.Wanted.{Wanted}
+use Rattle.c_library.specs.declared.formats.printf_formats.Wanted.TheVariants as want
 use Rattle.c_types_primary.specs.declared.calls.Callee.{Callee}
 use Rattle.c_types_primary.specs.declared.calls.Callee.TheVariants as callee
 

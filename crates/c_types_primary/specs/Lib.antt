@@ -1,4 +1,4 @@
-pub use Rattle.c_types_primary_formats.specs.PrintfFormats
+pub use Rattle.c_library.specs.Formats.PrintfFormats
 pub mod Lists
 pub mod Primaries
 pub mod Members

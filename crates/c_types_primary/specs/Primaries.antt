@@ -9,9 +9,9 @@ use Rattle.c_layout.specs.CheckedUnits.{LocalView}
 use Rattle.c_layout.specs.declared.checked_tree.checked_terms.ObjectRef.TheVariants as object
 use Rattle.c_layout.specs.declared.library_functions.LibFn.{LibFn}
 use Rattle.c_layout.specs.declared.syntax_tree.expressions.Constant.{Constant}
-use Rattle.lib_models.specs.Library.{function_named}
-use Rattle.c_types_rules.specs.IntegerKinds.{kind_of}
-use Rattle.c_types_rules.specs.declared.integer_kinds.Rank.TheVariants as rank
+use Rattle.c_library.specs.Headers.Library.{function_named}
+use Rattle.c_types_rules.specs.Rules.IntegerKinds.{kind_of}
+use Rattle.c_types_rules.specs.declared.rules.integer_kinds.Rank.TheVariants as rank
 use Rattle.c_types_scopes.specs.Known.{Known, size_of}
 use Rattle.c_types_scopes.specs.Names.{known_in, found}
 use Rattle.c_types_scopes.specs.DeclaredTypes.{ObjectView}

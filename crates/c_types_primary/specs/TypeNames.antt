@@ -10,11 +10,11 @@ use Rattle.c_layout.specs.declared.syntax_tree.expressions.Name.{Name}
 use Rattle.c_layout.specs.declared.syntax_tree.expressions.Brackets.{Brackets}
 use Rattle.c_layout.specs.declared.syntax_tree.expressions.TypeNameWord.{TypeNameWord}
 use Rattle.c_layout.specs.declared.syntax_tree.expressions.TypeNameWord.TheVariants as word
-use Rattle.c_types_rules.specs.TypeWords as words
-use Rattle.c_types_rules.specs.TypeWords.{no_words, with_word}
-use Rattle.c_types_rules.specs.declared.type_words.NamedKind.{NamedKind}
-use Rattle.c_types_rules.specs.declared.type_words.NamedKind.TheVariants as kind
-use Rattle.c_types_rules.specs.declared.type_words.WordCounts.{WordCounts}
+use Rattle.c_types_rules.specs.Rules.TypeWords as words
+use Rattle.c_types_rules.specs.Rules.TypeWords.{no_words, with_word}
+use Rattle.c_types_rules.specs.declared.rules.type_words.NamedKind.{NamedKind}
+use Rattle.c_types_rules.specs.declared.rules.type_words.NamedKind.TheVariants as kind
+use Rattle.c_types_rules.specs.declared.rules.type_words.WordCounts.{WordCounts}
 use Rattle.c_types_scopes.specs.Answers.{kept, after}
 use Rattle.c_types_scopes.specs.Known.{Known}
 use Rattle.c_types_scopes.specs.DeclaredTypes.{DeclaredView, declared_view, plain}

@@ -14,10 +14,10 @@ ghost use Rattle.c_types_primary.specs.Calls.{done, terms_view};
 
 use crate::primaries::{is_missing, library_named, meaning_of};
 use c_layout::{CType, CheckedTerm, Expr, LibFn, TermForm};
+use c_library::formats::{Length, Wanted, wanted_by};
 use c_types_operands::{Operand, assigned, integer_as, is_void, term_of, value_operand};
 use c_types_operators::promoted_kind;
-use c_types_primary_formats::{Length, Wanted, wanted_by};
-use c_types_rules::{char_kind, int_kind, size_kind};
+use c_types_rules::rules::{char_kind, int_kind, size_kind};
 use c_types_scopes::{
     Context, Meaning, Signature, format_fault, library_signature, type_fault, undeclared,
 };

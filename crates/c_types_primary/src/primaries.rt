@@ -10,11 +10,11 @@ ghost use Rattle.c_types_operands.specs.Operands.{operand_view};
 ghost use Rattle.c_types_primary.specs.Primaries as spec;
 
 use c_layout::{CType, Constant, LibFn, LocalObject, LvalueForm, ObjectRef, TermForm};
+use c_library::headers::signature;
 use c_types_operands::{Constancy, Operand, lvalue_operand, number_operand};
-use c_types_rules::{char_kind, int_kind};
+use c_types_rules::rules::{char_kind, int_kind};
 use c_types_scopes::{Context, Meaning, ObjectDeclaration, type_fault, undeclared};
 use cc_base::{Memory, Place, Stop, Text};
-use lib_models::signature;
 
 /// The library function of a name.
 #[tactic(auto, using(crate::proofs::LibraryNames::no_text_none))]

@@ -11,7 +11,7 @@ ghost use Rattle.c_types_primary.specs.TypeNames.{tagged_view, said_view, steps_
 
 use crate::primaries::meaning_of;
 use c_layout::{AbstractLayer, Brackets, CType, Name, Storage, TypeName, TypeNameWord};
-use c_types_rules::{NamedKind, WordCounts, int_kind};
+use c_types_rules::rules::{NamedKind, WordCounts, int_kind};
 use c_types_scopes::{
     Context, DeclaredType, Meaning, Tag, TypeStep, constant_needed, redeclared, stepped,
     type_fault, undeclared,

@@ -1,5 +1,2 @@
-pub mod IntegerKinds
-pub mod ConstantFolding
-pub mod TypeWords
-pub mod TypeConversions
-pub mod TypeSizes
+pub mod CallCycles
+pub mod Rules

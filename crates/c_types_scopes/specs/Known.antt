@@ -3,7 +3,7 @@ use Rattle.std.specs.Prelude.{ℕ, List, Option}
 use Rattle.c_layout.specs.Types.{Ty}
 use Rattle.c_layout.specs.StructViews.{StructView, structs_view}
 use Rattle.c_layout.specs.declared.data_model.Model.{Model}
-use Rattle.c_types_rules.specs.TypeSizes.{sized}
+use Rattle.c_types_rules.specs.Rules.TypeSizes.{sized}
 use Rattle.c_types_scopes.specs.declared.context.Context.{Context}
 
 pub record Known : Type 0 where

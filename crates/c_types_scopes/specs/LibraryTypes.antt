@@ -4,8 +4,8 @@ use Rattle.c_layout.specs.Types.{Ty, Int, Pointer, Struct, Void}
 use Rattle.c_layout.specs.declared.data_model.Model.{Model}
 use Rattle.c_layout.specs.declared.library_functions.LibFn.{LibFn}
 use Rattle.c_layout.specs.declared.library_functions.LibFn.TheVariants as lib
-use Rattle.c_types_rules.specs.IntegerKinds.{kind_of, size_rank}
-use Rattle.c_types_rules.specs.declared.integer_kinds.Rank.TheVariants as rank
+use Rattle.c_types_rules.specs.Rules.IntegerKinds.{kind_of, size_rank}
+use Rattle.c_types_rules.specs.declared.rules.integer_kinds.Rank.TheVariants as rank
 use Rattle.c_types_scopes.specs.declared.library_types.Slot.{Slot}
 use Rattle.c_types_scopes.specs.declared.library_types.Slot.TheVariants as slot
 

@@ -5,7 +5,7 @@ use Rattle.c_layout.specs.Types.{Ty}
 use Rattle.c_layout.specs.CheckedTrees.{TermTree, term_tree}
 use Rattle.c_layout.specs.CheckedUnits.{LocalView, local_view, StaticView, static_view, LiteralView, literal_view}
 use Rattle.c_layout.specs.declared.data_model.Model.{Model}
-use Rattle.c_types_cycles.specs.declared.call_graph.Call.{Call}
+use Rattle.c_types_rules.specs.declared.call_cycles.call_graph.Call.{Call}
 use Rattle.c_types_scopes.specs.Known.{Known, known}
 use Rattle.c_types_scopes.specs.DeclaredTypes.{DeclaredView, declared_view, ObjectView, object_view, SignatureView, signature_view}
 use Rattle.c_types_scopes.specs.Definitions.{DefinitionsView, definitions_view, no_definitions}

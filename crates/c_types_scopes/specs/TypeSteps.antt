@@ -2,7 +2,7 @@
 use Rattle.std.specs.Prelude.{ℕ, Bool, true, false, ◌*◌, cond, nat_le, List, [], ◌∷◌, Option, Some, None}
 use Rattle.c_layout.specs.Types.{Ty, Pointer, Array}
 use Rattle.c_layout.specs.StructViews.{StructView}
-use Rattle.c_types_rules.specs.TypeSizes.{sized}
+use Rattle.c_types_rules.specs.Rules.TypeSizes.{sized}
 use Rattle.c_types_scopes.specs.Known.{Known}
 use Rattle.c_types_scopes.specs.declared.type_steps.TypeStep.{TypeStep}
 use Rattle.c_types_scopes.specs.declared.type_steps.TypeStep.TheVariants as step

@@ -17,8 +17,8 @@ use crate::name_numbers::NameNumbers;
 use crate::scope_table::ScopeTable;
 use crate::struct_types::StructTypes;
 use c_layout::{CType, CheckedTerm, LocalObject, StaticObject, StringLiteral};
-use c_types_cycles::{Call, CallGraph};
-use c_types_rules::size_if_complete;
+use c_types_rules::call_cycles::{Call, CallGraph};
+use c_types_rules::rules::size_if_complete;
 use cc_base::{Memory, Place, Text};
 use std::alloc::Global;
 

@@ -6,7 +6,7 @@ ghost use Rattle.c_types_scopes.specs.LibraryTypes as spec;
 
 use crate::data_models::DataModel;
 use c_layout::{CType, LibFn};
-use c_types_rules::{char_kind, int_kind, size_kind};
+use c_types_rules::rules::{char_kind, int_kind, size_kind};
 use std::alloc::{AllocError, Global};
 
 /// A type in a library function's prototype.

@@ -5,7 +5,7 @@ ghost use Rattle.c_layout.specs.StructViews.{structs_view};
 ghost use Rattle.c_types_scopes.specs.TypeSteps as spec;
 
 use c_layout::{CType, Structs};
-use c_types_rules::size_if_complete;
+use c_types_rules::rules::size_if_complete;
 use std::alloc::{AllocError, Global};
 
 /// A step from a type to the one that a declarator makes of it.

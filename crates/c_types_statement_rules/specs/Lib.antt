@@ -1,5 +1,2 @@
-pub mod BodyFlow
-pub mod Points
-pub mod SimpleStatements
-pub mod CompoundStatements
-pub mod StatementNodes
+pub mod Objects
+pub mod StatementRules

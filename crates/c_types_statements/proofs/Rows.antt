@@ -6,12 +6,12 @@ use Rattle.c_layout.specs.Types.{Void}
 use Rattle.c_layout.specs.SyntaxTrees as expression
 use Rattle.c_layout.specs.SyntaxTrees.{Tree}
 use Rattle.c_layout.specs.DeclarationTrees.{StatementTree, Break, Continue, While, Switch, Case, Block, Expression, Goto, Label, NoStatement, MoreStatements}
-use Rattle.c_types_rules.specs.declared.integer_kinds.Rank.TheVariants as rank
-use Rattle.c_types_rules.specs.IntegerKinds.{kind_of}
+use Rattle.c_types_rules.specs.declared.rules.integer_kinds.Rank.TheVariants as rank
+use Rattle.c_types_rules.specs.Rules.IntegerKinds.{kind_of}
 use Rattle.c_types_scopes.specs.States.{first_state}
 use Rattle.c_types_scopes.specs.Refusals.{Ruled, type_fault, redeclared, undeclared}
-use Rattle.c_types_statement_rules.specs.BodyFlow.{no_flow}
-use Rattle.c_types_statement_rules.specs.Points.{Point, point}
+use Rattle.c_types_statement_rules.specs.StatementRules.BodyFlow.{no_flow}
+use Rattle.c_types_statement_rules.specs.StatementRules.Points.{Point, point}
 use Rattle.c_types_statements.specs.LabelNumbers.{with_labels}
 use Rattle.c_types_statements.specs.Statements.{Declaring, statement}
 

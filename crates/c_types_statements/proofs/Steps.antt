@@ -7,7 +7,7 @@ use Rattle.c_layout.specs.DeclarationTrees as syntax
 use Rattle.c_layout.specs.CheckedTrees.{TermTree, StatementTree}
 use Rattle.c_types_scopes.specs.Refusals.{Ruled}
 use Rattle.c_types_scopes.specs.Answers.{Leads, after}
-use Rattle.c_types_statement_rules.specs.Points.{Point}
+use Rattle.c_types_statement_rules.specs.StatementRules.Points.{Point}
 use Rattle.c_types_statements.specs.Statements as spec
 use Rattle.c_types_statements.specs.Statements.{Declaring}
 

@@ -2,8 +2,8 @@
 use Rattle.c_layout.specs.DeclarationTrees.{NameView, StatementTree, StatementTrees, Declaration, Label, Case, Default, Block, Expression, If, IfElse, Switch, While, Do, For, Goto, Continue, Break, Return, NoStatement, MoreStatements}
 use Rattle.c_types_scopes.specs.Names.{number_in}
 use Rattle.c_types_scopes.specs.States.{with_name}
-use Rattle.c_types_statement_rules.specs.BodyFlow.{with_label}
-use Rattle.c_types_statement_rules.specs.Points.{Point, point}
+use Rattle.c_types_statement_rules.specs.StatementRules.BodyFlow.{with_label}
+use Rattle.c_types_statement_rules.specs.StatementRules.Points.{Point, point}
 
 -- a label by its name
 abbrev pub labelled : NameView → Point → Point

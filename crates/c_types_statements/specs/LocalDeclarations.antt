@@ -17,7 +17,7 @@ use Rattle.c_types_declarations.specs.Declarators.{declared_type}
 use Rattle.c_types_declarations.specs.Specifiers.{SpecifiedView}
 use Rattle.c_types_declarations.specs.SpecifierTrees.{specifiers}
 use Rattle.c_types_declarations.specs.Initializers.{initializer_of}
-use Rattle.c_types_objects.specs.LocalObjects.{PartsView, with_object, may_be_local, with_automatic, with_static_object, with_local_type, start, is_static}
+use Rattle.c_types_statement_rules.specs.Objects.LocalObjects.{PartsView, with_object, may_be_local, with_automatic, with_static_object, with_local_type, start, is_static}
 use Rattle.c_types_statements.specs.StaticInitializers.{has_size, static_initializer}
 
 -- ---- the type of an object

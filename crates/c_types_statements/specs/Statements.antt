@@ -14,13 +14,13 @@ use Rattle.c_types_scopes.specs.Refusals.{Ruled}
 use Rattle.c_types_scopes.specs.Answers.{after, kept}
 use Rattle.c_types_scopes.specs.States.{State, with_name}
 use Rattle.c_types_operands.specs.Operands.{boxed_term}
-use Rattle.c_types_statement_rules.specs.BodyFlow.{FlowView, label_of, is_met, with_met, flow_default, flow_with_default}
-use Rattle.c_types_statement_rules.specs.Points.{Point, point}
-use Rattle.c_types_objects.specs.LocalObjects.{PartsView, parts_view}
-use Rattle.c_types_statement_rules.specs.SimpleStatements.{valued, effect, value_statement, goto_statement, continue_statement, break_statement, return_statement}
-use Rattle.c_types_statement_rules.specs.CompoundStatements.{ControllingView, controlling_expression, open_switch, close_switch, case_standing, case_statement, default_statement}
-use Rattle.c_types_statement_rules.specs.declared.statement_nodes.Clauses.{Clauses}
-use Rattle.c_types_statement_rules.specs.StatementNodes.{no_parts, block_node, if_node, if_else_node, while_node, do_node, step_clause, test_clause, for_node, label_node, in_loop, out_of_loop, in_switch, out_of_switch}
+use Rattle.c_types_statement_rules.specs.StatementRules.BodyFlow.{FlowView, label_of, is_met, with_met, flow_default, flow_with_default}
+use Rattle.c_types_statement_rules.specs.StatementRules.Points.{Point, point}
+use Rattle.c_types_statement_rules.specs.Objects.LocalObjects.{PartsView, parts_view}
+use Rattle.c_types_statement_rules.specs.StatementRules.SimpleStatements.{valued, effect, value_statement, goto_statement, continue_statement, break_statement, return_statement}
+use Rattle.c_types_statement_rules.specs.StatementRules.CompoundStatements.{ControllingView, controlling_expression, open_switch, close_switch, case_standing, case_statement, default_statement}
+use Rattle.c_types_statement_rules.specs.declared.statement_rules.statement_nodes.Clauses.{Clauses}
+use Rattle.c_types_statement_rules.specs.StatementRules.StatementNodes.{no_parts, block_node, if_node, if_else_node, while_node, do_node, step_clause, test_clause, for_node, label_node, in_loop, out_of_loop, in_switch, out_of_switch}
 
 -- what a declaration of a block does: the parts of the block with its objects and statements, and what is known then
 abbrev pub Declaring : Type 0

@@ -11,8 +11,8 @@ use Rattle.c_types_scopes.specs.States.{State, with_initializer}
 use Rattle.c_types_declarations.specs.Initialized.{InitializedView}
 use Rattle.c_types_declarations.specs.StaticStores.{static_stores}
 use Rattle.c_types_declarations.specs.Initializers.{initializer_of}
-use Rattle.c_types_objects.specs.Changes.{changed}
-use Rattle.c_types_objects.specs.LocalObjects.{with_static_type}
+use Rattle.c_types_statement_rules.specs.Objects.Changes.{changed}
+use Rattle.c_types_statement_rules.specs.Objects.LocalObjects.{with_static_type}
 
 -- whether a type is complete
 abbrev pub has_size : Known → Ty → Bool

@@ -2,13 +2,13 @@
 ghost use Rattle.std.specs.Prelude.{◌≡◌, IfOk, map};
 ghost use Rattle.c_layout.specs.DeclarationTrees.{name_view, statement_tree, statement_trees};
 ghost use Rattle.c_types_scopes.specs.States.{state};
-ghost use Rattle.c_types_statement_rules.specs.BodyFlow.{flow_view};
-ghost use Rattle.c_types_statement_rules.specs.Points.{point};
+ghost use Rattle.c_types_statement_rules.specs.StatementRules.BodyFlow.{flow_view};
+ghost use Rattle.c_types_statement_rules.specs.StatementRules.Points.{point};
 ghost use Rattle.c_types_statements.specs.LabelNumbers as spec;
 
 use c_layout::{Name, Statement};
 use c_types_scopes::Context;
-use c_types_statement_rules::BodyFlow;
+use c_types_statement_rules::statement_rules::BodyFlow;
 use cc_base::Memory;
 
 /// Adds a label by its name.

@@ -5,18 +5,18 @@ ghost use Rattle.c_layout.specs.DeclarationTrees as syntax;
 ghost use Rattle.c_layout.specs.DeclarationTrees.{name_view, local_view, for_first_view};
 ghost use Rattle.c_types_scopes.specs.Answers.{Leads};
 ghost use Rattle.c_types_scopes.specs.States.{state};
-ghost use Rattle.c_types_statement_rules.specs.BodyFlow.{flow_view};
-ghost use Rattle.c_types_statement_rules.specs.Points.{point};
-ghost use Rattle.c_types_objects.specs.LocalObjects.{parts_view};
+ghost use Rattle.c_types_statement_rules.specs.StatementRules.BodyFlow.{flow_view};
+ghost use Rattle.c_types_statement_rules.specs.StatementRules.Points.{point};
+ghost use Rattle.c_types_statement_rules.specs.Objects.LocalObjects.{parts_view};
 ghost use Rattle.c_types_statements.specs.LocalDeclarations.{local_declaration};
-ghost use Rattle.c_types_statement_rules.specs.SimpleStatements.{boxed_statement};
+ghost use Rattle.c_types_statement_rules.specs.StatementRules.SimpleStatements.{boxed_statement};
 ghost use Rattle.c_types_statements.specs.Statements as spec;
 
 use crate::local_declarations::local_declaration as declare_local;
 use c_layout::{CheckedStatement, Expr, ForFirst, Local, Name, Statement};
-use c_types_objects::BlockParts;
 use c_types_scopes::Context;
-use c_types_statement_rules::{
+use c_types_statement_rules::objects::BlockParts;
+use c_types_statement_rules::statement_rules::{
     BodyFlow, Clauses, block_node, break_statement, continue_statement, effect, goto_statement,
     no_parts, return_statement, step_clause, test_clause, value_statement,
 };

@@ -13,16 +13,16 @@ ghost use Rattle.c_types_scopes.specs.DeclaredTypes.{declared_view};
 ghost use Rattle.c_types_scopes.specs.States.{state};
 ghost use Rattle.c_types_declarations.specs.Initialized.{initialized_view};
 ghost use Rattle.c_types_declarations.specs.Specifiers.{specified_view};
-ghost use Rattle.c_types_objects.specs.LocalObjects.{parts_view};
+ghost use Rattle.c_types_statement_rules.specs.Objects.LocalObjects.{parts_view};
 ghost use Rattle.c_types_statements.specs.LocalDeclarations as spec;
 
 use crate::static_initializers::{has_size, static_initializer};
 use c_layout::{CType, CheckedStatement, Declarator, InitDeclarator, Initializer, Local, Name};
 use c_types_declarations::{Initialized, Specified, declared_type, initializer_of, specifiers_of};
-use c_types_objects::{
+use c_types_scopes::{Context, DeclaredType, redeclared, type_fault};
+use c_types_statement_rules::objects::{
     BlockParts, declare_automatic, declare_static, is_static, may_be_local, set_local, start,
 };
-use c_types_scopes::{Context, DeclaredType, redeclared, type_fault};
 use cc_base::{Place, Stop};
 
 /// The type of an object whose name, by its number, is free in the innermost scope.

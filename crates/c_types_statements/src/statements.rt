@@ -10,11 +10,11 @@ ghost use Rattle.c_layout.specs.DeclarationTrees.{
 ghost use Rattle.c_types_scopes.specs.Answers.{Leads};
 ghost use Rattle.c_types_scopes.specs.States.{state};
 ghost use Rattle.c_types_operands.specs.Operands.{boxed_term};
-ghost use Rattle.c_types_statement_rules.specs.BodyFlow.{flow_view};
-ghost use Rattle.c_types_statement_rules.specs.Points.{point};
-ghost use Rattle.c_types_objects.specs.LocalObjects.{parts_view};
+ghost use Rattle.c_types_statement_rules.specs.StatementRules.BodyFlow.{flow_view};
+ghost use Rattle.c_types_statement_rules.specs.StatementRules.Points.{point};
+ghost use Rattle.c_types_statement_rules.specs.Objects.LocalObjects.{parts_view};
 ghost use Rattle.c_types_statements.specs.LocalDeclarations.{local_declaration};
-ghost use Rattle.c_types_statement_rules.specs.SimpleStatements.{boxed_statement};
+ghost use Rattle.c_types_statement_rules.specs.StatementRules.SimpleStatements.{boxed_statement};
 ghost use Rattle.c_types_statements.specs.Statements as spec;
 
 use crate::leaf_statements::{
@@ -22,9 +22,9 @@ use crate::leaf_statements::{
     label_number, return_alone, value_alone,
 };
 use c_layout::{CheckedStatement, CheckedTerm, Expr, ForFirst, Name, Statement};
-use c_types_objects::BlockParts;
 use c_types_scopes::Context;
-use c_types_statement_rules::{
+use c_types_statement_rules::objects::BlockParts;
+use c_types_statement_rules::statement_rules::{
     BodyFlow, Clauses, block_node, case_standing, case_statement, close_switch,
     controlling_expression, default_statement, do_node, enter_loop, enter_switch, for_node,
     if_else_node, if_node, label_node, no_parts, open_switch, valued, while_node,

@@ -11,8 +11,8 @@ ghost use Rattle.c_types_statements.specs.StaticInitializers as spec;
 
 use c_layout::{CType, Initializer, StaticStore};
 use c_types_declarations::{Initialized, initializer_of, static_stores};
-use c_types_objects::set_static;
 use c_types_scopes::{Context, type_fault};
+use c_types_statement_rules::objects::set_static;
 use cc_base::{Place, Stop};
 
 /// Whether a type is complete.

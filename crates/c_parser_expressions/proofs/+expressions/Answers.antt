@@ -2,14 +2,14 @@ use Rattle.std.proofs.Common.{◌≡◌, ◌+◌, ◌∙◌, ◌∷◌, Some, No
 use Rattle.c_layout.specs.SyntaxTrees.{tree_of, trees, type_name_view, Paren, Subscript, Prefix, Unary, SizeofExpr, SizeofType, Cast, Conditional, Assign, Comma, More}
 use Rattle.c_parser_tokens.specs.declared.terminals.Punctuator.TheVariants as p
 use Rattle.c_parser_tokens.specs.declared.terminals.Symbol.TheVariants as symbol
-use Rattle.c_parser_expressions_grammar.specs.Continuations.{continuation_of}
-use Rattle.c_parser_expressions_grammar.specs.Findings.{layer_of, is_unary, infix_tree}
-use Rattle.c_parser_expressions_grammar.specs.Fronts.{first_symbol}
-use Rattle.c_parser_expressions_grammar.specs.Levels.{op_level, step_of, assign_of, goes_on}
-use Rattle.c_parser_expressions_grammar.specs.Readings.{got, made, is_left_parenthesis, is_right_parenthesis, is_left_bracket, is_comma, is_sizeof}
-use Rattle.c_parser_expressions_grammar.specs.ReadingResults.{ReadsSuffix, layers_got}
-use Rattle.c_parser_expressions_grammar.specs.ExpressionReaders.{infix_of, keep_from, suffix_by, arguments}
-use Rattle.c_parser_expressions_grammar.specs.TypeNameReaders.{after_arrays, all_readers, readers_inside}
+use Rattle.c_parser_expression_grammar.specs.Continuations.{continuation_of}
+use Rattle.c_parser_expression_grammar.specs.Findings.{layer_of, is_unary, infix_tree}
+use Rattle.c_parser_expression_grammar.specs.Fronts.{first_symbol}
+use Rattle.c_parser_expression_grammar.specs.Levels.{op_level, step_of, assign_of, goes_on}
+use Rattle.c_parser_expression_grammar.specs.Readings.{got, made, is_left_parenthesis, is_right_parenthesis, is_left_bracket, is_comma, is_sizeof}
+use Rattle.c_parser_expression_grammar.specs.ReadingResults.{ReadsSuffix, layers_got}
+use Rattle.c_parser_expression_grammar.specs.ExpressionReaders.{infix_of, keep_from, suffix_by, arguments}
+use Rattle.c_parser_expression_grammar.specs.TypeNameReaders.{after_arrays, all_readers, readers_inside}
 use Rattle.c_parser_expressions.proofs.Arguments.{last_one}
 use Rattle.c_parser_expressions.proofs.Arguments.{one_more as one_more_argument}
 use Rattle.c_parser_expressions.proofs.Climbing.{last, more}

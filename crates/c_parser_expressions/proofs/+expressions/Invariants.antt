@@ -1,9 +1,9 @@
 use Rattle.std.proofs.Common.{◌≡◌, ◌+◌, ◌-◌, ◌*◌, map, length}
 use Rattle.c_layout.specs.SyntaxTrees.{tree_of}
-use Rattle.c_parser_expressions_grammar.specs.Findings.{Found, FoundSome, FoundArrays, Climbs}
-use Rattle.c_parser_expressions_grammar.specs.Readings.{got}
-use Rattle.c_parser_expressions_grammar.specs.ExpressionReaders.{some_arguments, suffixes, climb, commas}
-use Rattle.c_parser_expressions_grammar.specs.TypeNameReaders.{pairs, all_readers, readers_inside}
+use Rattle.c_parser_expression_grammar.specs.Findings.{Found, FoundSome, FoundArrays, Climbs}
+use Rattle.c_parser_expression_grammar.specs.Readings.{got}
+use Rattle.c_parser_expression_grammar.specs.ExpressionReaders.{some_arguments, suffixes, climb, commas}
+use Rattle.c_parser_expression_grammar.specs.TypeNameReaders.{pairs, all_readers, readers_inside}
 use Rattle.c_parser_expressions.proofs.Prefixes.{arguments_before, pairs_before}
 use Rattle.c_parser_expressions.proofs.+expressions.Given as goal
 

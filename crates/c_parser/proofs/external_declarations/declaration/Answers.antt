@@ -1,11 +1,11 @@
 use Rattle.std.proofs.Common.{[], map, None, ◌∙◌}
 use Rattle.c_layout.specs.DeclarationTrees.{spec_tree, init_declarator_view}
-use Rattle.c_parser_declarations.proofs.Listing.{map_snoc}
+use Rattle.c_parser_declarations.proofs.grammar.Listing.{map_snoc}
 use Rattle.c_parser.proofs.Declaring.{declared}
 use Rattle.std.proofs.lemmas.Result.{err_from_is_err_and}
 use Rattle.c_parser.proofs.Joining.{declaration_read}
-use Rattle.c_parser_declarations.proofs.Reading.{raised_is, raised_none}
-use Rattle.c_parser_declarations.specs.Answers.{as_item}
+use Rattle.c_parser_declarations.proofs.grammar.Reading.{raised_is, raised_none}
+use Rattle.c_parser_declarations.specs.Grammar.Answers.{as_item}
 use Rattle.c_parser.proofs.external_declarations.declaration.Goals as goal
 
 pub returns-clause-found : goal.returns-clause-found

@@ -2,7 +2,7 @@ use Rattle.std.proofs.lemmas.Result.{err_from_is_err_and}
 use Rattle.c_parser.proofs.Joining.{external_nameless, external_with}
 use Rattle.std.proofs.Common.{None, map, ◌∙◌}
 use Rattle.c_layout.specs.DeclarationTrees.{spec_tree}
-use Rattle.c_parser_declarations.proofs.Signs.{no_semicolon}
+use Rattle.c_parser_declarations.proofs.readers.Signs.{no_semicolon}
 use Rattle.c_parser.proofs.external_declarations.external.Goals as goal
 
 pub returns-in_err-found-clause-read : goal.returns-in_err-found-clause-read

@@ -1,5 +1,5 @@
 use Rattle.c_parser.proofs.Joining.{definition_read}
-use Rattle.c_parser_declarations.proofs.Reading.{raised_is}
+use Rattle.c_parser_declarations.proofs.grammar.Reading.{raised_is}
 use Rattle.std.proofs.Common.{map, ◌∙◌}
 use Rattle.c_layout.specs.DeclarationTrees.{spec_tree, function_declarator_view}
 use Rattle.c_parser.proofs.external_declarations.function.Goals as goal

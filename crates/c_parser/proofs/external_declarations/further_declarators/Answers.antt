@@ -1,10 +1,10 @@
 use Rattle.c_layout.specs.DeclarationTrees.{init_declarator_view}
-use Rattle.c_parser_declarations.proofs.Listing.{map_snoc}
+use Rattle.c_parser_declarations.proofs.grammar.Listing.{map_snoc}
 use Rattle.c_parser.proofs.Declaring.{one_further}
 use Rattle.std.proofs.Common.{◌+◌, arith}
 use Rattle.std.proofs.lemmas.Result.{err_from_is_err_and}
 use Rattle.c_parser_expressions.proofs.Signs.{no_comma}
-use Rattle.c_parser_declarations.proofs.Signs.{no_semicolon}
+use Rattle.c_parser_declarations.proofs.readers.Signs.{no_semicolon}
 use Rattle.c_parser.proofs.Turns.{further_turn, further_none, further_bad, further_stop, further_unended, further_last, further_endless}
 use Rattle.c_parser.proofs.external_declarations.further_declarators.Goals as goal
 

@@ -3,8 +3,8 @@ use Rattle.c_layout.specs.DeclarationTrees.{spec_tree, init_declarator_view}
 use Rattle.c_parser.proofs.Declaring.{named}
 use Rattle.std.proofs.lemmas.Result.{err_from_is_err_and}
 use Rattle.c_parser.proofs.Joining.{nothing_named, with_definition, with_declaration}
-use Rattle.c_parser_declarations.specs.Answers.{as_item}
-use Rattle.c_parser_declarations.proofs.Signs.{no_left_brace}
+use Rattle.c_parser_declarations.specs.Grammar.Answers.{as_item}
+use Rattle.c_parser_declarations.proofs.readers.Signs.{no_left_brace}
 use Rattle.c_parser_expressions.proofs.Signs.{not_so}
 use Rattle.c_parser.proofs.external_declarations.with_declarators.Goals as goal
 

@@ -3,9 +3,9 @@ use Rattle.c_layout.specs.SyntaxTrees.{tree_of}
 use Rattle.c_parser.proofs.Jumps.{return_found}
 use Rattle.std.proofs.lemmas.Result.{err_from_is_err_and}
 use Rattle.std.proofs.Common.{None, refl, ◌∙◌}
-use Rattle.c_parser_declarations.proofs.Reading.{raised_is}
-use Rattle.c_parser_declarations.proofs.Signs.{no_semicolon}
-use Rattle.c_parser_declarations.specs.SpecifierReaders.{is_semicolon}
+use Rattle.c_parser_declarations.proofs.grammar.Reading.{raised_is}
+use Rattle.c_parser_declarations.proofs.readers.Signs.{no_semicolon}
+use Rattle.c_parser_declarations.specs.Grammar.SpecifierReaders.{is_semicolon}
 use Rattle.c_parser.proofs.Stepping.{return_is}
 use Rattle.c_parser.proofs.jump_statements.return_statement.Goals as goal
 

@@ -1,5 +1,5 @@
 use Rattle.c_layout.specs.DeclarationTrees.{external_tree}
-use Rattle.c_parser_declarations.proofs.Listing.{map_snoc}
+use Rattle.c_parser_declarations.proofs.grammar.Listing.{map_snoc}
 use Rattle.c_parser.proofs.Units.{piece_more, unread_at}
 use Rattle.std.proofs.lemmas.Result.{err_from_is_err_and}
 use Rattle.c_parser.proofs.parsing.externals.Goals as goal

@@ -1,8 +1,8 @@
 use Rattle.std.proofs.Common.{rules, ◌≡◌, ◌&&◌, ◌∙◌, ◌∷◌, [], ◌++◌, ◌≤◌, map, sym, ap, subst}
 use Rattle.std.proofs.lemmas.List.{map-append}
 use Rattle.c_layout.specs.SyntaxTrees.{tree_of, layer_view}
-use Rattle.c_parser_expressions_grammar.specs.Findings.{layer_of, layer_height, is_empty, IsSomething}
-use Rattle.c_parser_expressions_grammar.specs.TypeNames.{is_lone_star}
+use Rattle.c_parser_expression_grammar.specs.Findings.{layer_of, layer_height, is_empty, IsSomething}
+use Rattle.c_parser_expression_grammar.specs.TypeNames.{is_lone_star}
 use Rattle.c_parser_expressions.proofs.Layering.{layered_is, layered_high, empty_by}
 use Rattle.c_parser_expressions.proofs.Outcomes.{refuses}
 use Rattle.c_parser_expressions.proofs.abstract_layers.layered.Goals as goal

@@ -1,6 +1,6 @@
 use Rattle.std.proofs.Common.{◌-◌, ◌+◌, sym, ap, ◌∙◌, length, arith}
-use Rattle.c_parser_expressions_grammar.specs.Fronts.{behind_first}
-use Rattle.c_parser_expressions_grammar.specs.TypeNameReaders.{qualifiers}
+use Rattle.c_parser_expression_grammar.specs.Fronts.{behind_first}
+use Rattle.c_parser_expression_grammar.specs.TypeNameReaders.{qualifiers}
 use Rattle.c_parser_expressions.proofs.Listing.{qualifiers_next}
 use Rattle.c_parser_expressions.proofs.Prefixes.{count_before, qualifiers_turn, qualifiers_stop}
 use Rattle.c_parser_expressions.proofs.pointer_stars.qualifiers.Goals as goal

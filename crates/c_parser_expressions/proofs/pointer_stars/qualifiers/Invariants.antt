@@ -1,6 +1,6 @@
 use Rattle.std.proofs.Common.{◌≡◌, ◌-◌, length}
-use Rattle.c_parser_expressions_grammar.specs.TypeNames.{Qualifiers}
-use Rattle.c_parser_expressions_grammar.specs.TypeNameReaders.{qualifiers}
+use Rattle.c_parser_expression_grammar.specs.TypeNames.{Qualifiers}
+use Rattle.c_parser_expression_grammar.specs.TypeNameReaders.{qualifiers}
 use Rattle.c_parser_expressions.proofs.Prefixes.{count_before}
 use Rattle.c_parser_expressions.proofs.pointer_stars.qualifiers.Given as goal
 

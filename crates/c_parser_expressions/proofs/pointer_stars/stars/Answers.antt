@@ -1,7 +1,7 @@
 use Rattle.std.proofs.Common.{◌-◌, ◌+◌, refl, sym, ap, ◌∙◌, length, arith}
-use Rattle.c_parser_expressions_grammar.specs.Fronts.{first_symbol}
-use Rattle.c_parser_expressions_grammar.specs.TypeNames.{IsStar}
-use Rattle.c_parser_expressions_grammar.specs.TypeNameReaders.{stars, is_star}
+use Rattle.c_parser_expression_grammar.specs.Fronts.{first_symbol}
+use Rattle.c_parser_expression_grammar.specs.TypeNames.{IsStar}
+use Rattle.c_parser_expression_grammar.specs.TypeNameReaders.{stars, is_star}
 use Rattle.c_parser_expressions.proofs.Listing.{chain_more}
 use Rattle.c_parser_expressions.proofs.Prefixes.{stars_before, stars_turn, stars_stop}
 use Rattle.c_parser_expressions.proofs.Signs.{no_star, not_so}

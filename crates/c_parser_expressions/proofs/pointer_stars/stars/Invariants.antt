@@ -1,6 +1,6 @@
 use Rattle.std.proofs.Common.{◌≡◌, ◌-◌, length}
-use Rattle.c_parser_expressions_grammar.specs.TypeNames.{Stars}
-use Rattle.c_parser_expressions_grammar.specs.TypeNameReaders.{stars}
+use Rattle.c_parser_expression_grammar.specs.TypeNames.{Stars}
+use Rattle.c_parser_expression_grammar.specs.TypeNameReaders.{stars}
 use Rattle.c_parser_expressions.proofs.Prefixes.{stars_before}
 use Rattle.c_parser_expressions.proofs.pointer_stars.stars.Given as goal
 

@@ -1,7 +1,7 @@
 use Rattle.std.proofs.Common.{◌≡◌, ◌-◌, ◌+◌, ◌∙◌, Some, None, cond, ap, sym, length, arith}
-use Rattle.c_parser_expressions_grammar.specs.declared.specifier_words.SpecifierCounts.{SpecifierCounts}
-use Rattle.c_parser_expressions_grammar.specs.TypeNames.{IsTypeNameWord, counted, counts_of, is_one_type}
-use Rattle.c_parser_expressions_grammar.specs.TypeNameReaders.{words, after_words, of_one_type}
+use Rattle.c_parser_expression_grammar.specs.declared.specifier_words.SpecifierCounts.{SpecifierCounts}
+use Rattle.c_parser_expression_grammar.specs.TypeNames.{IsTypeNameWord, counted, counts_of, is_one_type}
+use Rattle.c_parser_expression_grammar.specs.TypeNameReaders.{words, after_words, of_one_type}
 use Rattle.c_parser_expressions.proofs.Listing.{chain_more, counts_more}
 use Rattle.c_parser_expressions.proofs.Prefixes.{words_before, words_turn, words_no_word, words_stop, words_over}
 use Rattle.c_parser_expressions.proofs.Outcomes.{refuses}

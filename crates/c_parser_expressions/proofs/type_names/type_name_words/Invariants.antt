@@ -1,7 +1,7 @@
 use Rattle.std.proofs.Common.{◌≡◌, ◌-◌, length}
-use Rattle.c_parser_expressions_grammar.specs.Spans.{Chain}
-use Rattle.c_parser_expressions_grammar.specs.TypeNames.{IsTypeNameWord, counts_of}
-use Rattle.c_parser_expressions_grammar.specs.TypeNameReaders.{words}
+use Rattle.c_parser_expression_grammar.specs.Spans.{Chain}
+use Rattle.c_parser_expression_grammar.specs.TypeNames.{IsTypeNameWord, counts_of}
+use Rattle.c_parser_expression_grammar.specs.TypeNameReaders.{words}
 use Rattle.c_parser_expressions.proofs.Prefixes.{words_before}
 use Rattle.c_parser_expressions.proofs.type_names.type_name_words.Given as goal
 

@@ -1,6 +1,6 @@
 use Rattle.std.proofs.Common.{map, string_bytes, nat_lt, not, sym, ◌∙◌, ap, rules}
 use Rattle.cc_base.specs.declared.refusals.Refusal.TheVariants as refusal
-use Rattle.c_tokens.specs.Cutting.{fault_of}
+use Rattle.c_lexer.specs.Cutting.{fault_of}
 use Rattle.c_preproc_directives.specs.OpenFiles.{opened_of}
 use Rattle.c_preproc.specs.Known.{known_of}
 use Rattle.c_preproc.specs.Units.{world_of, course, step}

@@ -2,7 +2,7 @@ use Rattle.std.proofs.Common.{◌≡◌, map, drop}
 use Rattle.c_layout.specs.DeclarationTrees.{enumerator_view}
 use Rattle.c_types_scopes.specs.Answers.{after}
 use Rattle.c_types_scopes.specs.States.{state}
-use Rattle.c_types_expressions.proofs.Walks.{behind}
+use Rattle.c_types_expressions.proofs.expressions.Walks.{behind}
 use Rattle.c_types_declarations.specs.Enumerations.{enumerator_values}
 use Rattle.c_types_declarations.proofs.enumerations.enumerator_values.Given as goal
 

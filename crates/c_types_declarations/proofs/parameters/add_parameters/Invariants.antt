@@ -3,7 +3,7 @@ use Rattle.c_layout.specs.Types.{view}
 use Rattle.c_layout.specs.DeclarationTrees.{parameter_view}
 use Rattle.c_types_scopes.specs.Answers.{after}
 use Rattle.c_types_scopes.specs.States.{state}
-use Rattle.c_types_expressions.proofs.Walks.{behind}
+use Rattle.c_types_expressions.proofs.expressions.Walks.{behind}
 use Rattle.c_types_declarations.specs.FunctionHeads.{add_parameters}
 use Rattle.c_types_declarations.proofs.parameters.add_parameters.Given as goal
 

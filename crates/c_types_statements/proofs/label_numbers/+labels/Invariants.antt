@@ -1,8 +1,8 @@
 use Rattle.std.proofs.Common.{◌≡◌, map, drop}
 use Rattle.c_layout.specs.DeclarationTrees.{statement_tree, statement_trees}
 use Rattle.c_types_scopes.specs.States.{state}
-use Rattle.c_types_statement_rules.specs.BodyFlow.{flow_view}
-use Rattle.c_types_statement_rules.specs.Points.{point}
+use Rattle.c_types_statement_rules.specs.StatementRules.BodyFlow.{flow_view}
+use Rattle.c_types_statement_rules.specs.StatementRules.Points.{point}
 use Rattle.c_types_statements.specs.LabelNumbers.{with_all_labels}
 use Rattle.c_types_statements.proofs.label_numbers.+labels.Given as goal
 

@@ -2,7 +2,7 @@ use Rattle.std.proofs.Common.{◌≡◌, map, drop}
 use Rattle.c_layout.specs.DeclarationTrees.{init_declarator_view}
 use Rattle.c_types_scopes.specs.States.{state}
 use Rattle.c_types_declarations.specs.Specifiers.{specified_view}
-use Rattle.c_types_objects.specs.LocalObjects.{parts_view}
+use Rattle.c_types_statement_rules.specs.Objects.LocalObjects.{parts_view}
 use Rattle.c_types_statements.specs.LocalDeclarations.{declarators}
 use Rattle.c_types_statements.proofs.local_declarations.declarators_of.Given as goal
 

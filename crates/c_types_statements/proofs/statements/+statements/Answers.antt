@@ -5,9 +5,9 @@ use Rattle.c_layout.specs.DeclarationTrees.{name_view, statement_tree}
 use Rattle.c_layout.specs.declared.syntax_tree.statements.Statement.{the_lemmas}
 use Rattle.c_types_scopes.specs.States.{state}
 use Rattle.c_types_operands.specs.Operands.{boxed_term}
-use Rattle.c_types_statement_rules.specs.BodyFlow.{flow_view}
-use Rattle.c_types_statement_rules.specs.Points.{Point, point}
-use Rattle.c_types_statement_rules.specs.SimpleStatements.{boxed_statement}
+use Rattle.c_types_statement_rules.specs.StatementRules.BodyFlow.{flow_view}
+use Rattle.c_types_statement_rules.specs.StatementRules.Points.{Point, point}
+use Rattle.c_types_statement_rules.specs.StatementRules.SimpleStatements.{boxed_statement}
 use Rattle.c_types_statements.specs.LocalDeclarations.{local_declaration}
 use Rattle.c_types_statements.specs.Statements as spec
 use Rattle.c_types_statements.proofs.Steps.{as_well, branched}

@@ -1,9 +1,9 @@
 use Rattle.std.proofs.Common.{◌≡◌, map, drop}
 use Rattle.c_layout.specs.DeclarationTrees.{statement_tree, statement_trees}
 use Rattle.c_types_scopes.specs.States.{state}
-use Rattle.c_types_statement_rules.specs.BodyFlow.{flow_view}
-use Rattle.c_types_statement_rules.specs.Points.{point}
-use Rattle.c_types_objects.specs.LocalObjects.{parts_view}
+use Rattle.c_types_statement_rules.specs.StatementRules.BodyFlow.{flow_view}
+use Rattle.c_types_statement_rules.specs.StatementRules.Points.{point}
+use Rattle.c_types_statement_rules.specs.Objects.LocalObjects.{parts_view}
 use Rattle.c_types_statements.specs.LocalDeclarations.{local_declaration}
 use Rattle.c_types_statements.specs.Statements.{items}
 use Rattle.c_types_statements.proofs.statements.+statements.Given as goal

@@ -1,8 +1,0 @@
-//! Laws of the abstract steps of whole programs.
-#![tactic(auto)]
-
-mod theorems;
-
-pub use theorems::{
-    edges_and_instructions_are_monotone, steps_in_memory_are_monotone, systems_are_monotone,
-};

@@ -1,5 +1,0 @@
-use Rattle.abstract_steps_laws_structs.proofs.StructCopies.{copies_rise}
-use Rattle.abstract_steps_laws_structs.proofs.theorems.struct_copies_are_monotone.Goals as goal
-
-pub returns : goal.returns
-returns g c = λ mono all flow k laid spread. copies_rise g.met.I.Lattice.order g.met.I.IntDomain.bounding mono g.met.I.IntDomain.ranges all flow k laid spread

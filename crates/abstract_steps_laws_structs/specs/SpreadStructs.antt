@@ -1,8 +1,0 @@
--- Programs whose structs have leaves that share no bytes.
-use Rattle.std.specs.Prelude.{◌≡◌, ℕ, Some, slice_get}
-use Rattle.c_layout.specs.StructViews.{StructView, structs_view}
-use Rattle.flow_program.specs.declared.programs.Flow.{Flow}
-use Rattle.store_domain_laws_structs.specs.SpreadStructs.{IsSpread}
-
-pub record AreSpread (flow : Flow) : Type 0 where
-  pub each : (index : ℕ) (s : StructView) → slice_get (structs_view flow.structs) index ≡ Some s → IsSpread flow.model (structs_view flow.structs) index s

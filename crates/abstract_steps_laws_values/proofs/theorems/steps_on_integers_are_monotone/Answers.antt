@@ -1,5 +1,0 @@
-use Rattle.abstract_steps_laws_values.proofs.IntegerSteps.{integer_steps}
-use Rattle.abstract_steps_laws_values.proofs.theorems.steps_on_integers_are_monotone.Goals as goal
-
-pub returns : goal.returns
-returns g c = λ mono all flow k. integer_steps g.met.I.Lattice.order g.met.I.IntDomain.bounding mono g.met.I.IntDomain.ranges all flow k

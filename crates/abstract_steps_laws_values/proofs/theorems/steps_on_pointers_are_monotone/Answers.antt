@@ -1,5 +1,0 @@
-use Rattle.abstract_steps_laws_values.proofs.PointerSteps.{pointer_steps}
-use Rattle.abstract_steps_laws_values.proofs.theorems.steps_on_pointers_are_monotone.Goals as goal
-
-pub returns : goal.returns
-returns g c = λ mono all flow k. pointer_steps g.met.I.Lattice.order g.met.I.IntDomain.bounding mono g.met.I.IntDomain.ranges all flow k

@@ -1,5 +1,0 @@
-use Rattle.abstract_steps_laws_writes.proofs.FillCalls.{memset_rises}
-use Rattle.abstract_steps_laws_writes.proofs.theorems.fills_are_monotone.Goals as goal
-
-pub returns : goal.returns
-returns g c = λ mono all flow k. memset_rises g.met.I.Lattice.order g.met.I.IntDomain.bounding mono g.met.I.IntDomain.ranges all flow k

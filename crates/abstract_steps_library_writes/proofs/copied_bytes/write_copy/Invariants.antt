@@ -1,7 +1,0 @@
-use Rattle.std.proofs.Common.{◌≡◌, drop}
-use Rattle.store_domain.specs.Walks.{walk}
-use Rattle.abstract_steps_library_writes.specs.CopyWrites.{copy_in}
-use Rattle.abstract_steps_library_writes.proofs.copied_bytes.write_copy.Given as goal
-
-abbrev pub invariant-loop-n : goal.invariant-loop-n
-invariant-loop-n g l = walk (copy_in g.I.Lattice.lattice g.I.IntDomain.numbers l.flow.model l.write) l.n (drop l.n l.bases) l.row ≡ walk (copy_in g.I.Lattice.lattice g.I.IntDomain.numbers l.flow.model l.write) 0 l.bases l.initial.row

@@ -1,7 +1,0 @@
-use Rattle.std.proofs.Common.{◌≡◌, drop}
-use Rattle.store_domain.specs.Walks.{walk}
-use Rattle.abstract_steps_library_writes.specs.TextWrites.{write_leaf_of}
-use Rattle.abstract_steps_library_writes.proofs.text_writes.write_leaves.Given as goal
-
-abbrev pub invariant-loop-at : goal.invariant-loop-at
-invariant-loop-at g l = walk (write_leaf_of g.I.Lattice.lattice g.I.IntDomain.numbers l.model l.base l.write) l.at (drop l.at l.leaves) l.row ≡ walk (write_leaf_of g.I.Lattice.lattice g.I.IntDomain.numbers l.model l.base l.write) 0 l.leaves l.initial.row

@@ -1,9 +1,0 @@
-use Rattle.std.proofs.Common.{◌≡◌, ◌++◌, take, drop, map}
-use Rattle.abstract_steps_rows.specs.FittedRows.{filled_with}
-use Rattle.abstract_steps_rows.proofs.fitted_rows.overwrite.Given as goal
-
-abbrev pub invariant-loop-at : goal.invariant-loop-at
-invariant-loop-at g l = record {
-  row : take l.at l.row ++ map (filled_with l.cell) (drop l.at l.fn.row) ≡ map (filled_with l.cell) l.fn.row;
-  rest : drop l.at l.row ≡ drop l.at l.fn.row;
-}

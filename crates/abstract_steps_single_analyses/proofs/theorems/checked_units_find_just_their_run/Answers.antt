@@ -1,5 +1,0 @@
-use Rattle.abstract_steps_single_analyses.proofs.SingleAnalyses.{finds_checked_run}
-use Rattle.abstract_steps_single_analyses.proofs.theorems.checked_units_find_just_their_run.Goals as goal
-
-pub returns : goal.returns
-returns c = λ flow list found a. finds_checked_run flow list found a

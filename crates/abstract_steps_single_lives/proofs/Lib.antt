@@ -1,9 +1,0 @@
-pub mod ToldEnters
-pub mod LeftBases
-pub mod LeftValues
-pub mod LeftRows
-pub mod ToldLeaves
-pub use Rattle.abstract_steps_single_store.proofs.ToldClears
-pub use Rattle.abstract_steps_single_store.proofs.ToldForgets
-pub use Rattle.abstract_steps_single_store.proofs.ToldLoads
-pub use Rattle.abstract_steps_single_store.proofs.ToldStores

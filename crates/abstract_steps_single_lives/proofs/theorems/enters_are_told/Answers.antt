@@ -1,5 +1,0 @@
-use Rattle.abstract_steps_single_lives.proofs.ToldEnters.{enter_step_told}
-use Rattle.abstract_steps_single_lives.proofs.theorems.enters_are_told.Goals as goal
-
-pub returns : goal.returns
-returns g c = λ flow p objects plain naming row s o is fits typed r t d. enter_step_told g.met.I.IntDomain.bounding flow p objects plain naming row s r t o is fits d

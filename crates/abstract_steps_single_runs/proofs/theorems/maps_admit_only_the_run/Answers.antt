@@ -1,5 +1,0 @@
-use Rattle.abstract_steps_single_runs.proofs.SingleRuns.{maps_admit}
-use Rattle.abstract_steps_single_runs.proofs.theorems.maps_admit_only_the_run.Goals as goal
-
-pub returns : goal.returns
-returns g c = λ flow list limits. maps_admit g.met.I.Lattice.order flow list limits

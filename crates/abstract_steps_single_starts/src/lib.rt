@@ -1,6 +1,0 @@
-//! The row of the entry tells exactly what the state is in which a run of a plain program begins.
-#![tactic(auto)]
-
-mod theorems;
-
-pub use theorems::start_is_told;

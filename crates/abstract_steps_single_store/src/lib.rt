@@ -1,6 +1,0 @@
-//! Where the rows of the analysis tell exactly what a state is, so do those behind an instruction on memory.
-#![tactic(auto)]
-
-mod theorems;
-
-pub use theorems::{clears_are_told, forgets_are_told, loads_are_told, stores_are_told};

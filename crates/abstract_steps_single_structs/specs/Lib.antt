@@ -1,3 +1,0 @@
-pub use Rattle.abstract_steps_single_copies.specs.CopyLaws
-pub use Rattle.abstract_steps_single_copies.specs.TypedCopies
-pub use Rattle.abstract_steps_single_copies.specs.TypedAccesses

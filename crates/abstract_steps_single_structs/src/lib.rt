@@ -1,2 +1,0 @@
-//! Copies of structs on rows that tell the state.
-#![tactic(auto)]

@@ -1,1 +1,0 @@
-pub use Rattle.abstract_steps_single_ways.specs.WayLaws

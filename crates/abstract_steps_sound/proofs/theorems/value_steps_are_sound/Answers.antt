@@ -1,5 +1,0 @@
-use Rattle.abstract_steps_sound.proofs.ValueSteps.{value_step_sound}
-use Rattle.abstract_steps_sound.proofs.theorems.value_steps_are_sound.Goals as goal
-
-pub returns : goal.returns
-returns g c = λ flow sound p naming row s i is fits typed r. value_step_sound g.met.I.IntDomain.bounding sound g.met.I.IntDomain.ranges flow p naming row s r i is fits typed

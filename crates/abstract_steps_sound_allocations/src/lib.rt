@@ -1,6 +1,0 @@
-//! Calls of the library that allocate are sound.
-#![tactic(auto)]
-
-mod theorems;
-
-pub use theorems::allocation_calls_are_sound;

@@ -1,4 +1,0 @@
-pub mod TypedInitializers
-pub mod UnitStarts
-pub mod Beginnings
-pub use Rattle.abstract_steps_sound_first_memory.specs.RegularPrograms

@@ -1,2 +1,0 @@
-pub mod CheckedStarts
-pub use Rattle.abstract_steps_sound_lowered_starts.proofs.LoweredStarts

@@ -1,5 +1,0 @@
-pub mod CheckedStarts
-pub use Rattle.abstract_steps_sound_lowered_starts.specs.LoweredStarts
-pub use Rattle.abstract_steps_sound_lowered_starts.specs.RegularPrograms
-pub use Rattle.abstract_steps_sound_lowered_starts.specs.TypedInitializers
-pub use Rattle.abstract_steps_sound_lowered_starts.specs.UnitStarts

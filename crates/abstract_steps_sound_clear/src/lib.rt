@@ -1,6 +1,0 @@
-//! The instruction of the analysis that clears an object is sound.
-#![tactic(auto)]
-
-mod theorems;
-
-pub use theorems::clear_steps_are_sound;

@@ -1,6 +1,0 @@
-//! Copies of structs: what the write of a leaf makes of a cell.
-#![tactic(auto)]
-
-mod theorems;
-
-pub use theorems::leaf_writes_stand;

@@ -1,2 +1,0 @@
-//! Reads of leaves of copied structs.
-#![tactic(auto)]

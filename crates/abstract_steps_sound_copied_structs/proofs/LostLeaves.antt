@@ -1,9 +1,0 @@
--- A table in which a copy loses a leaf.
-use Rattle.std.proofs.Common.{refl}
-use Rattle.c_layout.specs.Leaves.{leaves_of}
-use Rattle.store_domain_structs.specs.LeafNumbers.{struct_leaf, member_at}
-use Rattle.abstract_steps_sound_copied_structs.specs.LostLeaves.{LosesLeaf}
-
-pub loses_leaf : LosesLeaf
-unfolding leaves_of struct_leaf member_at
-loses_leaf = record { counted = refl; apart = refl; listed = refl; lost = refl }

@@ -1,6 +1,0 @@
-//! Copies of structs are sound.
-#![tactic(auto)]
-
-mod theorems;
-
-pub use theorems::copies_are_sound;

@@ -1,8 +1,0 @@
-pub mod EntryRows
-pub use Rattle.abstract_steps_laws_own_starts.proofs.RegularStarts
-pub use Rattle.abstract_steps_sound_beginnings.proofs.Beginnings
-pub use Rattle.abstract_steps_laws_own_starts.proofs.BuiltPrograms
-pub use Rattle.abstract_steps_laws_own_starts.proofs.OwnEdges
-pub use Rattle.abstract_steps_sound_maps.proofs.EdgeEnds
-pub use Rattle.abstract_steps_sound_maps.proofs.NearBounds
-pub use Rattle.abstract_steps_sound_maps.proofs.ToldRows

@@ -1,6 +1,0 @@
-//! The memory in which a run begins, and which instances the bases name then.
-#![tactic(auto)]
-
-mod theorems;
-
-pub use theorems::runs_begin_in_memory;

@@ -1,4 +1,0 @@
-pub mod LoweredStarts
-pub use Rattle.abstract_steps_sound_beginnings.specs.UnitStarts
-pub use Rattle.abstract_steps_sound_beginnings.specs.TypedInitializers
-pub use Rattle.abstract_steps_sound_beginnings.specs.RegularPrograms

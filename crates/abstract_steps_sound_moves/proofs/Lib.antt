@@ -1,8 +1,0 @@
-pub mod ReadBytes
-pub mod SourceBytes
-pub mod CopiedCells
-pub mod CopiedRows
-pub mod MovedMemory
-pub mod CopyCalls
-pub mod CopySteps
-pub use Rattle.abstract_steps_sound_fills.proofs.FillSteps

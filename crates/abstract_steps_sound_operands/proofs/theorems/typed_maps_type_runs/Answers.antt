@@ -1,8 +1,0 @@
-use Rattle.abstract_steps_covered.proofs.Covering.{runs_covered_by_rows, runs_typed_by_rows}
-use Rattle.abstract_steps_sound_operands.proofs.TypedMaps.{map_types}
-use Rattle.abstract_steps_sound_operands.proofs.theorems.typed_maps_type_runs.Goals as goal
-
-pub returns : goal.returns
-returns g c = λ flow limits good steps ends u rows begins carries typed.
-    let types = map_types g.met.I.IntDomain.bounding flow rows typed in
-    (runs_covered_by_rows _ _ _ flow limits good steps ends u rows begins carries types, runs_typed_by_rows _ _ _ flow limits good steps ends u rows begins carries types)

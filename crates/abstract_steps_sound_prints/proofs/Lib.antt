@@ -1,2 +1,0 @@
-pub mod PrintCalls
-pub use Rattle.abstract_steps_sound_strings.proofs.StringCalls

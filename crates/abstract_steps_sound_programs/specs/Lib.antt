@@ -1,9 +1,0 @@
-pub mod OpenSteps
-pub use Rattle.abstract_steps_sound_reallocations.specs.ReallocationCalls
-pub use Rattle.abstract_steps_sound_reallocations.specs.AllocationCalls
-pub use Rattle.abstract_steps_sound_tests.specs.ScalarObjects
-pub use Rattle.abstract_steps_sound_copies.specs.StructTables
-pub use Rattle.abstract_steps_sound_tests.specs.EdgeSteps
-pub use Rattle.abstract_steps_sound_spelling.specs.SpellSteps
-pub use Rattle.abstract_steps_sound_copies.specs.OperandTypes
-pub use Rattle.abstract_steps_sound_copies.specs.SoundSteps

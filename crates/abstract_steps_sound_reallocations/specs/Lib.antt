@@ -1,2 +1,0 @@
-pub mod ReallocationCalls
-pub use Rattle.abstract_steps_sound_allocations.specs.AllocationCalls

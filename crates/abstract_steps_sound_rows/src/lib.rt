@@ -1,2 +1,0 @@
-//! Worked rows of soundness: tables that what rows stand for refuses.
-#![tactic(auto)]

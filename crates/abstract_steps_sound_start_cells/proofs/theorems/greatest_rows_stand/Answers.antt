@@ -1,5 +1,0 @@
-use Rattle.abstract_steps_sound_start_cells.proofs.GreatestRows.{greatest_stands}
-use Rattle.abstract_steps_sound_start_cells.proofs.theorems.greatest_rows_stand.Goals as goal
-
-pub returns : goal.returns
-returns g c = λ flow all row greatest naming memory entered sane lives. greatest_stands g.met.I.Lattice.order g.met.I.IntDomain.bounding flow all row greatest naming memory sane entered lives

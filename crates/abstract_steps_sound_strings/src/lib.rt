@@ -1,6 +1,0 @@
-//! Calls of the library that read strings are sound.
-#![tactic(auto)]
-
-mod theorems;
-
-pub use theorems::string_calls_are_sound;

@@ -1,6 +1,0 @@
-//! The initializers of checked units are typed.
-#![tactic(auto)]
-
-mod theorems;
-
-pub use theorems::checked_initializers_are_typed;

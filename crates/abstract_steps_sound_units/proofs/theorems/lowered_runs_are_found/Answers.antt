@@ -1,5 +1,0 @@
-use Rattle.abstract_steps_sound_units.proofs.SoundUnits.{lowered_found}
-use Rattle.abstract_steps_sound_units.proofs.theorems.lowered_runs_are_found.Goals as goal
-
-pub returns : goal.returns
-returns c = λ flow list found a. lowered_found flow list found a

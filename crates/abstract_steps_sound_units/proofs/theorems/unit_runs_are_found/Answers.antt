@@ -1,5 +1,0 @@
-use Rattle.abstract_steps_sound_units.proofs.SoundUnits.{units_found}
-use Rattle.abstract_steps_sound_units.proofs.theorems.unit_runs_are_found.Goals as goal
-
-pub returns : goal.returns
-returns c = λ flow list found a. units_found flow list found a

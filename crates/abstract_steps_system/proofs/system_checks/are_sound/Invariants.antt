@@ -1,7 +1,0 @@
-use Rattle.std.proofs.Common.{◌≡◌, drop}
-use Rattle.std.specs.List.{list_all}
-use Rattle.abstract_steps_system.specs.SystemChecks.{is_sound_edge}
-use Rattle.abstract_steps_system.proofs.system_checks.are_sound.Given as goal
-
-abbrev pub invariant-loop-at : goal.invariant-loop-at
-invariant-loop-at l = list_all (is_sound_edge l.blocks) (drop l.at l.edges) ≡ list_all (is_sound_edge l.blocks) l.edges

@@ -1,0 +1,6 @@
+pub mod Analyses
+pub mod CheckedPrograms
+pub mod Counts
+pub mod StepBounds
+pub use Rattle.system_monotone.specs.Systems.RegularPrograms
+pub use Rattle.diagnose.specs.Operands.TypedRows

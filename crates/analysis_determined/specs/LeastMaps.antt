@@ -1,0 +1,2 @@
+pub mod LeastAnalyses
+pub mod CountedSteps

@@ -1,0 +1,6 @@
+pub mod SyntacticRules
+pub mod ProgramViews
+pub mod UnrolledRuns
+pub mod LeastMaps
+pub mod UnrolledDiagnostics
+pub mod AnalysisViews

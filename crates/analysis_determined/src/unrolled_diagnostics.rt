@@ -1,0 +1,5 @@
+//! Laws of programs whose loops are unrolled to a bound.
+
+mod theorems;
+
+pub use theorems::{maps_are_copied, turned_pairs_are_named};

@@ -1,0 +1,5 @@
+//! Laws on runs of programs with turns unrolled.
+
+mod theorems;
+
+pub use theorems::{turned_runs_are_the_same, well_formed_programs_are_linked};

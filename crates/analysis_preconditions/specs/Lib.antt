@@ -1,0 +1,2 @@
+pub mod StructNesting
+pub mod Objects

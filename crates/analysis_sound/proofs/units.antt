@@ -1,0 +1,6 @@
+pub mod SoundUnits
+pub mod CheckedUnits
+mod WorkedProgram
+mod WorkedOperands
+mod MetPremises
+pub mod TurnedSound

@@ -1,0 +1,2 @@
+pub mod SoundAnalyses
+pub mod SoundParts

@@ -1,6 +1,0 @@
-//! Laws of the grammar: a unit has one tree.
-#![tactic(auto)]
-
-mod theorems;
-
-pub use theorems::{one_external_declaration, one_refusal, one_statement, one_tree};

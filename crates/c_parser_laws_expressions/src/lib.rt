@@ -1,6 +1,0 @@
-//! Laws of the grammar of expressions: what tokens derive from fixes the tree.
-#![tactic(auto)]
-
-mod theorems;
-
-pub use theorems::one_expression;

@@ -1,6 +1,0 @@
-//! Laws of the readers of expressions: whatever derives within the budget is found.
-#![tactic(auto)]
-
-mod theorems;
-
-pub use theorems::expressions_are_found;

@@ -1,9 +1,0 @@
-//! Laws of the readers of statements and units: whatever derives within the budget is found.
-#![tactic(auto)]
-
-mod theorems;
-
-pub use theorems::{
-    external_declarations_are_found, refused_pieces_have_no_derivation, statements_are_found,
-    units_are_found,
-};

@@ -1,5 +1,0 @@
-use Rattle.c_tokens.proofs.Total.{gives}
-use Rattle.c_tokens.proofs.cutting.lex.Goals as goal
-
-pub returns-clause-given : goal.returns-clause-given
-returns-clause-given c = gives c.args.file c.args.bytes.now c.cut_file.result c.cut_file.ensures.ok c.cut_file.ensures.refused

@@ -1,5 +1,0 @@
-use Rattle.c_tokens.proofs.Total.{answer_is}
-use Rattle.c_tokens.proofs.theorems.every_file_has_an_answer.Goals as goal
-
-pub returns : goal.returns
-returns c = answer_is

@@ -1,0 +1,2 @@
+pub mod FunctionDeclarations
+pub mod ExternalDeclarations

@@ -1,6 +1,0 @@
-use Rattle.c_types_expressions.specs.Leaves.{named}
-use Rattle.c_types_expressions.proofs.leaves.named.Goals as goal
-
-pub returns : goal.returns
-unfolding named
-returns c = c.name.ensures

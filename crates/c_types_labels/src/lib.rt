@@ -1,6 +1,0 @@
-//! The case labels of each switch of a checked unit have distinct values.
-#![tactic(auto)]
-
-mod theorems;
-
-pub use theorems::checked_cases_are_distinct;

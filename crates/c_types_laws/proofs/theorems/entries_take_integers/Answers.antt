@@ -1,5 +1,0 @@
-use Rattle.c_types_laws.proofs.Entries.{entries_take_integers}
-use Rattle.c_types_laws.proofs.theorems.entries_take_integers.Goals as goal
-
-pub returns : goal.returns
-returns c = entries_take_integers

@@ -1,6 +1,0 @@
-//! What typing knows at the end of a unit is part of the unit.
-#![tactic(auto)]
-
-mod theorems;
-
-pub use theorems::units_have_heads;

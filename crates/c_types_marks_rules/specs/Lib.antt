@@ -1,1 +1,0 @@
-pub use Rattle.c_types_marks_tests.specs.UnitParts

@@ -1,6 +1,0 @@
-//! What rules of typing make of made operands: values, conversions, and terms between two operands.
-#![tactic(auto)]
-
-mod theorems;
-
-pub use theorems::{conversions_give, unused_is_marked, values_are_made};

@@ -1,7 +1,0 @@
-//! Bodies of functions.
-ghost use Rattle.c_types_marks_statements.specs.MarkedBodies.{BodiesAreMarked};
-
-/// The statements that typing makes of a body have terms with operands of their marks, and conditions that decide their tests.
-pub fn bodies_are_marked()
-    ensures { BodiesAreMarked }
-{}

@@ -1,9 +1,0 @@
-pub mod Steps
-pub mod Parts
-pub mod TypeNames
-mod Primaries
-mod Arguments
-mod LibraryCalls
-mod Calls
-pub mod Expressions
-pub use Rattle.c_types_marks_rules.proofs.ModelKinds

@@ -1,0 +1,5 @@
+pub mod IntegerKinds
+pub mod ConstantFolding
+pub mod TypeWords
+pub mod TypeConversions
+pub mod TypeSizes

@@ -1,6 +1,0 @@
-//! Each checked unit names its local objects where they live.
-#![tactic(auto)]
-
-mod theorems;
-
-pub use theorems::checks_are_scoped;

@@ -1,0 +1,11 @@
+use Rattle.std.proofs.Common.{ap, refl}
+use Rattle.c_types_scopes.specs.DeclaredTypes.{object_view}
+use Rattle.c_types_scopes.specs.States.{State, state}
+use Rattle.c_types_statement_rules.specs.Objects.FileObjects.{with_object_enumeration}
+use Rattle.c_types_statement_rules.proofs.objects.InPlace.{changed_in}
+use Rattle.c_types_statement_rules.proofs.objects.file_objects.set_enumeration.Goals as goal
+
+pub returns-in-Some : goal.returns-in-Some
+returns-in-Some c =
+    let s : State = state c.args.cx.now in
+    ap (λ l. record s { objects = l }) (changed_in object_view (with_object_enumeration c.args.enumeration) c.args.cx.now.objects.items c.args.index c.in-Some.object.now (record c.in-Some.object.now { declared = record c.in-Some.object.now.declared { enumeration = c.args.enumeration } }) c.in-Some.ensures.item.3.0 c.in-Some.ensures.value refl)

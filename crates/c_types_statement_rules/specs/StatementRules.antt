@@ -1,0 +1,5 @@
+pub mod BodyFlow
+pub mod Points
+pub mod SimpleStatements
+pub mod CompoundStatements
+pub mod StatementNodes

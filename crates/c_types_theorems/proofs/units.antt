@@ -1,0 +1,5 @@
+pub mod Constants
+pub mod Kept
+pub mod Bodies
+pub mod Files
+pub mod Units

@@ -1,0 +1,6 @@
+//! Theorems on integer entries and on the places of initial values.
+#![tactic(auto)]
+
+pub mod entries;
+pub mod stores;
+pub mod units;

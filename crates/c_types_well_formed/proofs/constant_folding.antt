@@ -1,0 +1,3 @@
+mod SameBits
+pub mod FoldedNumbers
+pub mod SizeNumbers

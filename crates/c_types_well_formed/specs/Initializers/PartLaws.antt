@@ -1,0 +1,13 @@
+-- The laws of what stands in initializers, declarations and statements.
+use Rattle.c_types_well_formed.specs.WellFormed.MadeLaws.{ValuesAreMade, ConversionsGive, UnusedIsMarked, SwitchesSelect}
+use Rattle.c_types_well_formed.specs.WellFormed.TypingLaws.{ExpressionsAreMade}
+use Rattle.c_types_well_formed.specs.Types.TypeLaws.{SpecifiersKeep, DeclaratorsKeep}
+
+pub record HasLaws : Type 0 where
+  pub expressions : ExpressionsAreMade
+  pub values : ValuesAreMade
+  pub conversions : ConversionsGive
+  pub unused : UnusedIsMarked
+  pub switches : SwitchesSelect
+  pub specifiers : SpecifiersKeep
+  pub declarators : DeclaratorsKeep

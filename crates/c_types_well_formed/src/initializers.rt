@@ -1,0 +1,5 @@
+//! What typing makes of initializers and local declarations is marked.
+
+mod theorems;
+
+pub use theorems::{declarations_are_marked, initializers_are_marked};

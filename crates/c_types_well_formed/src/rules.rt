@@ -1,0 +1,5 @@
+//! What rules of typing make of made operands: values, conversions, and terms between two operands.
+
+mod theorems;
+
+pub use theorems::{conversions_give, unused_is_marked, values_are_made};

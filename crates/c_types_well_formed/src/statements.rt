@@ -1,0 +1,5 @@
+//! What typing makes of statements and bodies is marked.
+
+mod theorems;
+
+pub use theorems::bodies_are_marked;

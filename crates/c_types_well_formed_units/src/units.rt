@@ -1,0 +1,5 @@
+//! Each checked unit is marked.
+
+mod theorems;
+
+pub use theorems::checks_are_marked;

@@ -1,8 +1,0 @@
-//! The texts of maps from the blocks of a program to rows.
-#![tactic(auto)]
-
-mod least_cells;
-mod map_texts;
-
-pub use least_cells::is_least;
-pub use map_texts::{head_text, write_cert};

@@ -1,8 +1,0 @@
--- A map whose rows are written holds its rows.
-use Rattle.std.proofs.Common.{◌≡◌, ◌∙◌, List, Option, slice_get, ap}
-use Rattle.row_pool.specs.Pool.{Pool}
-use Rattle.row_pool.specs.declared.row_name.Row.{Row}
-use Rattle.fixpoint_engine.specs.RowMap.{IsHeld}
-
-pub held_same : {C : Type 0} (p q : Pool C) (slots : List (Option Row)) → q.taken ≡ p.taken → IsHeld p slots → IsHeld q slots
-held_same p q slots e h = record { taken = λ b i at. ap (λ ts. slice_get ts i) e ∙ h.taken b i at; apart = h.apart }

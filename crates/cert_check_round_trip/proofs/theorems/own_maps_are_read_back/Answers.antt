@@ -1,5 +1,0 @@
-use Rattle.cert_check_round_trip.proofs.MapWords.{read_back}
-use Rattle.cert_check_round_trip.proofs.theorems.own_maps_are_read_back.Goals as goal
-
-pub returns : goal.returns
-returns c = λ flow small rows size own. read_back flow small rows size own

@@ -1,5 +1,0 @@
-use Rattle.cert_check_sound.proofs.SoundCertificates.{holds_each_pair}
-use Rattle.cert_check_sound.proofs.theorems.accepted_certificates_hold_runs.Goals as goal
-
-pub returns : goal.returns
-returns c = λ flow text found shown. holds_each_pair flow text found shown

@@ -1,6 +1,0 @@
-use Rattle.std.proofs.Common.{◌≡◌, ◌≤◌}
-use Rattle.cert_check_text.specs.BaseDigits.{used_below}
-use Rattle.cert_check_text.proofs.base_digits.used_digits.Given as goal
-
-abbrev pub invariant-loop-at : goal.invariant-loop-at
-invariant-loop-at l = (l.used ≡ used_below l.set l.at) × (l.used ≤ l.at) × (l.at ≤ l.count)

@@ -1,6 +1,0 @@
-//! The lines of certificates are read back from their texts.
-#![tactic(auto)]
-
-mod theorems;
-
-pub use theorems::lines_are_read_back;

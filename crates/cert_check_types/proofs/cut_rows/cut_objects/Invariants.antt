@@ -1,7 +1,0 @@
-use Rattle.std.proofs.Common.{◌≡◌, drop}
-use Rattle.cert_check_types.specs.CutCells.{cut_all}
-use Rattle.cert_check_types.specs.RowKinds.{objects_kinds}
-use Rattle.cert_check_types.proofs.cut_rows.cut_objects.Given as goal
-
-abbrev pub invariant-loop-at : goal.invariant-loop-at
-invariant-loop-at l = cut_all (objects_kinds l.model (drop l.at l.bases)) l.row ≡ cut_all (objects_kinds l.model l.bases) l.initial.row

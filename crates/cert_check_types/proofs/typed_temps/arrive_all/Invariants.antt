@@ -1,6 +1,0 @@
-use Rattle.std.proofs.Common.{◌≡◌, drop}
-use Rattle.cert_check_types.specs.TypedTemps.{along, arrive_all}
-use Rattle.cert_check_types.proofs.typed_temps.arrive_all.Given as goal
-
-abbrev pub invariant-loop-at : goal.invariant-loop-at
-invariant-loop-at l = along l.model l.kinds (drop l.at l.edges) (record { all = l.all; grew = l.grew }) ≡ arrive_all l.model l.kinds l.edges l.initial.all

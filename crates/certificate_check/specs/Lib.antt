@@ -1,0 +1,3 @@
+pub mod ClosedMaps
+pub mod Reading
+pub mod Verdicts

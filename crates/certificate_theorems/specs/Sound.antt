@@ -1,0 +1,4 @@
+pub mod FittedRows
+pub mod CertifiedMaps
+pub mod SoundCertificates
+pub mod WorkedCertificates

@@ -1,0 +1,14 @@
+pub mod LookedUnits
+pub mod DefinedRuns
+pub mod FoundRuns
+pub mod PlainRuns
+pub mod ReplayedRuns
+pub mod CertifiedRuns
+pub mod AnsweredRuns
+pub mod GatedRuns
+pub mod ToldVerdicts
+pub mod VerifiedRuns
+pub mod ToldReplays
+pub mod AcceptedVerbs
+pub mod CompleteAnswers
+pub mod Clauses

@@ -1,0 +1,12 @@
+//! The program, and what its answers hold: each rule that a run of the unit violates is told, and of a plain unit no other.
+
+mod program;
+mod theorems;
+
+pub use cli_texts::{load_unit, report_json, report_text};
+pub use program::run;
+pub use theorems::{
+    answered_runs_are_defined, answers_hold_runs, certificates_hold_runs, gates_hold_runs,
+    judged_pairs_are_violated, judged_runs_are_found, replays_are_told, replays_stand_in_reports,
+    reports_hold_just_runs, reports_hold_runs, typed_units_pass_looks, verified_hold_runs,
+};

@@ -1,0 +1,12 @@
+pub mod Baselines
+pub mod FurtherFiles
+pub mod Verdicts
+pub mod Answering
+pub mod Outcomes
+pub mod Choices
+pub mod Gates
+pub mod CertAnswers
+pub mod RunAnswers
+pub use Rattle.cli_units.specs.Judging
+pub use Rattle.cli_units.specs.Stages
+pub use Rattle.cli_units.specs.Certifying

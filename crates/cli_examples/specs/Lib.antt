@@ -1,0 +1,4 @@
+pub mod Units
+pub mod Outcomes
+pub mod Analyses
+pub mod Reports

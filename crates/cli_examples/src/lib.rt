@@ -1,0 +1,7 @@
+//! Worked examples, proved: one small unit from its bytes to its report.
+#![tactic(auto)]
+
+pub mod analyses;
+pub mod outcomes;
+pub mod reports;
+pub mod units;

@@ -1,0 +1,5 @@
+pub mod SameTexts
+pub mod SameUnits
+pub mod Accepted
+pub mod Told
+pub mod Answered

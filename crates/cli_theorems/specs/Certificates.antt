@@ -1,0 +1,2 @@
+pub mod SameUnits
+pub mod ProvedTexts

@@ -1,0 +1,9 @@
+pub mod GreatestRows
+pub mod Cellwise
+pub mod ClearedCells
+pub mod ReachedBases
+pub mod StaticMemory
+pub mod StoredRows
+pub mod StaticChains
+pub mod TopPrograms
+pub mod OwnCells

@@ -1,0 +1,3 @@
+pub mod FirstRoles
+pub mod FirstSanity
+pub mod Beginnings

@@ -1,0 +1,4 @@
+pub mod Literals
+pub mod Parameters
+pub mod StartedRows
+pub mod StaticBytes

@@ -1,0 +1,3 @@
+pub mod TypedInitializers
+pub mod UnitStarts
+pub mod Beginnings

@@ -1,7 +1,0 @@
-//! Rows of pools and of the least maps of small systems, as tests.
-#![tactic(auto)]
-
-#[cfg(test)]
-mod pool_rows;
-#[cfg(test)]
-mod table_rows;

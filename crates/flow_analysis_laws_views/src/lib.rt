@@ -1,6 +1,0 @@
-//! What the analysis finds in a program hangs on the view of the program alone.
-#![tactic(auto)]
-
-mod theorems;
-
-pub use theorems::analyses_hang_on_views;

@@ -1,6 +1,0 @@
-use Rattle.std.proofs.Common.{◌≡◌, ◌++◌, map, drop}
-use Rattle.flow_lower.specs.MovedActs as spec
-use Rattle.flow_lower.proofs.moved_operations.Shifted.temps.Given as goal
-
-abbrev pub invariant-loop-temp : goal.invariant-loop-temp
-invariant-loop-temp l = l.list.items ++ map (spec.temp l.self.depth) (drop l.temp-index l.temps) ≡ map (spec.temp l.self.depth) l.temps

@@ -1,9 +1,0 @@
-use Rattle.std.proofs.Common.{◌≡◌, ◌++◌, map, drop}
-use Rattle.c_layout.specs.CheckedUnits.{literal_view}
-use Rattle.flow_lower_bases.specs.BaseTables.{table}
-use Rattle.flow_lower_bases.specs.InitialBytes.{literals_from}
-use Rattle.flow_program_views.specs.ProgramViews.{initial}
-use Rattle.flow_lower_bases.proofs.initial_objects.push_literals.Given as goal
-
-abbrev pub invariant-loop-at : goal.invariant-loop-at
-invariant-loop-at l = map initial l.list.items ++ literals_from (table l.bases) l.at (map literal_view (drop l.at l.literals)) ≡ map initial l.initial.list.items ++ literals_from (table l.bases) 0 (map literal_view l.literals)

@@ -1,9 +1,0 @@
-use Rattle.std.proofs.Common.{◌≡◌, ◌++◌, map, drop}
-use Rattle.c_layout.specs.CheckedUnits.{unit_view, static_view}
-use Rattle.flow_lower_bases.specs.BaseTables.{table}
-use Rattle.flow_lower_bases.specs.InitialBytes.{objects_from}
-use Rattle.flow_program_views.specs.ProgramViews.{initial}
-use Rattle.flow_lower_bases.proofs.initial_objects.push_objects.Given as goal
-
-abbrev pub invariant-loop-at : goal.invariant-loop-at
-invariant-loop-at l = map initial l.list.items ++ objects_from (unit_view l.unit) (table l.bases) l.at (map static_view (drop l.at l.unit.objects.items)) ≡ map initial l.initial.list.items ++ objects_from (unit_view l.unit) (table l.bases) 0 (map static_view l.unit.objects.items)

@@ -1,8 +1,0 @@
-//! The bases of the control-flow program of a unit, in order of first naming, and the first bytes of
-//! objects of static storage and of literals.
-#![tactic(auto)]
-
-pub mod initial_objects;
-mod program_bases;
-
-pub use program_bases::BaseTable;

@@ -1,6 +1,0 @@
-//! What is called by the functions that the entry reaches.
-#![tactic(auto)]
-
-mod theorems;
-
-pub use theorems::entries_are_not_called;

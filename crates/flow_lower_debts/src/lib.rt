@@ -1,2 +1,0 @@
-//! The marks that works are still to make: lemmas for the laws on labels.
-#![tactic(auto)]

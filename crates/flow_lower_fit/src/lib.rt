@@ -1,6 +1,0 @@
-//! Laws on the addresses that templates form.
-#![tactic(auto)]
-
-mod theorems;
-
-pub use theorems::literals_are_pointed_to_at_their_start;

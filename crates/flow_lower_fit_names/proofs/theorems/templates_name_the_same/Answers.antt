@@ -1,6 +1,0 @@
-use Rattle.std.proofs.Common.{◌≡◌, true}
-use Rattle.flow_lower_fit_names.proofs.NamingTemplates.{names_of_template}
-use Rattle.flow_lower_fit_names.proofs.theorems.templates_name_the_same.Goals as goal
-
-pub returns : goal.returns
-returns c = λ passes structs pointer int_bytes f is_entry t is named. names_of_template (λ x. passes x ≡ true) structs pointer int_bytes f is_entry t is named

@@ -1,8 +1,0 @@
-//! What a template names.
-ghost use Rattle.flow_lower_fit_names.specs.NamedTrees.{TemplatesNameTheSame};
-
-/// A template names only what the trees of its function name: what passes a test for all objects, literals, parameters
-/// and scopes of the function, its result and allocation sites passes it for all names of the template.
-pub fn templates_name_the_same()
-    ensures { TemplatesNameTheSame }
-{}

@@ -1,6 +1,0 @@
-use Rattle.std.proofs.Common.{◌≡◌, true}
-use Rattle.flow_lower_fit_switches.proofs.SendingTemplates.{cases_of_template}
-use Rattle.flow_lower_fit_switches.proofs.theorems.templates_switch_as_trees.Goals as goal
-
-pub returns : goal.returns
-returns c = λ passes structs pointer int_bytes f is_entry t is such. cases_of_template (λ x. passes x ≡ true) structs pointer int_bytes f is_entry t is such

@@ -1,5 +1,0 @@
-use Rattle.flow_lower_functions.proofs.Numbers.{counted_on}
-use Rattle.flow_lower_functions.proofs.function_templates.numbers_below.Goals as goal
-
-pub loop-number-preserved : goal.loop-number-preserved
-loop-number-preserved c = counted_on _ _ _ _ c.loop-number-test.true c.in_ok-push.ensures.items c.loop-number.invariant

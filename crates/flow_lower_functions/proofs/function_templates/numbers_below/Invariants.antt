@@ -1,6 +1,0 @@
-use Rattle.std.proofs.Common.{◌≡◌, ◌++◌, ◌-◌}
-use Rattle.flow_lower_functions.specs.Functions.{numbers_from}
-use Rattle.flow_lower_functions.proofs.function_templates.numbers_below.Given as goal
-
-abbrev pub invariant-loop-number : goal.invariant-loop-number
-invariant-loop-number l = l.list.items ++ numbers_from l.number (l.count - l.number) ≡ numbers_from 0 l.count

@@ -1,6 +1,0 @@
-pub mod Growth
-pub mod GrowingTerms
-pub mod GrowingConditions
-pub mod GrowingStatements
-pub mod GrowingWorks
-pub use Rattle.flow_lower_works.proofs.Derivations

@@ -1,8 +1,0 @@
-//! What works give away is never taken back.
-ghost use Rattle.flow_lower_growth.specs.Growth.{CountersGrow};
-
-/// Behind the pieces of works stand the names that were given away before them, at the same numbers, and no fewer
-/// labels and scopes.
-pub fn counters_grow()
-    ensures { CountersGrow }
-{}

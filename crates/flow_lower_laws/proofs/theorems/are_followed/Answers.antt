@@ -1,9 +1,0 @@
-use Rattle.flow_lower_laws.proofs.TemplateOrder.{template_followed}
-use Rattle.flow_lower_laws.proofs.SettledOrder.{settled_followed}
-use Rattle.flow_lower_laws.proofs.theorems.are_followed.Goals as goal
-
-pub returns : goal.returns
-returns c = record {
-  template = λ structs pointer int_bytes f is_entry t is. template_followed structs pointer int_bytes f is_entry t is;
-  settled = λ table t followed. settled_followed table t followed;
-}

@@ -1,9 +1,0 @@
-use Rattle.flow_lower_laws.proofs.TemplateNames.{template_named}
-use Rattle.flow_lower_laws.proofs.SettledNames.{settled_named}
-use Rattle.flow_lower_laws.proofs.theorems.are_named.Goals as goal
-
-pub returns : goal.returns
-returns c = record {
-  template = λ structs pointer int_bytes f is_entry t is. template_named structs pointer int_bytes f is_entry t is;
-  settled = λ table t named. settled_named table t named;
-}

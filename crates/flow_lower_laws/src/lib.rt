@@ -1,6 +1,0 @@
-//! Laws of templates, which the lowering of a unit stands on.
-#![tactic(auto)]
-
-mod theorems;
-
-pub use theorems::{are_followed, are_named, ends_block};

@@ -1,5 +1,0 @@
-use Rattle.flow_lower_looped_laws.proofs.CalmFunctions.{looped_calm}
-use Rattle.flow_lower_looped_laws.proofs.theorems.looped_templates_are_calm.Goals as goal
-
-pub returns : goal.returns
-returns c = looped_calm c.functions_are_labelled.ensures c.regular_functions_suit.ensures

@@ -1,2 +1,0 @@
-//! Worked rows of the look at units with loops.
-#![tactic(auto)]

@@ -1,6 +1,0 @@
-//! Laws on the labels that templates mark.
-#![tactic(auto)]
-
-mod theorems;
-
-pub use theorems::{labels_are_marked_below, labels_are_marked_once};

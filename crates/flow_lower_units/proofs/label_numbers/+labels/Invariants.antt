@@ -1,7 +1,0 @@
-use Rattle.std.proofs.Common.{◌≡◌, map, drop}
-use Rattle.c_layout.specs.CheckedTrees.{statement_tree, statement_trees}
-use Rattle.flow_lower_units.specs.LabelNumbers.{all_numbered}
-use Rattle.flow_lower_units.proofs.label_numbers.+labels.Given as goal
-
-abbrev pub invariant-all_numbered-loop-statement : goal.invariant-all_numbered-loop-statement
-invariant-all_numbered-loop-statement l = all_numbered (statement_trees (map statement_tree (drop l.statement-index l.list))) l.met ≡ all_numbered (statement_trees (map statement_tree l.list)) l.fn.before

@@ -1,6 +1,0 @@
-//! Laws on the works of which templates are made.
-#![tactic(auto)]
-
-mod theorems;
-
-pub use theorems::templates_are_derived;

@@ -1,6 +1,0 @@
-use Rattle.std.proofs.Common.{◌≡◌, ◌-◌, ◌+◌, length}
-use Rattle.flow_program.specs.Nearest.{left_after, nearest_of}
-use Rattle.flow_program.proofs.nearest_numbers.nearest.Given as goal
-
-abbrev pub invariant-loop-at : goal.invariant-loop-at
-invariant-loop-at l = (left_after (l.extra - l._at) l.kept ≡ nearest_of l.list) × (length l.kept + l._at ≡ length l.list)

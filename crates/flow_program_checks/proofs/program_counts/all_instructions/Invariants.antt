@@ -1,6 +1,0 @@
-use Rattle.std.proofs.Common.{◌≡◌, ◌+◌, drop}
-use Rattle.flow_program.specs.WellFormed as spec
-use Rattle.flow_program_checks.proofs.program_counts.all_instructions.Given as goal
-
-abbrev pub invariant-loop-block : goal.invariant-loop-block
-invariant-loop-block l = l.count + spec.all_instructions (drop l.block-index l.blocks) ≡ spec.all_instructions l.blocks

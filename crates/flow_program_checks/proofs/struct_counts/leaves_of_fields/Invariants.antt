@@ -1,7 +1,0 @@
-use Rattle.std.proofs.Common.{◌≡◌, ◌+◌, drop, map}
-use Rattle.c_layout.specs.StructViews.{structs_view, field_view}
-use Rattle.flow_program.specs.StructCounts as spec
-use Rattle.flow_program_checks.proofs.struct_counts.leaves_of_fields.Given as goal
-
-abbrev pub invariant-loop-at : goal.invariant-loop-at
-invariant-loop-at l = l.count + spec.leaves_of_fields (structs_view l.structs) (map field_view (drop l.at l.fields)) ≡ spec.leaves_of_fields (structs_view l.structs) (map field_view l.fields)

@@ -1,7 +1,0 @@
--- Instructions behind which their block goes on.
-use Rattle.std.specs.Prelude.{Bool, true, false}
-use Rattle.flow_program.specs.WellFormed.{Leads, On}
-
-abbrev pub is_on : Leads → Bool
-is_on On = true
-is_on _ = false

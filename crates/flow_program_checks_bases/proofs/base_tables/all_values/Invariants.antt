@@ -1,6 +1,0 @@
-use Rattle.std.proofs.Common.{◌≡◌, ◌+◌, drop}
-use Rattle.flow_program.specs.WellFormed as spec
-use Rattle.flow_program_checks_bases.proofs.base_tables.all_values.Given as goal
-
-abbrev pub invariant-loop-base : goal.invariant-loop-base
-invariant-loop-base l = l.count + spec.all_values (drop l.base-index l.bases) ≡ spec.all_values l.bases

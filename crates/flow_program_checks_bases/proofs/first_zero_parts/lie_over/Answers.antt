@@ -1,9 +1,0 @@
-use Rattle.std.proofs.Common.{arith}
-use Rattle.std.proofs.lemmas.Grind.{common_steps}
-use Rattle.flow_program_checks_bases.proofs.PartsLeft.{nothing_left}
-use Rattle.flow_program_checks_bases.proofs.first_zero_parts.lie_over.Goals as goal
-
-pub returns : goal.returns
-returns c =
-    let left = nothing_left c.loop-leaf.done c.args.parts.now c.loop-leaf.at (omega (arith, c.loop-leaf.invariant.1)) in
-    grind (arith, common_steps, left)

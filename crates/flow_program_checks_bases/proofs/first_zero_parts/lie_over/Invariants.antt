@@ -1,6 +1,0 @@
-use Rattle.std.proofs.Common.{◌≡◌, ◌≤◌, drop, length}
-use Rattle.flow_program.specs.BaseShapes as spec
-use Rattle.flow_program_checks_bases.proofs.first_zero_parts.lie_over.Given as goal
-
-abbrev pub invariant-loop-leaf : goal.invariant-loop-leaf
-invariant-loop-leaf l = (spec.lie_over l.done (drop l.leaf-index l.leaves) (drop l.at l.parts) ≡ spec.lie_over 0 l.leaves l.parts) × (l.at ≤ length l.parts)

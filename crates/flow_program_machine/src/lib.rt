@@ -1,2 +1,0 @@
-//! Definitions alone: the machine of the control-flow program, which goes from block to block.
-#![tactic(auto)]

@@ -1,6 +1,0 @@
-use Rattle.std.proofs.Common.{◌≡◌, drop}
-use Rattle.flow_program_objects.specs.SpelledTexts.{reaches_over}
-use Rattle.flow_program_objects.proofs.spelled_texts.reaches_over.Given as goal
-
-abbrev pub invariant-loop-number : goal.invariant-loop-number
-invariant-loop-number l = reaches_over (drop l.number l.leaves) l.at l.end ≡ reaches_over l.leaves l.offset l.end

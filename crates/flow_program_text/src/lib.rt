@@ -1,9 +1,0 @@
-//! Control-flow programs and thresholds as text.
-#![tactic(auto)]
-
-mod edge_texts;
-mod operation_texts;
-mod program_texts;
-mod word_texts;
-
-pub use program_texts::program_text;

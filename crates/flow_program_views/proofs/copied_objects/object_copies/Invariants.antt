@@ -1,6 +1,0 @@
-use Rattle.std.proofs.Common.{◌≡◌, ◌++◌, map, drop}
-use Rattle.flow_program_views.specs.ProgramViews.{initial}
-use Rattle.flow_program_views.proofs.copied_objects.object_copies.Given as goal
-
-abbrev pub invariant-loop-object : goal.invariant-loop-object
-invariant-loop-object l = map initial l.list.items ++ map initial (drop l.object-index l.objects) ≡ map initial l.objects

@@ -1,6 +1,0 @@
-use Rattle.std.proofs.Common.{arith}
-use Rattle.std.proofs.lemmas.Int.{to_z-of_z}
-use Rattle.interval_domain.proofs.span_products.clamped_hull.Goals as goal
-
-pub returns : goal.returns
-returns c = let h = c.clamped.ensures in grind (arith, to_z-of_z)

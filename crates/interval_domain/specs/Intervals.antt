@@ -1,0 +1,13 @@
+pub mod Spans
+pub mod IntervalOrder
+pub mod IntervalRound
+pub mod IntervalLattice
+pub mod Arithmetic
+pub mod Relations
+pub mod IntervalNumbers
+pub mod Blocks
+pub mod Products
+pub mod Wrapping
+pub mod Best
+pub mod BestRelations
+pub mod Exactness

@@ -1,5 +1,0 @@
-use Rattle.std.proofs.Common.{length}
-use Rattle.lib_models_instances.proofs.byte_reading.+are_zeros.Given as goal
-
-abbrev pub decreases-are_zeros : goal.decreases-are_zeros
-decreases-are_zeros l = length l.bytes.now

@@ -1,5 +1,0 @@
-use Rattle.std.proofs.Common.{length}
-use Rattle.lib_models_instances.proofs.byte_reading.+fit.Given as goal
-
-abbrev pub decreases-fit : goal.decreases-fit
-decreases-fit l = length l.bytes.now

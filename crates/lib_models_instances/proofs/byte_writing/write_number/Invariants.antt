@@ -1,9 +1,0 @@
-use Rattle.std.proofs.Common.{◌≡◌, ◌-◌, ◌++◌, length, take}
-use Rattle.lib_models_effects.specs.ScalarBytes.{number_bytes}
-use Rattle.lib_models_instances.specs.ByteViews.{labels_view, contents_view}
-use Rattle.lib_models_instances.proofs.byte_writing.write_number.Given as goal
-
-abbrev pub invariant-loop-content : goal.invariant-loop-content
-invariant-loop-content l =
-    contents_view (take l.content-index l.into) ++ number_bytes (length l.into - l.content-index) l.left (labels_view l.labels)
-    ≡ number_bytes (length l.into) l.fn.number (labels_view l.labels)

@@ -1,9 +1,0 @@
-use Rattle.std.proofs.Common.{◌≡◌, ◌-◌, ◌++◌, length, take}
-use Rattle.lib_models_effects.specs.ScalarBytes.{parts_from}
-use Rattle.lib_models_instances.specs.ByteViews.{pointer_view, contents_view}
-use Rattle.lib_models_instances.proofs.byte_writing.write_parts.Given as goal
-
-abbrev pub invariant-loop-k : goal.invariant-loop-k
-invariant-loop-k l =
-    contents_view (take l.k l.into) ++ parts_from (pointer_view l.p) l.k (length l.into - l.k)
-    ≡ parts_from (pointer_view l.p) 0 (length l.into)

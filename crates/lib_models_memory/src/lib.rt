@@ -1,2 +1,0 @@
-//! Definitions alone: the memory of a C program, byte by byte, and the scalars in it.
-#![tactic(auto)]

@@ -1,0 +1,3 @@
+pub mod CharacterNumbers
+pub mod Calls
+pub mod ResultCalls

@@ -1,0 +1,4 @@
+pub mod LineContents
+pub mod LineRules
+pub mod LineCalls
+pub mod LineEnds

@@ -1,0 +1,139 @@
+-- The row behind a text that is spelled stands for the memory behind it.
+use Rattle.std.proofs.Common.{◌≡◌, ℕ, ◌+◌, ◌<◌, ◌≤◌, true, false, Some, List, length, arith, subst, sym, ◌∙◌, inl, inr}
+use Rattle.std.specs.Prelude.{slice_get, ℤ}
+use Rattle.std.proofs.lemmas.Bool.{cases_eq, true≢false}
+use Rattle.std.proofs.lemmas.Option.{same_Some, slice_get_within}
+use Rattle.cc_base.specs.Lattices.{LatticeOf, OrderLaws}
+use Rattle.cc_base.specs.IntegerDomains.{IntegersOf, BoundLaws}
+use Rattle.c_layout.specs.declared.leaf_lists.Leaf.{Leaf}
+use Rattle.c_layout.specs.declared.shapes.BaseInfo.{BaseInfo}
+use Rattle.c_layout.specs.declared.shapes.ZeroPart.{ZeroPart}
+use Rattle.cfg.specs.BaseShapes.{part_size, is_room_or_apart}
+use Rattle.cfg.specs.WellFormed.{base_values, base_cells}
+use Rattle.cfg.specs.declared.programs.Flow.{Flow}
+use Rattle.value_domain.specs.declared.values.row_cells.Cell.{Cell}
+use Rattle.value_domain.specs.declared.values.row_cells.Cell.TheVariants.{Value, First}
+use Rattle.store_cells.specs.RowPositions.{leaf_position, zero_position, value_at, zero_at}
+use Rattle.store.specs.Spelling.{written_count, is_one_place, is_spelled, one_character, characters, spell_cell, spell_leaf_at, spell_leaf, spell_leaves, first_zero_of, spell_part, spell_zero, spell_object}
+use Rattle.store_cells.specs.Walks.{walk}
+use Rattle.store_monotone.specs.Store.StoreLaws.{AreBytes}
+use Rattle.memory_model.specs.Memory.Instances.{Memory, bytes_at}
+use Rattle.store_sound.specs.Concretization.SoundMemory.{IsMemoryOf}
+use Rattle.store_sound.specs.Concretization.ValueMeaning.{Naming, StandsZero}
+use Rattle.store_sound.specs.Concretization.RowMeaning.{MachineState, array_bytes, IsLiveOf, StandsLeaf, StandsFor}
+use Rattle.store_sound.specs.Store.Shapes.{IsLaidOut, IsShaped}
+use Rattle.store_sound.proofs.store.Only.{Only, only_same, only_put, only_cond}
+use Rattle.store_sound.proofs.store.StoreRows.{Fits, leaf_is, zero_is, join_only}
+use Rattle.store_sound.specs.Regions.RegionWrites.{IsRegion, WritesWithin, StandsBase}
+use Rattle.store_sound.proofs.regions.BaseRows.{same_base, base_apart, stands_base, bases_stand}
+use Rattle.store_sound.proofs.regions.Layers.{value_turn, zero_turn, leaves_within, leaf_turn, zeros_within, part_turn, layers_within, layers_stand}
+use Rattle.library_sound.proofs.spelling.SpelledCells.{IsText, leaf_spelled}
+use Rattle.library_sound.proofs.spelling.SpelledZeros.{zero_spelled}
+
+-- ---- where each part writes
+
+module _ {I : Type 0} (l : LatticeOf I) (n : IntegersOf I) (flow : Flow) (base : BaseInfo) (fits : Fits base) (offset room : ℕ) (text : List ℕ) where
+  abbrev count : ℕ
+  count = written_count room text
+
+  leaf_only : (j : ℕ) (leaf : Leaf) → Only (leaf_position base j) (leaf_position base j + 1) (spell_leaf l n base offset count text leaf j)
+  unfolding spell_leaf_at spell_cell
+  leaf_only j leaf =
+      let p : ℕ = leaf_position base j in
+      only_cond p (p + 1) (is_spelled leaf offset count) _ (λ row. row)
+      (only_cond p (p + 1) (is_one_place leaf) _ _ (only_put p (p + 1) p (λ row. Value (one_character l n leaf offset text)) (omega arith) (omega arith)) (join_only l n flow.model p (characters l n leaf offset count text)))
+      (only_same p (p + 1))
+
+  leaves_only : Only base.first (base.first + length base.shape.cells) (spell_leaves l n base offset count text)
+  unfolding spell_leaves
+  leaves_only = leaves_within base fits (spell_leaf l n base offset count text) leaf_only
+
+  zero_only : (z : ℕ) (part : ZeroPart) → Only (zero_position base z) (zero_position base z + 1) (spell_part base offset (first_zero_of n room text) part z)
+  zero_only z part =
+      let p : ℕ = zero_position base z in
+      only_cond p (p + 1) _ _ (λ row. row) (only_put p (p + 1) p (λ row. First (first_zero_of n room text)) (omega arith) (omega arith)) (only_same p (p + 1))
+
+  zeros_only : Only (base.first + base_cells base) ((base.first + base_cells base) + length base.shape.zeros) (spell_zero base offset (first_zero_of n room text))
+  unfolding spell_zero
+  zeros_only = zeros_within base fits (spell_part base offset (first_zero_of n room text)) zero_only
+
+  base_within : WritesWithin base.first (base.first + base_values base) (spell_object l n offset room text base)
+  unfolding spell_object
+  base_within = layers_within base (spell_leaves l n base offset count text) (λ row. row) (spell_zero base offset (first_zero_of n room text)) leaves_only (only_same _ _) zeros_only
+
+-- ---- the object
+
+-- what is known of a text that is spelled into an object
+pub record IsSpelled (old new : Memory) (i : ℕ) (base : BaseInfo) (offset room : ℕ) (text : List ℕ) : Type 0 where
+  pub region : IsRegion old new i offset (written_count room text)
+  pub written : IsText new i offset (written_count room text) text
+  pub small : AreBytes text
+  pub some : 0 < room
+  pub inside : offset + room ≤ length (bytes_at new i)
+  pub declared : base.shape.heap ≡ false
+  pub full : (z : ℕ) (part : ZeroPart) → slice_get base.shape.zeros z ≡ Some part → 0 < part_size part
+  pub rooms : (z : ℕ) (part : ZeroPart) → slice_get base.shape.zeros z ≡ Some part → is_room_or_apart offset room part ≡ true
+
+module _ {I : Type 0} {l : LatticeOf I} {n : IntegersOf I} {stands : I → ℤ → Type 0} (o : OrderLaws l) (q : BoundLaws l n stands) (flow : Flow) (naming : Naming) {old new : Memory} {i offset room : ℕ} (text : List ℕ) (b : ℕ) (base : BaseInfo) (s : IsSpelled old new i base offset room text) (sane : IsMemoryOf flow.model flow.bases.items naming new)
+    (fits : Fits base) (shape : IsShaped base) (single : (j : ℕ) → IsLiveOf naming old b j → j ≡ i) (row : List (Cell I)) (long : base.first + base_values base ≤ length row) (t : StandsBase l n stands flow naming old b base row) where
+  abbrev filled : ℕ
+  filled = written_count room text
+
+  leaf_new : (j : ℕ) (leaf : Leaf) → slice_get base.shape.cells j ≡ Some leaf → StandsLeaf stands flow naming new b leaf (value_at l n (spell_leaves l n base offset filled text row) (leaf_position base j))
+  unfolding spell_leaves
+  leaf_new j leaf e =
+      let u = slice_get_within base.shape.cells j leaf e in
+      let x = leaf_is base j fits u in
+      value_turn l n (StandsLeaf stands flow naming old b leaf) (StandsLeaf stands flow naming new b leaf) (leaf_position base j) (spell_leaf l n base offset filled text leaf j) row (walk (spell_leaf l n base offset filled text) 0 base.shape.cells row)
+      (leaf_turn base fits (spell_leaf l n base offset filled text) (leaf_only l n flow base fits offset room text) j leaf e row)
+      (λ r same cell. leaf_spelled o q flow naming s.region text s.small s.written b single leaf (shape.strides j leaf e) (leaf_position base j) r (omega (arith, x, u, same, long)) cell)
+      (t.leaves j leaf e)
+
+  zero_new : (r : List (Cell I)) → length r ≡ length row → (z : ℕ) (part : ZeroPart) → slice_get base.shape.zeros z ≡ Some part → ((j : ℕ) → IsLiveOf naming old b j → StandsZero stands naming old (zero_at l n r (zero_position base z)) (array_bytes part (bytes_at old j))) → (j : ℕ) → IsLiveOf naming old b j → StandsZero stands naming new (zero_at l n (spell_zero base offset (first_zero_of n room text) r) (zero_position base z)) (array_bytes part (bytes_at new j))
+  unfolding spell_zero
+  zero_new r same z part e zeros j alive =
+      let u = slice_get_within base.shape.zeros z part e in
+      let x = zero_is base z fits (omega (arith, u)) in
+      zero_turn l n (λ f. (h : ℕ) → IsLiveOf naming old b h → StandsZero stands naming old f (array_bytes part (bytes_at old h))) (λ f. StandsZero stands naming new f (array_bytes part (bytes_at new j))) (zero_position base z) (spell_part base offset (first_zero_of n room text) part z) r _
+      (part_turn base fits (spell_part base offset (first_zero_of n room text)) (zero_only l n flow base fits offset room text) z part e r)
+      (λ r2 equal zeros2. zero_spelled o q flow naming text s.region sane s.written s.some s.inside b single part (s.full z part e) (s.rooms z part e) (zero_position base z) r2 (omega (arith, x, u, equal, same, long)) j alive (zeros2 j alive))
+      zeros
+
+  base_spelled : StandsBase l n stands flow naming new b base (spell_object l n offset room text base row)
+  unfolding spell_object
+  base_spelled = layers_stand o q flow naming s.region b base fits (spell_leaves l n base offset filled text) (λ r. r) (spell_zero base offset (first_zero_of n room text))
+      (leaves_only l n flow base fits offset room text) (only_same _ _) (zeros_only l n flow base fits offset room text) row t
+      leaf_new (λ r same states c heap small cell. absurd (true≢false (sym heap ∙ s.declared))) zero_new
+
+-- ---- all bases
+
+module _ {I : Type 0} {l : LatticeOf I} {n : IntegersOf I} {stands : I → ℤ → Type 0} (o : OrderLaws l) (q : BoundLaws l n stands) (flow : Flow) (naming : Naming) (row : List (Cell I)) (state : MachineState) (laid : IsLaidOut flow (length row)) (s : StandsFor l n stands flow naming row state)
+    (new : Memory) (i offset room : ℕ) (text : List ℕ) (b : ℕ) (base : BaseInfo) (at : slice_get flow.bases.items b ≡ Some base) (named : naming i ≡ Some b) (w : IsSpelled state.memory new i base offset room text) (sane : IsMemoryOf flow.model flow.bases.items naming new) (single : (j : ℕ) → IsLiveOf naming state.memory b j → j ≡ i) where
+  abbrev after : List (Cell I)
+  after = spell_object l n offset room text base row
+
+  fits_of : (c : ℕ) (other : BaseInfo) → slice_get flow.bases.items c ≡ Some other → Fits other
+  fits_of c other e = let x = laid.laid.close c other e in let y = laid.laid.small in omega (arith, x, y)
+
+  within : WritesWithin base.first (base.first + base_values base) (spell_object l n offset room text base)
+  within = base_within l n flow base (fits_of b base at) offset room text
+
+  own : StandsBase l n stands flow naming new b base after
+  own =
+      let x = laid.laid.close b base at in
+      let y = laid.long in
+      base_spelled o q flow naming text b base w sane (fits_of b base at) (laid.shaped.each b base at) single row (omega (arith, x, y)) (stands_base o q flow naming row state laid s b base at)
+
+  each : (c : ℕ) (other : BaseInfo) → slice_get flow.bases.items c ≡ Some other → StandsBase l n stands flow naming new c other after
+  each c other e = elim (cases_eq c b) [
+    | inl d ↦ (let f : slice_get flow.bases.items b ≡ Some other = subst (λ z. slice_get flow.bases.items z ≡ Some other) d e in
+        let same : base ≡ other = same_Some base other (sym at ∙ f) in
+        subst (λ z. StandsBase l n stands flow naming new z other after) (sym d) (subst (λ z. StandsBase l n stands flow naming new b z after) same own))
+    | inr ne ↦ same_base flow naming new c other row after (fits_of c other e)
+        (λ x from to. within.keeps row x (λ u v. elim (laid.laid.apart c b other base e at ne) [ inl y ↦ omega (arith, y, to, u) | inr y ↦ omega (arith, y, from, v) ]))
+        (base_apart o q flow naming w.region c other row (λ is some. ne (same_Some c b (sym is ∙ named))) (stands_base o q flow naming row state laid s c other e))
+  ]
+
+  pub spelled_stands : StandsFor l n stands flow naming after (record { memory = new; temps = state.temps; entered = state.entered })
+  spelled_stands = bases_stand o q flow naming row state laid s new i offset (written_count room text) w.region sane after
+      (λ x far. within.keeps row x (λ u v. let c = laid.laid.close b base at in omega (arith, c, far, v))) each

@@ -1,0 +1,5 @@
+pub mod ScannedTexts
+pub mod GivenPointers
+pub mod Scans
+pub mod Trails
+pub mod StringCalls

@@ -1,0 +1,3 @@
+pub mod ApartTexts
+pub mod AppendWrites
+pub mod AppendCalls

@@ -1,0 +1,9 @@
+pub mod Calls
+pub mod Strings
+pub mod Prints
+pub mod Spelling
+pub mod Fills
+pub mod Texts
+pub mod BoundedTexts
+pub mod Appends
+pub mod Lines

@@ -1,0 +1,2 @@
+pub mod TemplateLaws
+pub mod Inlining

@@ -1,0 +1,5 @@
+pub mod Growth
+pub mod GrowingTerms
+pub mod GrowingConditions
+pub mod GrowingStatements
+pub mod GrowingWorks

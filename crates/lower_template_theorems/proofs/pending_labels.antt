@@ -1,0 +1,4 @@
+pub mod MarkArithmetic
+pub mod Debts
+pub mod DebtsOfTerms
+pub mod DebtsOfConditions

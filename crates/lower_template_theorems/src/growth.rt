@@ -1,0 +1,5 @@
+//! Laws on the labels, names and scopes that works give away.
+
+mod theorems;
+
+pub use theorems::counters_grow;

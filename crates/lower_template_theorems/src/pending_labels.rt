@@ -1,0 +1,1 @@
+//! The marks that works are still to make: lemmas for the laws on labels.

@@ -1,0 +1,5 @@
+//! Laws on the switches of templates.
+
+mod theorems;
+
+pub use theorems::templates_switch_as_trees;

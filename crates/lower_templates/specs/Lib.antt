@@ -1,0 +1,2 @@
+pub mod Worklist
+pub mod Views

@@ -1,0 +1,12 @@
+pub mod RenamedNames
+pub mod RenamedRows
+pub mod RenamedStates
+pub mod GrownStates
+pub mod FreshRows
+pub mod FreshCells
+pub mod Sites
+pub mod RenewedRows
+pub mod Products
+pub mod AllocationCalls
+pub mod AllocationSteps
+pub mod Counterexamples

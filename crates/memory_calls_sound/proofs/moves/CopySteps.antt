@@ -1,0 +1,68 @@
+-- Steps on calls of `memcpy` and `memmove` are sound.
+use Rattle.std.proofs.Common.{◌≡◌, ℕ, true, false, ◌&&◌, Option, Some, List, [], ◌∷◌, refl}
+use Rattle.std.specs.Prelude.{ℤ}
+use Rattle.std.specs.List.{list_all}
+use Rattle.std.proofs.lemmas.Bool.{and_parts}
+use Rattle.cc_base.specs.Lattices.{LatticeOf, OrderLaws}
+use Rattle.cc_base.specs.IntegerDomains.{IntegersOf, BoundLaws}
+use Rattle.c_layout.specs.declared.library_functions.LibFn.{LibFn}
+use Rattle.c_layout.specs.declared.library_functions.LibFn.TheVariants as f
+use Rattle.cfg.specs.WellFormed.{names_of, has_temp, has_result, is_site, is_optional_extent, fits_operation}
+use Rattle.cfg.specs.declared.machine_instructions.Operation.{Operation}
+use Rattle.cfg.specs.declared.machine_instructions.Operation.TheVariants as op
+use Rattle.cfg.specs.declared.programs.Flow.{Flow}
+use Rattle.value_domain.specs.declared.values.row_cells.Cell.{Cell}
+use Rattle.transfer_library.specs.Planning.{plan_call}
+use Rattle.transfer_instructions.specs.Instructions.CallSteps.{call_of, call_step}
+use Rattle.transfer_instructions.specs.Instructions.StepViolations.{operation_violations}
+use Rattle.transfer_instructions.specs.Instructions.Steps.{operate}
+use Rattle.memory_model.specs.Memory.Scalars.{Scalar, integer, pointer}
+use Rattle.memory_model.specs.Effects.LibraryCalls.{library}
+use Rattle.memory_model.specs.Effects.Worlds.{stops, Stuck}
+use Rattle.semantics.specs.CfgMachine.FlowStates.{Standing, values_of}
+use Rattle.store_sound.specs.Concretization.ValueMeaning.{Naming}
+use Rattle.store_sound.specs.Programs.Premises.{HasPremises}
+use Rattle.transfer_sound.specs.Values.SoundSteps.{IsReached, StepIsSound}
+use Rattle.transfer_sound.proofs.values.Replies.{if_some_good}
+use Rattle.library_sound.proofs.calls.Calls.{clean}
+use Rattle.transfer_sound.specs.Values.OperandTypes.{TakesSize, HasOperands}
+use Rattle.memory_calls_sound.specs.Moves.CopyCalls.{CopiesBytes, IsCopyCall}
+use Rattle.library_sound.proofs.fills.WriteCalls.{Good, plain_stop, three_sized}
+use Rattle.memory_calls_sound.proofs.moves.CopyCalls.{copy_call_good}
+
+module _ {I : Type 0} {l : LatticeOf I} {n : IntegersOf I} {stands : I → ℤ → Type 0} (o : OrderLaws l) (q : BoundLaws l n stands) (flow : Flow) (p : HasPremises flow) (naming : Naming) (row : List (Cell I)) (s : Standing) (r : IsReached l n stands flow naming row s) (to : Option ℕ) (has : has_result (names_of flow) to ≡ true) (newest : Option ℕ) where
+  stuck_here : (plan : _) → Good o q flow p naming row s r to has newest plan (stops Stuck s.world)
+  stuck_here plan = plain_stop o q flow p naming row s r to has newest plan s.world.violated (clean q flow p naming row s r plan.violations) Stuck
+
+  by_name : (name : LibFn) → CopiesBytes name → (items : List ℕ) (wanted : Option ℕ) (vs : List Scalar) → values_of s.temps items ≡ Some vs → TakesSize name items s.temps → Good o q flow p naming row s r to has newest (plan_call l n name (call_of flow items wanted) row) (library flow.model wanted name vs s.world)
+  unfolding plan_call
+  by_name f.Memcpy h items wanted [] e sized = stuck_here _
+  by_name f.Memcpy h items wanted (integer z la ∷ vs) e sized = stuck_here _
+  by_name f.Memcpy h items wanted (pointer d ∷ []) e sized = stuck_here _
+  by_name f.Memcpy h items wanted (pointer d ∷ (integer k la ∷ vs)) e sized = stuck_here _
+  by_name f.Memcpy h items wanted (pointer d ∷ (pointer m ∷ [])) e sized = stuck_here _
+  by_name f.Memcpy h items wanted (pointer d ∷ (pointer m ∷ (pointer k ∷ vs))) e sized = stuck_here _
+  by_name f.Memcpy h items wanted (pointer d ∷ (pointer m ∷ (integer c lb ∷ (v ∷ vs)))) e sized = stuck_here _
+  by_name f.Memcpy h items wanted (pointer d ∷ (pointer m ∷ (integer c lb ∷ []))) e sized =
+      copy_call_good o q flow p naming row s r to has newest items wanted (pointer d ∷ (pointer m ∷ (integer c lb ∷ []))) e true d m c lb refl refl refl (three_sized s.temps items (pointer d) (pointer m) c lb e sized)
+  by_name f.Memmove h items wanted [] e sized = stuck_here _
+  by_name f.Memmove h items wanted (integer z la ∷ vs) e sized = stuck_here _
+  by_name f.Memmove h items wanted (pointer d ∷ []) e sized = stuck_here _
+  by_name f.Memmove h items wanted (pointer d ∷ (integer k la ∷ vs)) e sized = stuck_here _
+  by_name f.Memmove h items wanted (pointer d ∷ (pointer m ∷ [])) e sized = stuck_here _
+  by_name f.Memmove h items wanted (pointer d ∷ (pointer m ∷ (pointer k ∷ vs))) e sized = stuck_here _
+  by_name f.Memmove h items wanted (pointer d ∷ (pointer m ∷ (integer c lb ∷ (v ∷ vs)))) e sized = stuck_here _
+  by_name f.Memmove h items wanted (pointer d ∷ (pointer m ∷ (integer c lb ∷ []))) e sized =
+      copy_call_good o q flow p naming row s r to has newest items wanted (pointer d ∷ (pointer m ∷ (integer c lb ∷ []))) e false d m c lb refl refl refl (three_sized s.temps items (pointer d) (pointer m) c lb e sized)
+  by_name _ h items wanted vs e sized = absurd h
+
+module _ {I : Type 0} {l : LatticeOf I} {n : IntegersOf I} {stands : I → ℤ → Type 0} (o : OrderLaws l) (q : BoundLaws l n stands) (flow : Flow) (p : HasPremises flow) (naming : Naming) (row : List (Cell I)) (s : Standing) (r : IsReached l n stands flow naming row s) where
+  pub copy_call_sound : (to : Option ℕ) (name : LibFn) (arguments : _) (newest size : Option ℕ) → CopiesBytes name → fits_operation (names_of flow) (op.Library to name arguments newest size) ≡ true → TakesSize name arguments.items s.temps → StepIsSound l n stands flow row (op.Library to name arguments newest size) s
+  unfolding operate call_step operation_violations
+  copy_call_sound to name arguments newest size is fits sized =
+      let has = (and_parts (has_result (names_of flow) to) (list_all (has_temp (names_of flow)) arguments.items && (is_site flow.bases.items newest && is_optional_extent size)) fits).0 in
+      if_some_good l n stands flow _ _ s r.begun (values_of s.temps arguments.items) _ (λ vs e. by_name o q flow p naming row s r to has newest name is arguments.items size vs e sized)
+
+  pub copy_step_sound : (i : Operation) → IsCopyCall i → fits_operation (names_of flow) i ≡ true → HasOperands i s.temps → StepIsSound l n stands flow row i s
+  copy_step_sound (op.Library to name arguments newest size) is fits sized = copy_call_sound to name arguments newest size is fits sized
+  copy_step_sound i is fits sized = absurd is

@@ -1,0 +1,4 @@
+pub mod Frees
+pub mod Moves
+pub mod Allocations
+pub mod Reallocations

@@ -1,0 +1,26 @@
+-- When the analysis's step on `realloc` is sound.
+use Rattle.std.specs.Prelude.{◌≡◌, ℤ, true, Some}
+use Rattle.cc_base.specs.Lattices.{LatticeOf}
+use Rattle.cc_base.specs.IntegerDomains.{IntegersOf}
+use Rattle.cc_base.specs.declared.limit_table.Limits.{Limits}
+use Rattle.c_layout.specs.declared.library_functions.LibFn.{LibFn}
+use Rattle.c_layout.specs.declared.library_functions.LibFn.TheVariants as f
+use Rattle.cfg.specs.WellFormed.{is_well_formed}
+use Rattle.cfg.specs.declared.machine_instructions.Operation.{Operation}
+use Rattle.cfg.specs.declared.machine_instructions.Operation.TheVariants as op
+use Rattle.cfg.specs.declared.programs.Flow.{Flow}
+use Rattle.store_sound.specs.Programs.Premises.{HasPremises}
+use Rattle.transfer_sound.specs.Values.SoundSteps.{AreSound}
+
+abbrev pub Reallocates : LibFn → Type 0
+Reallocates f.Realloc = Unit {0}
+Reallocates _ = ⊥
+
+-- a reallocation has a site, as each has that was lowered
+abbrev pub IsReallocationCall : Operation → Type 0
+IsReallocationCall (op.Library to name arguments (Some newest) size) = Reallocates name
+IsReallocationCall _ = ⊥
+
+module _ {I : Type 0} (l : LatticeOf I) (n : IntegersOf I) (stands : I → ℤ → Type 0) (flow : Flow) where
+  abbrev pub ReallocationCallsAreSound : Type 0
+  ReallocationCallsAreSound = (limits : Limits) → is_well_formed limits flow ≡ true → HasPremises flow → AreSound l n stands flow IsReallocationCall

@@ -1,0 +1,13 @@
+//! Where a row stands for a state of a well-formed program, the row behind a call that allocates at a site stands for the state
+//! behind it, there is none only where no run goes on, and each rule that the call violates is admitted, if the sizes are not
+//! negative.
+ghost use Rattle.cc_base.specs.IntegerLaws.{SoundLaws};
+ghost use Rattle.cfg.specs.declared.programs.Flow.{Flow};
+ghost use Rattle.memory_calls_sound.specs.Allocations.AllocationCalls.{AllocationCallsAreSound};
+
+use cc_base::IntDomain;
+
+/// `malloc` and `calloc`.
+pub fn allocation_calls_are_sound<I: IntDomain>()
+    ensures { (flow : Flow) → SoundLaws I.lattice I.numbers I.stands → AllocationCallsAreSound I.lattice I.numbers I.stands flow }
+{}

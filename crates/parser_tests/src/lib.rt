@@ -1,0 +1,5 @@
+//! Tests of the grammar and of the syntactic rules.
+#![tactic(auto)]
+
+pub mod grammar;
+pub mod syntactic_rules;

@@ -1,2 +1,0 @@
-//! Definitions alone: the machine of the source, which goes through a checked unit construct by construct.
-#![tactic(auto)]

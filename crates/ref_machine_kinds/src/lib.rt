@@ -1,3 +1,0 @@
-//! What the items of a function do to its pending values by their kinds: definitions, and proofs of terms, statements
-//! and labels.
-#![tactic(auto)]

@@ -1,5 +1,0 @@
-use Rattle.ref_machine_marked_turns.proofs.Turns.{turns_keep}
-use Rattle.ref_machine_marked_turns.proofs.theorems.turns_keep_marks.Goals as goal
-
-pub returns : goal.returns
-returns c = turns_keep (record { operations = c.operations_keep_marks.ensures; lines = c.lines_keep_marks.ensures })

@@ -1,8 +1,0 @@
-//! What the operations of the source's machine do to values of the kinds that they take.
-#![tactic(auto)]
-
-mod theorems;
-
-pub use theorems::{
-    lines_have_steps, operations_have_steps, operations_keep_kinds, stores_have_steps,
-};

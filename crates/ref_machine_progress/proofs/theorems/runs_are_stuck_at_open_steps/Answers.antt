@@ -1,5 +1,0 @@
-use Rattle.ref_machine_progress.proofs.Runs.{stuck_at_open}
-use Rattle.ref_machine_progress.proofs.theorems.runs_are_stuck_at_open_steps.Goals as goal
-
-pub returns : goal.returns
-returns c = stuck_at_open c.turns_have_steps.ensures c.runs_keep_kinds.ensures c.objects_live_where_named.ensures

@@ -1,9 +1,0 @@
-use Rattle.ref_machine_progress.proofs.Turns.{turn_steps}
-use Rattle.ref_machine_progress.proofs.theorems.turns_have_steps.Goals as goal
-
-pub returns : goal.returns
-returns c = turn_steps (record {
-  operations = c.operations_have_steps.ensures;
-  stores = c.stores_have_steps.ensures;
-  lines = c.lines_have_steps.ensures;
-})

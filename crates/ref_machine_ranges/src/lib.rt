@@ -1,2 +1,0 @@
-//! The ranges of numbers that the source's machine computes, and what is read back of scalars that are stored.
-#![tactic(auto)]

@@ -1,5 +1,0 @@
-use Rattle.ref_machine_steps.proofs.Runs.{runs_keep}
-use Rattle.ref_machine_steps.proofs.theorems.runs_keep_marks.Goals as goal
-
-pub returns : goal.returns
-returns c = runs_keep c.turns_keep_marks.ensures c.objects_live_where_named.ensures

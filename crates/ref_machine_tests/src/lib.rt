@@ -1,2 +1,0 @@
-//! Values that decide a test or select a case agree with memory.
-#![tactic(auto)]

@@ -1,8 +1,0 @@
-use Rattle.std.proofs.Common.{◌≡◌, ◌++◌, map, take}
-use Rattle.cc_base.specs.declared.diagnostics.Rule.{Rule}
-use Rattle.lib_models_effects.specs.Worlds.{Violation}
-use Rattle.replay_run.specs.Following.{violation_of}
-use Rattle.replay_run.proofs.runs.note.Given as goal
-
-abbrev pub invariant-loop-rule : goal.invariant-loop-rule
-invariant-loop-rule l = map violation_of l.found.items ≡ map violation_of l.initial.found.items ++ map (λ (r : Rule). let v : Violation = record { at = l.place; rule = r } in v) (take l.rule-index l.w.violated.items)

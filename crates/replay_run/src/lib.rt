@@ -1,9 +1,0 @@
-//! A run of a checked unit over given numbers of the outside.
-#![tactic(auto)]
-
-mod outcomes;
-mod replays;
-mod runs;
-
-pub use outcomes::{End, Outcome, ReplayStop};
-pub use replays::replay;

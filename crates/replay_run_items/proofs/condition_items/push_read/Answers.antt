@@ -1,7 +1,0 @@
-use Rattle.replay_run_items.specs.ReadViews.{read_view_of}
-use Rattle.replay_run_items.specs.Standings.{standing}
-use Rattle.replay_run_items.proofs.Conditions.{line_read}
-use Rattle.replay_run_items.proofs.condition_items.push_read.Goals as goal
-
-pub returns : goal.returns
-returns c = λ u. rw (c.in_ok-push_item-2.ensures u, c.in_ok-push_item.ensures u) (line_read (read_view_of c.args.read) c.args.read.wants_line (standing u c.args.control.now.items))

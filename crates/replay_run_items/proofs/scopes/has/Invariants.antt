@@ -1,6 +1,0 @@
-use Rattle.std.proofs.Common.{◌≡◌, drop}
-use Rattle.ref_machine.specs.Scopes as machine
-use Rattle.replay_run_items.proofs.scopes.has.Given as goal
-
-abbrev pub invariant-loop-one : goal.invariant-loop-one
-invariant-loop-one l = machine.is_in l.object (drop l.one-index l.scope) ≡ machine.is_in l.object l.scope

@@ -1,9 +1,0 @@
-use Rattle.std.proofs.Common.{◌≡◌, ◌+◌, ◌-◌, vec_len}
-use Rattle.replay_run_machine_items.specs.MachineViews.{names_view}
-use Rattle.replay_run_machine_items.proofs.machines.set_name.Given as goal
-
-abbrev pub invariant-loop-names : goal.invariant-loop-names
-invariant-loop-names l = names_view l.names.items ≡ names_view l.initial.names.items
-
-abbrev pub decreases-loop-names : goal.decreases-loop-names
-decreases-loop-names l = (l.at + 1) - vec_len l.names

@@ -1,5 +1,0 @@
-use Rattle.std.proofs.Common.{refl}
-use Rattle.replay_run_statements.proofs.loop_items.push_test.Goals as goal
-
-pub returns : goal.returns
-returns c = λ u. rw (c.in_ok-push_condition.ensures u, c.in_ok-push_item-2.ensures u, c.in_ok-push_item.ensures u) refl

@@ -1,5 +1,0 @@
-use Rattle.std.proofs.Common.{refl}
-use Rattle.replay_run_statements.proofs.loop_items.push_while_body.Goals as goal
-
-pub returns : goal.returns
-returns c = λ u. rw (c.in_ok-push_item.ensures u, c.in_ok-push_while_turn.ensures u) refl

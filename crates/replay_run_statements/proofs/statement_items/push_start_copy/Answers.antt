@@ -1,5 +1,0 @@
-use Rattle.std.proofs.Common.{refl}
-use Rattle.replay_run_statements.proofs.statement_items.push_start_copy.Goals as goal
-
-pub returns : goal.returns
-returns c = λ u. rw (c.in_ok-push_item.ensures u, c.in_ok-push_copy.ensures u) refl

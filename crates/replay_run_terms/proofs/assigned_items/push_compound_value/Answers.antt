@@ -1,5 +1,0 @@
-use Rattle.std.proofs.Common.{append_assoc}
-use Rattle.replay_run_terms.proofs.assigned_items.push_compound_value.Goals as goal
-
-pub returns : goal.returns
-returns c = λ u. rw (c.in_ok-push_sides.ensures u, c.in_ok-push_converted-2.ensures u, c.in_ok-push_do.ensures u, c.in_ok-push_converted.ensures u, c.in_ok-push_on_lvalue.ensures u, c.integer_kind_of-own.ensures, c.number_operator-sign.ensures, c.meaning.ensures) (simp append_assoc)

@@ -1,9 +1,0 @@
-use Rattle.std.proofs.Common.{[], ◌∷◌}
-use Rattle.c_layout.specs.CheckedTrees.{term_tree}
-use Rattle.ref_machine.specs.Items as machine
-use Rattle.replay_run_items.specs.Standings.{standing}
-use Rattle.replay_run_items.proofs.Stacks.{dropped}
-use Rattle.replay_run_terms.proofs.operated_items.push_operand.Goals as goal
-
-pub returns : goal.returns
-returns c = λ u. rw (c.in_ok-push_item.ensures u, c.in_ok-push_if_unused.ensures u) (dropped c.args.used (machine.Value (term_tree c.args.operand.now) ∷ []) (standing u c.args.control.now.items))

@@ -1,5 +1,0 @@
-use Rattle.report_cli.proofs.ReplayedRuns.{replays_told}
-use Rattle.report_cli.proofs.theorems.replays_are_told.Goals as goal
-
-pub returns : goal.returns
-returns c = replays_told c.one_parse.ensures.checked c.judged_runs_are_found.ensures

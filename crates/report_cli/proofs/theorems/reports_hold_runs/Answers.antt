@@ -1,5 +1,0 @@
-use Rattle.report_cli.proofs.FoundRuns.{reports_hold}
-use Rattle.report_cli.proofs.theorems.reports_hold_runs.Goals as goal
-
-pub returns : goal.returns
-returns c = λ files dirs model main s names diags report v violated. reports_hold c.judged_runs_are_found.ensures files dirs model main s names diags report v violated

@@ -1,6 +1,0 @@
-use Rattle.std.proofs.Common.{◌≡◌, ◌≤◌, ◌-◌, drop, take, Some, []}
-use Rattle.report_cli_draws.specs.DrawsFiles.{joined, numbers_of, words_from}
-use Rattle.report_cli_draws.proofs.draws_files.numbers_of.Given as goal
-
-abbrev pub invariant-loop-at : goal.invariant-loop-at
-invariant-loop-at l = (l.start ≤ l.at) × (joined (Some l.draws.items) (numbers_of (words_from (take (l.at - l.start) (drop l.start l.bytes)) (drop l.at l.bytes))) ≡ numbers_of (words_from [] l.bytes))

@@ -1,7 +1,0 @@
-//! Files of draws: the numbers that a replay takes as its input.
-#![tactic(auto)]
-
-mod draw_numbers;
-mod draws_files;
-
-pub use draws_files::{DrawsFault, read_draws};

@@ -1,5 +1,0 @@
-use Rattle.report_cli_rows_reports.proofs.WorkedRuns.{met}
-use Rattle.report_cli_rows_reports.proofs.theorems.premises_of_soundness_are_met.Goals as goal
-
-pub returns : goal.returns
-returns c = λ some. met c.trees_are_checked.ensures (c.one_division_is_found.ensures some)

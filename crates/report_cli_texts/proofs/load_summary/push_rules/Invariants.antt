@@ -1,6 +1,0 @@
-use Rattle.std.proofs.Common.{◌≡◌, ◌++◌, drop}
-use Rattle.report_cli_texts.specs.Summaries.{rule_parts}
-use Rattle.report_cli_texts.proofs.load_summary.push_rules.Given as goal
-
-abbrev pub invariant-loop-rule : goal.invariant-loop-rule
-invariant-loop-rule l = l.text.items ++ rule_parts l.diags (drop l.rule-index l.rules) ≡ l.initial.text.items ++ rule_parts l.diags l.rules

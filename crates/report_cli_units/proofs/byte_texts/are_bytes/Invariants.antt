@@ -1,6 +1,0 @@
-use Rattle.std.proofs.Common.{◌≡◌, drop}
-use Rattle.ref_machine_looks_units.specs.LookedStatements.{are_bytes}
-use Rattle.report_cli_units.proofs.byte_texts.are_bytes.Given as goal
-
-abbrev pub invariant-loop-byte : goal.invariant-loop-byte
-invariant-loop-byte l = are_bytes (drop l.byte-index l.text) ≡ are_bytes l.text

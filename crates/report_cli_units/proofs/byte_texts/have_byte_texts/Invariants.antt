@@ -1,6 +1,0 @@
-use Rattle.std.proofs.Common.{◌≡◌, drop}
-use Rattle.ref_machine_looks_units.specs.SmallUnits.{have_byte_texts}
-use Rattle.report_cli_units.proofs.byte_texts.have_byte_texts.Given as goal
-
-abbrev pub invariant-loop-at : goal.invariant-loop-at
-invariant-loop-at l = have_byte_texts (drop l.at l.tokens) ≡ have_byte_texts l.tokens

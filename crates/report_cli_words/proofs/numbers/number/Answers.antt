@@ -1,6 +1,0 @@
-use Rattle.std.proofs.Common.{◌∙◌}
-use Rattle.report_cli_words.proofs.Values.{digits_read}
-use Rattle.report_cli_words.proofs.numbers.number.Goals as goal
-
-pub returns : goal.returns
-returns c = c.ok.ensures.value ∙ digits_read c.args.text.now c.parse.result c.parse.ensures.value.0

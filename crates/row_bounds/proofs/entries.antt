@@ -1,0 +1,10 @@
+pub mod EmptyRows
+pub mod EmptyProgram
+pub mod StaticValues
+pub mod StartSteps
+pub mod Parameters
+pub mod OwnStarts
+pub mod RegularStarts
+pub mod BuiltPrograms
+pub mod WideTexts
+pub mod MissingStarts

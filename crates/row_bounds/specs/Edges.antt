@@ -1,0 +1,3 @@
+pub mod OwnLists
+pub mod PlainSystems
+pub mod ShortLists

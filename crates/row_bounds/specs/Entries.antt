@@ -1,0 +1,3 @@
+pub mod StartLaws
+pub mod UnfittedSystems
+pub mod CutStarts

@@ -1,0 +1,4 @@
+pub mod Stores
+pub mod Steps
+pub mod Edges
+pub mod Entries

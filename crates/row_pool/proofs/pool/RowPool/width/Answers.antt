@@ -1,9 +1,0 @@
-use Rattle.std.proofs.Common.{length, subst}
-use Rattle.row_pool.specs.Pool.{IsWhole}
-use Rattle.row_pool.specs.PoolLaws.{row_end}
-use Rattle.row_pool.proofs.pool.RowPool.width.Goals as goal
-
-pub returns-clause-whole : goal.returns-clause-whole
-returns-clause-whole g c =
-    subst (λ p. IsWhole p) c.self.view_is
-    (λ r t. row_end c.self.inside.taken.items r c.self.inside.width c.self.inside.stored (length c.self.inside.cells.items) c.self.invariant.1 t c.self.invariant.0)

@@ -1,5 +1,0 @@
-use Rattle.std.proofs.Common.{◌≡◌, count_by, not, take}
-use Rattle.row_pool.proofs.pool.first_free.Given as goal
-
-abbrev pub invariant-loop-index : goal.invariant-loop-index
-invariant-loop-index l = count_by not (take l.index l.taken) ≡ 0

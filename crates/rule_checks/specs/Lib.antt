@@ -1,2 +1,0 @@
-pub mod AdmittedRules
-pub use Rattle.abstract_steps_instructions.specs.StepViolations

@@ -1,5 +1,0 @@
-//! Rows of what an instruction makes of a row, and of the rules that it may break, as tests.
-#![tactic(auto)]
-
-#[cfg(test)]
-mod division_rows;

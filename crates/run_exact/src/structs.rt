@@ -1,0 +1,1 @@
+//! Copies of structs on rows that tell the state.

@@ -1,0 +1,16 @@
+use Rattle.std.proofs.Common.{◌≡◌, ℕ, ◌≤◌, length}
+use Rattle.json.specs.Json.{members, value}
+use Rattle.serde_json.specs.Data.{Members, no_members}
+use Rattle.serde_json.specs.Read.{of_members, converted}
+use Rattle.sarif.specs.Streams.{Holds}
+use Rattle.sarif.proofs.baseline.read_members.Given as goal
+
+abbrev pub invariant-members : goal.invariant-members
+invariant-members l =
+    (n : ℕ) × (found : Members) × (length l.reader ≤ n)
+    × (converted (λ ms. of_members ms no_members) (members (value l.depth) (length l.initial.reader) l.initial.reader) ≡ converted (λ ms. of_members ms found) (members (value l.depth) n l.reader))
+    × Holds l.report found
+    × (length l.reader ≤ length l.initial.reader)
+
+abbrev pub decreases-members : goal.decreases-members
+decreases-members l = length l.reader

@@ -1,5 +1,0 @@
-use Rattle.sarif_gate.proofs.RoundTrip.{written_is_read}
-use Rattle.sarif_gate.proofs.theorems.reports_are_read_back.Goals as goal
-
-pub returns : goal.returns
-returns c = written_is_read

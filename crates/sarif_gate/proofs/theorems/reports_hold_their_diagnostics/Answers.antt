@@ -1,5 +1,0 @@
-use Rattle.sarif_gate.proofs.OwnReports.{none_is_fresh}
-use Rattle.sarif_gate.proofs.theorems.reports_hold_their_diagnostics.Goals as goal
-
-pub returns : goal.returns
-returns c = none_is_fresh

@@ -1,5 +1,0 @@
-use Rattle.sarif_gate.proofs.UriRound.{uri_read_back}
-use Rattle.sarif_gate.proofs.theorems.uris_are_read_back.Goals as goal
-
-pub returns : goal.returns
-returns c = uri_read_back

@@ -1,0 +1,3 @@
+pub mod CfgMachine
+pub mod SourceMachine
+pub mod TemplateMachine

@@ -1,0 +1,15 @@
+pub mod Operations
+pub mod Items
+pub mod TermItems
+pub mod TermTests
+pub mod ConditionItems
+pub mod StatementItems
+pub mod Scopes
+pub mod LabelSearch
+pub mod SourceStates
+pub mod ObjectSteps
+pub mod BranchSteps
+pub mod CallSteps
+pub mod SourceSteps
+pub mod SourceRuns
+pub mod RunFacts

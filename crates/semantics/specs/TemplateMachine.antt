@@ -1,0 +1,4 @@
+pub mod TemplateStates
+pub mod TemplateActs
+pub mod TemplateExits
+pub mod TemplateSteps

@@ -1,0 +1,1 @@
+//! Definitions alone: the machine of the source, which goes through a checked unit construct by construct.

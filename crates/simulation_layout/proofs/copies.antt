@@ -1,0 +1,5 @@
+mod ShiftedActs
+pub mod FinishedPrograms
+pub mod LaidNames
+pub mod LaidCopies
+pub mod LaidOpenings

@@ -1,0 +1,5 @@
+mod FitSettled
+mod StartNames
+mod WholePrograms
+mod LaidPrograms
+pub mod LoweredPrograms

@@ -1,0 +1,6 @@
+pub mod ListPlaces
+pub mod NamedTables
+pub mod MadeParts
+pub mod NamedPlaces
+pub mod OpenedPieces
+pub mod OpenedCopies

@@ -1,0 +1,2 @@
+pub mod FitPieces
+pub mod CheckedRuns

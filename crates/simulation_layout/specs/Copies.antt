@@ -1,0 +1,2 @@
+pub mod LowTemporaries
+pub mod FitTemplates

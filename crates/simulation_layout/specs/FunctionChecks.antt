@@ -1,0 +1,4 @@
+pub mod LabelsOnce
+pub mod NewObjects
+pub mod NamesThere
+pub mod UnitParts

@@ -1,0 +1,4 @@
+pub mod Shifts
+pub mod Copies
+pub mod Layouts
+pub mod LaidRuns

@@ -1,0 +1,9 @@
+pub mod JumpChecks
+pub mod InlinedLayout
+pub mod Inlining
+pub mod Normalized
+pub mod Copies
+pub mod InlinedRuns
+pub mod FunctionChecks
+pub mod Temporaries
+pub mod Units

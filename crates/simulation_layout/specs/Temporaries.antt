@@ -1,0 +1,2 @@
+pub mod LowPrograms
+pub mod EntryLocals

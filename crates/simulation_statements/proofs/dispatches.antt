@@ -1,0 +1,5 @@
+pub mod DeeperScopes
+pub mod SwitchArms
+pub mod SwitchBlocks
+pub mod SwitchGoals
+pub mod SwitchPlans

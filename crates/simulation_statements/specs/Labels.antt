@@ -1,0 +1,3 @@
+pub mod LabelScopes
+pub mod NotedScopes
+pub mod FoundLabels

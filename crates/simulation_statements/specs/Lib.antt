@@ -1,0 +1,10 @@
+pub mod Switches
+pub mod Labels
+pub mod ScopeExits
+pub mod SwitchLabels
+pub mod JumpSimulation
+pub mod SwitchTables
+pub mod Gotos
+pub mod Dispatches
+pub mod Bodies
+pub mod Entry

@@ -1,0 +1,5 @@
+//! Bodies of functions follow in the pieces to which they come.
+
+mod theorems;
+
+pub use theorems::{labels_follow, statements_follow};

@@ -1,0 +1,1 @@
+//! The labels and edges of switches, and where they lead.

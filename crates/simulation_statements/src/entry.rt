@@ -1,0 +1,5 @@
+//! Runs of a unit are runs of the templates of its functions.
+
+mod theorems;
+
+pub use theorems::{entries_are_followed, functions_are_followed};

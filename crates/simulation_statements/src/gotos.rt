@@ -1,0 +1,5 @@
+//! `goto` in its pieces.
+
+mod theorems;
+
+pub use theorems::gotos_follow;

@@ -1,0 +1,5 @@
+//! Jumps between any two places of a function.
+
+mod theorems;
+
+pub use theorems::{edges_follow, leaps_follow};

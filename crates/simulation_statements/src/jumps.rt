@@ -1,0 +1,1 @@
+//! Jumps in their pieces: `break`, `continue`, `goto` and `return`.

@@ -1,0 +1,1 @@
+//! Statements in their pieces, each from its parts.

@@ -1,0 +1,5 @@
+//! Laws on where the labels of switches stand.
+
+mod theorems;
+
+pub use theorems::choices_are_noted;

@@ -1,0 +1,5 @@
+//! Laws on `switch` in a unit and in its templates.
+
+mod theorems;
+
+pub use theorems::{switches_follow, values_have_edges};

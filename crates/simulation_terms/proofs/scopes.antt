@@ -1,0 +1,12 @@
+pub mod Positions
+pub mod KeptScopes
+pub mod KeptByTerms
+pub mod KeptByConditions
+pub mod ScopesOfTerms
+pub mod Ways
+pub mod InScopes
+pub mod Objects
+pub mod Contexts
+pub mod QuietItems
+pub mod ScopeTrees
+pub mod FunctionBodies

@@ -1,0 +1,9 @@
+pub mod Runs
+pub mod Labels
+pub mod About
+pub mod Operators
+pub mod Assignments
+pub mod Steps
+pub mod Laying
+pub mod Arguments
+pub mod LineCalls

@@ -1,0 +1,4 @@
+pub mod Scopes
+pub mod SuitedStatements
+pub mod Chains
+pub mod Contexts

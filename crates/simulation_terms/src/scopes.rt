@@ -1,0 +1,1 @@
+//! Statements in scopes and loops, and the ways out of these.

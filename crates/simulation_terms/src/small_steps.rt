@@ -1,0 +1,5 @@
+//! Laws on runs of a unit and of its templates.
+
+mod theorems;
+
+pub use theorems::{runs_are_followed, turns_are_followed};

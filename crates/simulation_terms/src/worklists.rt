@@ -1,0 +1,1 @@
+//! Works of templates and items of the source, one after the other.

@@ -1,0 +1,2 @@
+pub mod MadeTemplates
+pub mod UnitRuns

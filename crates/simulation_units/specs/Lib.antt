@@ -1,0 +1,6 @@
+pub mod Calls
+pub mod Returns
+pub mod Preconditions
+pub mod Units
+pub mod Termination
+pub mod CheckedUnits

@@ -1,0 +1,2 @@
+pub mod BoundedTemplates
+pub mod EndedRuns

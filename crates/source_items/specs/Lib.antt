@@ -1,0 +1,4 @@
+pub mod Operations
+pub mod Returns
+pub mod Liveness
+pub mod StackKinds

@@ -1,0 +1,4 @@
+pub mod Kinds
+pub mod TakenKinds
+pub mod GoingReplies
+pub mod OperationLaws

@@ -1,0 +1,4 @@
+pub mod KindedTerms
+pub mod KindedStatements
+pub mod KindedItems
+pub mod KindedStates

@@ -1,0 +1,8 @@
+mod Replies
+mod Keeping
+mod Changes
+mod Calls
+mod Objects
+mod Conditions
+mod Switches
+mod Turns

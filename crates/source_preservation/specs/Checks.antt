@@ -1,0 +1,4 @@
+pub mod LookedTypes
+pub mod LookedTests
+pub mod LookedTerms
+pub mod TermLaws

@@ -1,0 +1,10 @@
+pub mod ValueTyping
+pub mod Liveness
+pub mod Memory
+pub mod WellTyped
+pub mod Checks
+pub mod Items
+pub mod InitialMemory
+pub mod SmallSteps
+pub mod Safety
+pub mod UnitChecks

@@ -1,0 +1,1 @@
+//! Values that decide a test or select a case agree with memory.

@@ -1,0 +1,2 @@
+pub mod StackKinds
+pub mod Progress

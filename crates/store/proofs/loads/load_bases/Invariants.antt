@@ -1,0 +1,7 @@
+use Rattle.std.proofs.Common.{◌≡◌, drop, None}
+use Rattle.store_cells.specs.Walks.{walk}
+use Rattle.store.specs.Loads.{read_base}
+use Rattle.store.proofs.loads.load_bases.Given as goal
+
+abbrev pub invariant-loop-n : goal.invariant-loop-n
+invariant-loop-n g l = walk (read_base g.I.Lattice.lattice g.I.IntDomain.numbers l.model l.row l.set l.access) l.n (drop l.n l.bases) l.found ≡ walk (read_base g.I.Lattice.lattice g.I.IntDomain.numbers l.model l.row l.set l.access) 0 l.bases None

@@ -1,6 +1,0 @@
-use Rattle.std.proofs.Common.{◌≡◌, ◌≤◌, take}
-use Rattle.store_domain.specs.LeafSelection.{selected_count}
-use Rattle.store_domain.proofs.leaf_selection.selected_count.Given as goal
-
-abbrev pub invariant-loop-leaf : goal.invariant-loop-leaf
-invariant-loop-leaf l = (l.found ≡ selected_count (take l.leaf-index l.leaves) l.class l.window) × (l.found ≤ l.leaf-index)

@@ -1,7 +1,0 @@
-use Rattle.std.proofs.Common.{◌≡◌, drop, false}
-use Rattle.store_domain_cells.specs.Walks.{walk}
-use Rattle.store_domain.specs.Stores.{is_other_or}
-use Rattle.store_domain.proofs.stores.any_other.Given as goal
-
-abbrev pub invariant-loop-at : goal.invariant-loop-at
-invariant-loop-at l = walk (is_other_or l.model l.window) l.at (drop l.at l.leaves) l.found ≡ walk (is_other_or l.model l.window) 0 l.leaves false

@@ -1,7 +1,0 @@
-use Rattle.std.proofs.Common.{◌≡◌, drop}
-use Rattle.store_domain_cells.specs.Walks.{walk}
-use Rattle.store_domain.specs.Stores.{store_to}
-use Rattle.store_domain.proofs.stores.store_all.Given as goal
-
-abbrev pub invariant-loop-n : goal.invariant-loop-n
-invariant-loop-n g l = walk (store_to g.I.Lattice.lattice g.I.IntDomain.numbers l.model l.set l.write) l.n (drop l.n l.bases) l.row ≡ walk (store_to g.I.Lattice.lattice g.I.IntDomain.numbers l.model l.set l.write) 0 l.bases l.initial.row

@@ -1,5 +1,0 @@
-use Rattle.store_domain_laws_layouts.proofs.MadeLayouts.{made_apart}
-use Rattle.store_domain_laws_layouts.proofs.theorems.made_layouts_stand_apart.Goals as goal
-
-pub returns : goal.returns
-returns c = λ m model structs members h s e. made_apart m model structs members h s e

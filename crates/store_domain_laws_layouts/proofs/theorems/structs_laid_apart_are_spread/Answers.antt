@@ -1,5 +1,0 @@
-use Rattle.store_domain_laws_layouts.proofs.LaidApart.{apart_spread}
-use Rattle.store_domain_laws_layouts.proofs.theorems.structs_laid_apart_are_spread.Goals as goal
-
-pub returns : goal.returns
-returns c = λ m model structs h index s e. apart_spread m model structs h index s e

@@ -1,6 +1,0 @@
-//! Laws of the layouts of structs.
-#![tactic(auto)]
-
-mod theorems;
-
-pub use theorems::{made_layouts_stand_apart, structs_laid_apart_are_spread};

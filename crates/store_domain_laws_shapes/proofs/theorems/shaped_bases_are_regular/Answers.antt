@@ -1,5 +1,0 @@
-use Rattle.store_domain_laws_shapes.proofs.ShapedBases.{shaped_regular}
-use Rattle.store_domain_laws_shapes.proofs.theorems.shaped_bases_are_regular.Goals as goal
-
-pub returns : goal.returns
-returns c = λ m model base h. shaped_regular m model base h

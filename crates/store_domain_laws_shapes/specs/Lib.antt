@@ -1,1 +1,0 @@
-pub use Rattle.store_domain_laws.specs.Placements

@@ -1,5 +1,0 @@
-use Rattle.store_domain_laws_structs.proofs.SpreadStructs.{apart_spread}
-use Rattle.store_domain_laws_structs.proofs.theorems.apart_leaves_are_spread.Goals as goal
-
-pub returns : goal.returns
-returns c = λ m model structs index s h. apart_spread m model structs index s h

@@ -1,5 +1,0 @@
-use Rattle.store_domain_laws_structs.proofs.ShapedSpans.{shaped_reaches}
-use Rattle.store_domain_laws_structs.proofs.theorems.larger_spans_reach_more.Goals as goal
-
-pub returns : goal.returns
-returns c = λ m model base h. shaped_reaches m model base h

@@ -1,9 +1,0 @@
-pub mod LargerSpans
-pub mod SpreadStructs
-pub use Rattle.store_domain_structs.specs.LeafCounts
-pub use Rattle.store_domain_structs.specs.LeafNumbers
-pub use Rattle.store_domain_structs.specs.PaddingWrites
-pub use Rattle.store_domain_structs.specs.CopyPlaces
-pub use Rattle.store_domain_structs.specs.LeafCopies
-pub use Rattle.store_domain_structs.specs.StructCopies
-pub use Rattle.store_domain_structs.specs.CopyZeros

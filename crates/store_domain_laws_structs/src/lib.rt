@@ -1,6 +1,0 @@
-//! Laws of what copies of structs reach.
-#![tactic(auto)]
-
-mod theorems;
-
-pub use theorems::{apart_leaves_are_spread, larger_spans_reach_more};

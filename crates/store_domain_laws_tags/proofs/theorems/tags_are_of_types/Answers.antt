@@ -1,5 +1,0 @@
-use Rattle.store_domain_laws_tags.proofs.FoldedTags.{all_tags}
-use Rattle.store_domain_laws_tags.proofs.theorems.tags_are_of_types.Goals as goal
-
-pub returns : goal.returns
-returns c = λ m structs model apart t kind x. all_tags m model structs apart t kind x

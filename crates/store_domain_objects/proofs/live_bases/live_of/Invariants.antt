@@ -1,8 +1,0 @@
-use Rattle.std.proofs.Common.{◌≡◌, drop}
-use Rattle.pointer_domain.specs.BaseSets.{no_base}
-use Rattle.store_domain_cells.specs.Walks.{walk}
-use Rattle.store_domain_objects.specs.LiveBases.{add_live}
-use Rattle.store_domain_objects.proofs.live_bases.live_of.Given as goal
-
-abbrev pub invariant-loop-n : goal.invariant-loop-n
-invariant-loop-n g l = walk (add_live g.I.Lattice.lattice g.I.IntDomain.numbers l.row l.set) l.n (drop l.n l.bases) l.found ≡ walk (add_live g.I.Lattice.lattice g.I.IntDomain.numbers l.row l.set) 0 l.bases no_base

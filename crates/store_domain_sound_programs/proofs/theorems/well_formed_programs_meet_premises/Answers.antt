@@ -1,8 +1,0 @@
-use Rattle.store_domain_sound_programs.proofs.WellFormedPremises.{meets_premises, standard_held}
-use Rattle.store_domain_sound_programs.proofs.theorems.well_formed_programs_meet_premises.Goals as goal
-
-pub returns : goal.returns
-returns c = record {
-  programs = λ limits flow held h. meets_premises limits flow held h;
-  standard = standard_held;
-}

@@ -1,6 +1,0 @@
-//! Well-formed programs meet the premises of the theorems on the store.
-#![tactic(auto)]
-
-mod theorems;
-
-pub use theorems::well_formed_programs_meet_premises;

@@ -1,9 +1,0 @@
-pub mod Regions
-pub mod BaseRows
-pub mod Layers
-pub mod RegionArrays
-pub mod ByteRegions
-pub mod ContentRegions
-pub use Rattle.store_domain_sound_chars.proofs.ByteValues
-pub use Rattle.store_domain_sound_chars.proofs.ByteArrays
-pub use Rattle.store_domain_sound_chars.proofs.ByteZeros

@@ -1,6 +1,0 @@
-//! Writes of some bytes of one instance are sound where they are in each base.
-#![tactic(auto)]
-
-mod theorems;
-
-pub use theorems::region_writes_are_sound;

@@ -1,7 +1,0 @@
-use Rattle.std.proofs.Common.{◌≡◌, drop}
-use Rattle.store_domain.specs.Walks.{walk}
-use Rattle.store_domain_structs.specs.PaddingWrites.{padded_view, pad_leaf}
-use Rattle.store_domain_structs.proofs.padding_writes.pad_leaves.Given as goal
-
-abbrev pub invariant-loop-at : goal.invariant-loop-at
-invariant-loop-at g l = walk (pad_leaf g.I.Lattice.lattice g.I.IntDomain.numbers l.model l.base (padded_view l.padded)) l.at (drop l.at l.leaves) l.row ≡ walk (pad_leaf g.I.Lattice.lattice g.I.IntDomain.numbers l.model l.base (padded_view l.padded)) 0 l.leaves l.initial.row

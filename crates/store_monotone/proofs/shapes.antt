@@ -1,0 +1,3 @@
+pub mod LeafBytes
+pub mod FoldedLeaves
+pub mod ShapedBases

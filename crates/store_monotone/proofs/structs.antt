@@ -1,0 +1,9 @@
+pub mod Places
+pub mod JoinedSpans
+pub mod MetLeaves
+pub mod ShortLeaves
+pub mod Strays
+pub mod ShapedSpans
+pub mod FarSpans
+pub mod WorkedStructs
+pub mod SpreadStructs

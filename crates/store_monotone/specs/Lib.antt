@@ -1,0 +1,4 @@
+pub mod Store
+pub mod Structs
+pub mod Layouts
+pub mod Tags

@@ -1,0 +1,2 @@
+pub mod LargerSpans
+pub mod SpreadStructs

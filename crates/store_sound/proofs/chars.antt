@@ -1,0 +1,10 @@
+pub mod ByteStores
+pub mod ByteCells
+pub mod ByteValues
+pub mod ByteRows
+pub mod ByteTexts
+pub mod ByteArrays
+pub mod ByteZeros
+pub mod WrittenCells
+pub mod WrittenRows
+pub mod CharStoreSound

@@ -1,0 +1,1 @@
+//! Definitions alone: the states of the machine for which a row of the analysis stands.

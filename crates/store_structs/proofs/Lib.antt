@@ -1,0 +1,3 @@
+pub use Rattle.store_struct_leaves.proofs.Somewhere
+pub mod Batches
+pub mod MemberDepths

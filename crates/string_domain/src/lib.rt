@@ -1,6 +1,0 @@
-//! The first zero byte of a character array, over any domain of integers.
-#![tactic(auto)]
-
-mod first_zeros;
-
-pub use first_zeros::{END, FirstZero};

@@ -1,0 +1,4 @@
+pub mod NewCells
+pub mod FinishedZeros
+pub mod CopyRows
+pub mod CopySteps

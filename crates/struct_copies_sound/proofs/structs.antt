@@ -1,0 +1,4 @@
+pub mod FewLeaves
+pub mod ListedStructs
+mod LostLeaves
+mod WorkedTables

@@ -1,0 +1,5 @@
+//! Copies of structs are sound.
+
+mod theorems;
+
+pub use theorems::copies_are_sound;

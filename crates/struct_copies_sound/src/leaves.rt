@@ -1,0 +1,1 @@
+//! Reads of leaves of copied structs.

@@ -1,7 +1,0 @@
-//! Structs that stand in no circle.
-#![tactic(auto)]
-
-mod known_structs;
-mod struct_orders;
-
-pub use struct_orders::see_order;

@@ -1,6 +1,0 @@
-use Rattle.std.proofs.Common.{◌≡◌, ◌++◌, drop}
-use Rattle.syntax_rules.specs.StatementPlaces.{stores_places}
-use Rattle.syntax_rules.proofs.statement_places.add_stores.Given as goal
-
-abbrev pub invariant-loop-store : goal.invariant-loop-store
-invariant-loop-store l = l.found.items ++ stores_places (drop l.store-index l.stores) ≡ l.initial.found.items ++ stores_places l.stores

@@ -1,5 +1,0 @@
-//! Rows of the three syntactic rules over units that were checked by hand, as tests.
-#![tactic(auto)]
-
-#[cfg(test)]
-mod term_rows;

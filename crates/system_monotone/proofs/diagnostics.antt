@@ -1,0 +1,2 @@
+pub mod FewestPairs
+pub mod LeastMaps

@@ -1,0 +1,4 @@
+pub mod LibraryWrites
+pub mod StructCopies
+pub mod Systems
+pub mod Diagnostics

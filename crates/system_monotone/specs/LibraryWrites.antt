@@ -1,0 +1,4 @@
+pub mod TextOrder
+pub mod TextCalls
+pub mod CopyOrder
+pub mod MemoryCalls

@@ -1,0 +1,11 @@
+-- Calls that copy bytes.
+use Rattle.cc_base.specs.Lattices.{LatticeOf}
+use Rattle.cc_base.specs.IntegerDomains.{IntegersOf}
+use Rattle.c_layout.specs.declared.library_functions.LibFn.TheVariants as f
+use Rattle.cfg.specs.declared.programs.Flow.{Flow}
+use Rattle.pointer_domain.specs.declared.base_sets.Bases.{Bases}
+use Rattle.transfer_monotone.specs.Edges.CallLaws.{CallRises}
+
+pub record MemoryCallsRise {I : Type 0} (l : LatticeOf I) (n : IntegersOf I) (all : Bases) (flow : Flow) : Type 0 where
+  pub memcpy : CallRises l n all flow f.Memcpy
+  pub memmove : CallRises l n all flow f.Memmove

@@ -1,0 +1,5 @@
+pub mod Texts
+pub mod NearNumbers
+pub mod CopiedStructs
+pub mod RegularPrograms
+pub mod ProgramRows

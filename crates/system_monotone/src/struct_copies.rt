@@ -1,0 +1,5 @@
+//! Laws of copies of structs.
+
+mod theorems;
+
+pub use theorems::struct_copies_are_monotone;

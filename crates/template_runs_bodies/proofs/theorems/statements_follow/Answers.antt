@@ -1,8 +1,0 @@
-use Rattle.std.proofs.Common.{refl}
-use Rattle.template_runs_scopes.proofs.Positions.{position}
-use Rattle.template_runs_bodies.proofs.Statements.{about}
-use Rattle.template_runs_bodies.proofs.theorems.statements_follow.Goals as goal
-
-pub returns : goal.returns
-returns c = λ t s fits f has ends i n around enclosed known suits p scopes choices ps r m none known_r items rest stands k follows.
-    (about s t fits f has ends i n around enclosed known (position p) suits (scopes, choices)).from p none refl ps r m known_r items rest stands k follows

@@ -1,6 +1,0 @@
-//! Bodies of functions follow in the pieces to which they come.
-#![tactic(auto)]
-
-mod theorems;
-
-pub use theorems::{labels_follow, statements_follow};

@@ -1,2 +1,0 @@
-pub mod Choices
-pub use Rattle.template_runs_labels.specs.LabelScopes

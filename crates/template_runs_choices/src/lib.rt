@@ -1,2 +1,0 @@
-//! Where the labels of switches stand.
-#![tactic(auto)]

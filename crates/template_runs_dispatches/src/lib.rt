@@ -1,2 +1,0 @@
-//! The labels and edges of switches, and where they lead.
-#![tactic(auto)]

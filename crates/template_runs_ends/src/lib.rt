@@ -1,6 +1,0 @@
-//! The run of a unit whose program has no loops comes to an end.
-#![tactic(auto)]
-
-mod theorems;
-
-pub use theorems::units_without_loops_end;

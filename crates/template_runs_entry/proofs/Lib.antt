@@ -1,6 +1,0 @@
-pub mod Bodies
-pub mod CalledPlans
-pub mod CalledFollows
-pub mod CalledFunctions
-pub mod EntryFollows
-pub use Rattle.template_runs_bodies.proofs.CoveredCases

@@ -1,2 +1,0 @@
-pub mod Entries
-pub use Rattle.template_runs_turns.specs.Alike

@@ -1,2 +1,0 @@
-//! What the source still has to do stands in the pieces of templates that are still to be done.
-#![tactic(auto)]

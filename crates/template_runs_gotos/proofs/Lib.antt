@@ -1,3 +1,0 @@
-pub mod Gotos
-pub use Rattle.template_runs_leaps.proofs.Choices
-pub use Rattle.template_runs_leaps.proofs.Terms

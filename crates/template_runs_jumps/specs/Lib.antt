@@ -1,1 +1,0 @@
-pub use Rattle.template_runs_gotos.specs.Gotos

@@ -1,2 +1,0 @@
-//! Jumps in their pieces: `break`, `continue`, `goto` and `return`.
-#![tactic(auto)]

@@ -1,5 +1,0 @@
-use Rattle.template_runs_labels.proofs.NotedScopes.{in_function}
-use Rattle.template_runs_labels.proofs.theorems.labels_are_noted.Goals as goal
-
-pub returns : goal.returns
-returns c = λ f n number other there once is. in_function f n number other there once is

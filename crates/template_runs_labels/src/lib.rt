@@ -1,8 +1,0 @@
-//! Laws on where the labels of a function stand.
-#![tactic(auto)]
-
-mod theorems;
-
-pub use theorems::{
-    function_labels_stand_in_scopes, labels_are_found, labels_are_noted, labels_stand_in_scopes,
-};

@@ -1,3 +1,0 @@
-pub mod Leaps
-pub use Rattle.template_runs_terms.proofs.Choices
-pub use Rattle.template_runs_terms.proofs.Terms

@@ -1,6 +1,0 @@
-//! Jumps between any two places of a function.
-#![tactic(auto)]
-
-mod theorems;
-
-pub use theorems::{edges_follow, leaps_follow};

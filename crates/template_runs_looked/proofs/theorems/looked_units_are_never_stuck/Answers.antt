@@ -1,5 +1,0 @@
-use Rattle.template_runs_looked.proofs.LookedRuns.{never_stuck}
-use Rattle.template_runs_looked.proofs.theorems.looked_units_are_never_stuck.Goals as goal
-
-pub returns : goal.returns
-returns c = never_stuck c.looks_mark.ensures c.looks_scope.ensures c.looks_stand.ensures c.runs_are_never_stuck.ensures

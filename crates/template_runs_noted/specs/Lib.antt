@@ -1,2 +1,0 @@
-pub mod NotedChoices
-pub use Rattle.template_runs_choices.specs.Choices

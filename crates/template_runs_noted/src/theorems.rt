@@ -1,8 +1,0 @@
-//! The scopes in which the labels of switches stand.
-ghost use Rattle.template_runs_noted.specs.NotedChoices.{ChoicesAreNoted};
-
-/// The tree of a function's scopes notes each case of each switch, and its default label, with the scope in which it
-/// stands.
-pub fn choices_are_noted()
-    ensures { ChoicesAreNoted }
-{}

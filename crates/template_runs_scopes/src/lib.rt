@@ -1,2 +1,0 @@
-//! Statements in scopes and loops, and the ways out of these.
-#![tactic(auto)]

@@ -1,2 +1,0 @@
-//! Statements in their pieces, each from its parts.
-#![tactic(auto)]

@@ -1,6 +1,0 @@
-//! Laws on `switch` in a unit and in its templates.
-#![tactic(auto)]
-
-mod theorems;
-
-pub use theorems::{switches_follow, values_have_edges};

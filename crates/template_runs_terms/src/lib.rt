@@ -1,6 +1,0 @@
-//! Terms follow in the pieces to which they come.
-#![tactic(auto)]
-
-mod theorems;
-
-pub use theorems::{conditions_follow, terms_follow, unused_terms_follow};

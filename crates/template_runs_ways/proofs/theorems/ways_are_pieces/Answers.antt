@@ -1,5 +1,0 @@
-use Rattle.template_runs_ways.proofs.WaysBetween.{way_is}
-use Rattle.template_runs_ways.proofs.theorems.ways_are_pieces.Goals as goal
-
-pub returns : goal.returns
-returns c = λ s from to xs ys between enough also p. way_is s s.scopes.scopes from to xs ys between enough also p

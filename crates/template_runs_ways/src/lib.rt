@@ -1,6 +1,0 @@
-//! Ways from any scope of a function to any other one.
-#![tactic(auto)]
-
-mod theorems;
-
-pub use theorems::{chains_have_ways, jumps_are_ways, ways_are_pieces, ways_enter};

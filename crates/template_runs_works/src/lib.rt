@@ -1,2 +1,0 @@
-//! Works of templates and items of the source, one after the other.
-#![tactic(auto)]

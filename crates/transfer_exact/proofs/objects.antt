@@ -1,0 +1,5 @@
+pub mod ToldEnters
+pub mod LeftBases
+pub mod LeftValues
+pub mod LeftRows
+pub mod ToldLeaves

@@ -1,0 +1,10 @@
+pub mod OneTurn
+pub mod OneBase
+pub mod OneTouch
+pub mod OneLeaf
+pub mod OneLoad
+pub mod OneInstance
+pub mod OneStore
+pub mod HeldReads
+pub mod Written
+pub mod Touching

@@ -1,0 +1,6 @@
+pub mod ToldLoads
+pub mod Moves
+pub mod StoredRows
+pub mod ToldStores
+pub mod ToldForgets
+pub mod ToldClears

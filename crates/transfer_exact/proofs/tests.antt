@@ -1,0 +1,3 @@
+pub mod IntegerSides
+pub mod SideTurns
+pub mod IntegerTests

@@ -1,0 +1,73 @@
+-- Replies of the machine that are told.
+use Rattle.std.proofs.Common.{◌≡◌, ℕ, suc, ◌<◌, Option, Some, None, List, subst, sym, refl}
+use Rattle.std.specs.Prelude.{ℤ}
+use Rattle.cc_base.specs.Lattices.{LatticeOf}
+use Rattle.cc_base.specs.IntegerDomains.{IntegersOf, BoundLaws}
+use Rattle.cfg.specs.declared.programs.Flow.{Flow}
+use Rattle.value_domain.specs.declared.values.values.Value.{Value}
+use Rattle.value_domain.specs.declared.values.row_cells.Cell.{Cell}
+use Rattle.transfer_checks.specs.declared.violation_sets.Violations.{Violations}
+use Rattle.transfer_checks.specs.Temporaries.{put_temp}
+use Rattle.memory_model.specs.Memory.Labels.{Labels}
+use Rattle.memory_model.specs.Memory.Bytes.{MachinePointer}
+use Rattle.memory_model.specs.Memory.Scalars.{Scalar, integer, pointer}
+use Rattle.memory_model.specs.Effects.NumberedTables.{put_at}
+use Rattle.memory_model.specs.Effects.Worlds.{World, Why, Reply, goes, stops}
+use Rattle.memory_model.specs.Effects.Operands.{with_number, with_pointer}
+use Rattle.semantics.specs.CfgMachine.FlowStates.{Standing, if_some}
+use Rattle.semantics.specs.CfgMachine.FlowActs.{giving}
+use Rattle.store_sound.specs.Concretization.ValueMeaning.{Naming}
+use Rattle.store_sound.specs.Concretization.Coverage.{state_of}
+use Rattle.store_sound.specs.Programs.Premises.{HasPremises}
+use Rattle.transfer_sound.specs.Values.SoundSteps.{IsReached}
+use Rattle.transfer_exact.specs.Values.SingleRows.{TellsState}
+use Rattle.transfer_exact.specs.Values.SingleSteps.{IsDefined, TellsBehind, IsTold}
+use Rattle.transfer_exact.proofs.values.Violated.{AreViolated}
+use Rattle.transfer_exact.proofs.values.PutTells.{IsToldResult, put_tells}
+
+module _ {I : Type 0} (l : LatticeOf I) (n : IntegersOf I) (flow : Flow) (after : Option (List (Cell I))) (admitted : Violations) where
+  abbrev Told : Reply Standing → Type 0
+  Told reply = IsTold l n flow after admitted reply
+
+  -- where the run stops there is no row
+  pub stop_told : (why : Why) (w : World) → after ≡ None → AreViolated admitted w.violated → Told (stops why w)
+  stop_told why w e h = record { goes_on = λ s u f. cc; ends = λ y u f. e; violated = h }
+
+  pub if_some_told : {A : Type 0} (s : Standing) (o : Option A) (use_it : A → Reply Standing) → IsDefined (if_some s o use_it) → ((x : A) → o ≡ Some x → IsDefined (use_it x) → Told (use_it x)) → Told (if_some s o use_it)
+  if_some_told s None use_it d h = absurd (d s.world refl)
+  if_some_told s (Some x) use_it d h = h x refl d
+
+  -- ---- operands
+
+  pub number_told : (s : Standing) (to : ℕ) (v : Scalar) (w : World) (use_it : ℤ → Labels → World → Reply Scalar) → IsDefined (giving s to (with_number v w use_it)) → ((z : ℤ) (labels : Labels) → v ≡ integer z labels → IsDefined (giving s to (use_it z labels w)) → Told (giving s to (use_it z labels w))) → Told (giving s to (with_number v w use_it))
+  number_told s to (integer z labels) w use_it d h = h z labels refl d
+  number_told s to (pointer p) w use_it d h = absurd (d w refl)
+
+  pub pointer_told : (s : Standing) (to : ℕ) (v : Scalar) (w : World) (use_it : MachinePointer → World → Reply Scalar) → IsDefined (giving s to (with_pointer v w use_it)) → ((p : MachinePointer) → v ≡ pointer p → IsDefined (giving s to (use_it p w)) → Told (giving s to (use_it p w))) → Told (giving s to (with_pointer v w use_it))
+  pointer_told s to (integer z labels) w use_it d h = absurd (d w refl)
+  pointer_told s to (pointer p) w use_it d h = h p refl d
+
+module _ {I : Type 0} {l : LatticeOf I} {n : IntegersOf I} {stands : I → ℤ → Type 0} (q : BoundLaws l n stands) (flow : Flow) (p : HasPremises flow) (naming : Naming) (row : List (Cell I)) (s : Standing) (r : IsReached l n stands flow naming row s) (t : TellsState l n flow row (state_of s)) where
+  -- the standing behind an instruction that gives something
+  abbrev standing_behind : ℕ → Scalar → World → Standing
+  standing_behind to v w = record s { at = suc s.at; temps = put_at s.temps to v; world = w }
+
+  module _ (to : ℕ) (few : to < flow.temps) (x : Value I) (v : Scalar) (w : World) (result : IsToldResult q flow p s.bases s.world.memory x v) (same : w.memory ≡ s.world.memory) where
+    given_tells : TellsState l n flow (put_temp flow row to x) (record { memory = w.memory; temps = put_at s.temps to v; entered = s.bases })
+    given_tells = subst (λ m. TellsState l n flow (put_temp flow row to x) (record { memory = m; temps = put_at s.temps to v; entered = s.bases })) (sym same)
+        (put_tells q flow p naming row r.long (state_of s) r.stands_for.sane t to few x v result)
+
+    given_behind : (after : Option (List (Cell I))) → after ≡ Some (put_temp flow row to x) → TellsBehind l n flow after (standing_behind to v w)
+    given_behind after is = record { row = put_temp flow row to x; is = is; tells = given_tells }
+
+    -- the run goes on behind the instruction, with its result in a temporary
+    pub result_told : (after : Option (List (Cell I))) (admitted : Violations) → after ≡ Some (put_temp flow row to x) → AreViolated admitted w.violated → IsTold l n flow after admitted (giving s to (goes v w))
+    result_told after admitted is h = record {
+      goes_on = λ t u e.
+          let a : standing_behind to v w ≡ t = cc in
+          let b : w ≡ u = cc in
+          subst (λ z. TellsBehind l n flow after (record z { world = u })) a
+          (subst (λ z. TellsBehind l n flow after (record (standing_behind to v w) { world = z })) b (given_behind after is));
+      ends = λ why u e. cc;
+      violated = h;
+    }

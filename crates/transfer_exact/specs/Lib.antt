@@ -1,0 +1,4 @@
+pub mod Values
+pub mod Store
+pub mod Spelling
+pub mod Edges

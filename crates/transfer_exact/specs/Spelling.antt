@@ -1,0 +1,2 @@
+pub mod TypedCopies
+pub mod CopyLaws

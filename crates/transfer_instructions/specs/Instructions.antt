@@ -1,0 +1,5 @@
+pub mod MemorySteps
+pub mod CallSteps
+pub mod OperationGroups
+pub mod Steps
+pub mod StepViolations

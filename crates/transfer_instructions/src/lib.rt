@@ -1,0 +1,5 @@
+//! Transfer functions of instructions.
+#![tactic(auto)]
+
+pub mod instructions;
+pub mod values;

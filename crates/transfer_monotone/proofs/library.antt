@@ -1,0 +1,10 @@
+pub mod ResultCalls
+pub mod CharacterCalls
+pub mod AllocationCalls
+pub mod HeapBases
+pub mod Releases
+pub mod Products
+pub mod Trails
+pub mod GivenPointers
+pub mod Scans
+pub mod StringResults

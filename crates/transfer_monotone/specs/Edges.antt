@@ -1,0 +1,5 @@
+pub mod MemoryLaws
+pub mod FilledRows
+pub mod CallLaws
+pub mod ProgramLaws
+pub mod SystemLaws

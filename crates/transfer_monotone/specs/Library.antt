@@ -1,0 +1,4 @@
+pub mod Sites
+pub mod SimpleCalls
+pub mod AllocationCalls
+pub mod StringCalls

@@ -1,0 +1,13 @@
+-- Calls that read strings and give a result alone.
+use Rattle.cc_base.specs.Lattices.{LatticeOf}
+use Rattle.cc_base.specs.IntegerDomains.{IntegersOf}
+use Rattle.c_layout.specs.declared.library_functions.LibFn.TheVariants as f
+use Rattle.cfg.specs.declared.programs.Flow.{Flow}
+use Rattle.pointer_domain.specs.declared.base_sets.Bases.{Bases}
+use Rattle.transfer_monotone.specs.Edges.CallLaws.{CallRises}
+
+pub record StringCallsRise {I : Type 0} (l : LatticeOf I) (n : IntegersOf I) (all : Bases) (flow : Flow) : Type 0 where
+  pub strlen : CallRises l n all flow f.Strlen
+  pub strcmp : CallRises l n all flow f.Strcmp
+  pub puts : CallRises l n all flow f.Puts
+  pub printf : CallRises l n all flow f.Printf

@@ -1,0 +1,2 @@
+pub mod TakenEdges
+pub mod EdgeSteps

@@ -1,0 +1,3 @@
+pub mod LeftMemory
+pub mod EndedValues
+pub mod Leaving

@@ -1,0 +1,9 @@
+pub mod ScalarCells
+pub mod Relabelling
+pub mod TestSteps
+pub mod TestSides
+pub mod SameObject
+pub mod IntegerTests
+pub mod CaseSteps
+pub mod PointerTests
+pub mod NullTests

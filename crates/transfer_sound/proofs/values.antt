@@ -1,0 +1,16 @@
+pub mod Admitted
+pub mod NearScalars
+pub mod PutTemps
+pub mod Replies
+pub mod Truths
+pub mod ResultRows
+pub mod TypeRanges
+pub mod PartTouches
+pub mod BinarySteps
+pub mod ValueSteps
+pub mod PointerResults
+pub mod PartSteps
+pub mod MoveSteps
+pub mod ComparisonSteps
+pub mod PointerSteps
+pub mod Counterexamples

@@ -1,0 +1,2 @@
+pub mod SoundEnds
+pub mod Covering

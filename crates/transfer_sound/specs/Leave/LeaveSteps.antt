@@ -1,0 +1,18 @@
+-- When the analysis's step that leaves an object is sound.
+use Rattle.std.specs.Prelude.{ℤ}
+use Rattle.cc_base.specs.Lattices.{LatticeOf}
+use Rattle.cc_base.specs.IntegerDomains.{IntegersOf}
+use Rattle.cfg.specs.declared.machine_instructions.Operation.{Operation}
+use Rattle.cfg.specs.declared.machine_instructions.Operation.TheVariants as op
+use Rattle.cfg.specs.declared.programs.Flow.{Flow}
+use Rattle.store_sound.specs.Programs.Premises.{HasPremises}
+use Rattle.transfer_sound.specs.Values.SoundSteps.{AreSound}
+
+-- the lifetime of an object ends
+abbrev pub IsLeave : Operation → Type 0
+IsLeave (op.Leave b) = Unit {0}
+IsLeave _ = ⊥
+
+module _ {I : Type 0} (l : LatticeOf I) (n : IntegersOf I) (stands : I → ℤ → Type 0) (flow : Flow) where
+  abbrev pub LeaveStepsAreSound : Type 0
+  LeaveStepsAreSound = HasPremises flow → AreSound l n stands flow IsLeave

@@ -1,0 +1,11 @@
+pub mod Values
+pub mod Objects
+pub mod Clear
+pub mod Enter
+pub mod Leave
+pub mod Memory
+pub mod Induction
+pub mod Edges
+pub mod Operands
+pub mod Tests
+pub mod InvariantMaps

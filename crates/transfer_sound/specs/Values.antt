@@ -1,0 +1,2 @@
+pub mod OperandTypes
+pub mod SoundSteps

@@ -1,0 +1,5 @@
+//! Edges of the analysis are sound, where the tests on them are.
+
+mod theorems;
+
+pub use theorems::plain_ends_are_sound;

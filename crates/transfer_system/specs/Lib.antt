@@ -1,0 +1,2 @@
+pub mod BoundedRows
+pub mod System

@@ -1,0 +1,4 @@
+pub mod BlockPasses
+pub mod FlowMachines
+pub mod SystemChecks
+pub mod FlowLaws

@@ -1,7 +1,0 @@
-use Rattle.std.proofs.Common.{◌≡◌, ◌≤◌, map}
-use Rattle.flow_program_views.specs.ProgramViews.{block}
-use Rattle.turn_split.specs.Turns as spec
-use Rattle.turn_split.proofs.block_copies.block_copies.Given as goal
-
-abbrev pub invariant-loop-copy : goal.invariant-loop-copy
-invariant-loop-copy l = (l.copy ≤ l.turns.copies) × (map block l.made.items ≡ spec.blocks_below l.turns (map block l.blocks) l.copy)

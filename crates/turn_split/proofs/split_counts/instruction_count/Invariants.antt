@@ -1,7 +1,0 @@
-use Rattle.std.proofs.Common.{◌≡◌, map, drop}
-use Rattle.flow_program_views.specs.ProgramViews.{block}
-use Rattle.turn_split.specs.SplitCounts as spec
-use Rattle.turn_split.proofs.split_counts.instruction_count.Given as goal
-
-abbrev pub invariant-loop-found : goal.invariant-loop-found
-invariant-loop-found l = spec.instructions_from l.count (map block (drop l.found-index l.blocks)) ≡ spec.instruction_count (map block l.blocks)

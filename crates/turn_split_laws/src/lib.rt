@@ -1,6 +1,0 @@
-//! Laws of programs whose loops are unrolled to a bound.
-#![tactic(auto)]
-
-mod theorems;
-
-pub use theorems::{maps_are_copied, turned_pairs_are_named};

@@ -1,6 +1,0 @@
-//! Laws on runs of programs with turns unrolled.
-#![tactic(auto)]
-
-mod theorems;
-
-pub use theorems::{turned_runs_are_the_same, well_formed_programs_are_linked};

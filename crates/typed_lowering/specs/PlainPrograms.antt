@@ -1,0 +1,2 @@
+pub mod PlainBases
+pub mod PlainPrograms

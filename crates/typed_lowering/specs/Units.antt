@@ -1,0 +1,2 @@
+pub mod TypedUnitLaws
+pub mod PlainUnits

@@ -1,0 +1,5 @@
+//! Laws on the templates of plain functions.
+
+mod theorems;
+
+pub use theorems::templates_lead_on;

@@ -1,0 +1,3 @@
+pub mod RightOperands
+pub mod PlainObjects
+pub mod SingleAnalyses

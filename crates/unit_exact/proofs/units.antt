@@ -1,0 +1,2 @@
+pub mod EndedRuns
+pub mod SingleUnits

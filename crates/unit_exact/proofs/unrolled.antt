@@ -1,0 +1,5 @@
+pub mod AlikeOperations
+pub mod TypedCopies
+pub mod OwnParts
+pub mod SingleCopies
+pub mod TurnedUnits

@@ -1,0 +1,2 @@
+pub mod TurnedUnits
+pub mod TurnedLoops

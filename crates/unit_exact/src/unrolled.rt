@@ -1,0 +1,7 @@
+//! What an analysis finds of a plain unit is the same where turns are unrolled.
+
+mod theorems;
+
+pub use theorems::{
+    looped_units_are_told_exactly, turned_programs_are_single, turned_units_are_told_exactly,
+};

@@ -1,0 +1,34 @@
+//! Of a plain unit an analysis of the program with turns unrolled finds just what the unit's run violates, as one of the
+//! program itself does. What is supposed of the unit's program stands in `specs/SingleUnits.antt` of
+//! `abstract_steps_single_units`.
+ghost use Rattle.unit_exact.specs.Unrolled.TurnedLoops.{LoopedUnitsAreToldExactly};
+ghost use Rattle.unit_exact.specs.Unrolled.TurnedUnits.{TurnedProgramsAreSingle, TurnedUnitsAreToldExactly};
+
+use crate::switches::unit_switches_are_apart;
+use simulation_units::checked_units::{looked_runs_are_program_runs, looked_units_are_never_stuck};
+use simulation_units::termination::units_without_loops_end;
+
+/// Unrolling keeps what the laws on plain units suppose of a program and of its run.
+pub fn turned_programs_are_single()
+    ensures { TurnedProgramsAreSingle }
+{}
+
+/// Each pair that is found is violated by the unit's run under no numbers of the outside, and each that it violates is found.
+pub fn turned_units_are_told_exactly()
+    ensures { TurnedUnitsAreToldExactly }
+{
+    looked_runs_are_program_runs();
+    looked_units_are_never_stuck();
+    unit_switches_are_apart();
+    units_without_loops_end();
+}
+
+/// So it is of a unit that is plain but for its loops and jumps back, whose run ends and takes no more turns of them than are
+/// unrolled.
+pub fn looped_units_are_told_exactly()
+    ensures { LoopedUnitsAreToldExactly }
+{
+    looked_runs_are_program_runs();
+    looked_units_are_never_stuck();
+    unit_switches_are_apart();
+}

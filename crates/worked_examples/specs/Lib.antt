@@ -1,0 +1,6 @@
+pub mod SourceRuns
+pub mod OneLoop
+pub mod WrongTemplates
+pub mod TypedUnit
+pub mod PlainUnit
+pub mod UnrolledUnit

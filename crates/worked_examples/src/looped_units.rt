@@ -1,0 +1,1 @@
+//! Worked rows of the look at units with loops.

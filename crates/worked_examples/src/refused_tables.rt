@@ -1,0 +1,1 @@
+//! Worked rows of soundness: tables that what rows stand for refuses.
