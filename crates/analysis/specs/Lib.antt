@@ -2,5 +2,5 @@ pub mod Analyses
 pub mod CheckedPrograms
 pub mod Counts
 pub mod StepBounds
-pub use Rattle.system_monotone.specs.Systems.RegularPrograms
+pub use Rattle.transfer_system.specs.System.RegularPrograms
 pub use Rattle.diagnose.specs.Operands.TypedRows

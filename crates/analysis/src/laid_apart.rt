@@ -3,7 +3,7 @@ ghost use Rattle.std.specs.Prelude.{◌≡◌, ◌+◌, true, map};
 ghost use Rattle.c_layout.specs.StructViews.{field_view, struct_view, structs_view};
 ghost use Rattle.c_layout.specs.Types.{view};
 ghost use Rattle.store_structs.specs.LeafCounts.{bytes_in};
-ghost use Rattle.store_monotone.specs.Layouts.LaidApart as spec;
+ghost use Rattle.store_structs.specs.LaidApart as spec;
 
 use c_layout::{CType, Field, Model, StructType, Structs};
 use cfg_checks::{class_bytes, class_of, ends_by};

@@ -9,7 +9,7 @@ ghost use Rattle.interval_domain.specs.Intervals.IntervalLattice.{interval_latti
 ghost use Rattle.interval_domain.specs.Intervals.IntervalNumbers.{interval_numbers};
 ghost use Rattle.transfer_system.specs.System.SystemChecks.{is_system};
 ghost use Rattle.transfer_system.specs.System.FlowMachines.{has_start};
-ghost use Rattle.system_monotone.specs.Systems.RegularPrograms.{is_regular};
+ghost use Rattle.transfer_system.specs.System.RegularPrograms.{is_regular};
 ghost use Rattle.analysis.specs.Analyses.{admitted_pairs, IsAnalysis};
 ghost use Rattle.analysis.specs.CheckedPrograms.{IsChecked};
 ghost use Rattle.analysis.specs.StepBounds.{most_edges};

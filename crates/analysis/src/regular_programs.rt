@@ -1,8 +1,8 @@
 //! Whether a program and a list of numbers are such that the analysis is by the least inductive map.
 ghost use Rattle.std.specs.Prelude.{◌≡◌, IfOk};
 ghost use Rattle.std.specs.List.{list_all};
-ghost use Rattle.transfer_monotone.specs.Edges.SystemLaws.{is_near_number};
-ghost use Rattle.system_monotone.specs.Systems.RegularPrograms as spec;
+ghost use Rattle.transfer_system.specs.BoundedRows.NearLists.{is_near_number};
+ghost use Rattle.transfer_system.specs.System.RegularPrograms as spec;
 
 use crate::laid_apart::are_laid_apart;
 use c_layout::{BaseInfo, StaticStore};

@@ -9,3 +9,4 @@ pub mod SyntaxTrees
 pub mod CheckedTrees
 pub mod CheckedUnits
 pub mod DeclarationTrees
+pub mod ByteTexts

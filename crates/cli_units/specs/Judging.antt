@@ -25,7 +25,7 @@ use Rattle.cfg.specs.ThresholdNumbers.{limits_of}
 use Rattle.cfg.specs.StructNumbers.{flow_numbers}
 use Rattle.lower_preconditions.specs.Objects.PlainObjects.{has_plain_objects}
 use Rattle.lower_preconditions.specs.Units.RegularUnits.{is_regular_unit}
-use Rattle.source_preservation.specs.UnitChecks.SmallUnits.{have_byte_texts}
+use Rattle.c_layout.specs.ByteTexts.{have_byte_texts}
 use Rattle.lower.specs.Inlining.Lowerings as lowering
 use Rattle.lower.specs.Inlining.Lowerings.{IsLowering}
 use Rattle.analysis.specs.Analyses.{IsAnalysis}

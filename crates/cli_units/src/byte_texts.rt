@@ -1,13 +1,12 @@
 //! Whether the texts of tokens are of bytes.
 ghost use Rattle.std.specs.Prelude.{◌≡◌};
-ghost use Rattle.source_preservation.specs.UnitChecks.LookedStatements as statements;
-ghost use Rattle.source_preservation.specs.UnitChecks.SmallUnits as spec;
+ghost use Rattle.c_layout.specs.ByteTexts as spec;
 
 use c_layout::Unit7;
 
 /// Whether each number of a text is that of a byte. By its type it is, but contracts see a list of numbers alone.
 fn are_bytes(text: &[u8]) -> bool
-    ensures { result ≡ statements.are_bytes text.now }
+    ensures { result ≡ spec.are_bytes text.now }
 {
     for byte in text {
         if u32::from(*byte) > 255 {

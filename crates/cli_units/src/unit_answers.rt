@@ -6,7 +6,7 @@ ghost use Rattle.lower_preconditions.specs.Objects.PlainObjects.{has_plain_objec
 ghost use Rattle.lower_preconditions.specs.Units.RegularUnits.{is_regular_unit};
 ghost use Rattle.cfg.specs.WellFormed.{base_cells, is_well_formed};
 ghost use Rattle.cc_base.specs.Standard.{standard_limits};
-ghost use Rattle.source_preservation.specs.UnitChecks.SmallUnits.{have_byte_texts};
+ghost use Rattle.c_layout.specs.ByteTexts.{have_byte_texts};
 ghost use Rattle.cli_units.specs.Judging.{setting_view, judgement, cells_from, cell_count, IsParsed, IsTyped, IsLooked, IsLowered, IsTurned, IsJudged, IsFound, StopsUnit};
 
 use crate::byte_texts::have_byte_texts;

@@ -1,2 +1,1 @@
-pub mod LaidApart
 pub mod MadeLayouts

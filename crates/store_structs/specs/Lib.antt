@@ -8,3 +8,4 @@ pub mod StructCopies
 pub mod CopyLengths
 pub use Rattle.store_struct_leaves.specs.declared.copy_places.Span
 pub use Rattle.store_struct_leaves.specs.declared.leaf_copies.LeafAccess
+pub mod LaidApart

@@ -2,4 +2,3 @@ pub mod MemoryLaws
 pub mod FilledRows
 pub mod CallLaws
 pub mod ProgramLaws
-pub mod SystemLaws

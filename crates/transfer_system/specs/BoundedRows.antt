@@ -9,3 +9,4 @@ pub mod OwnLaws
 pub mod BaseRooms
 pub mod RowRooms
 pub mod RoomLaws
+pub mod NearLists

@@ -2,3 +2,4 @@ pub mod BlockPasses
 pub mod FlowMachines
 pub mod SystemChecks
 pub mod FlowLaws
+pub mod RegularPrograms

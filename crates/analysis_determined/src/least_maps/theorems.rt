@@ -6,7 +6,7 @@ ghost use Rattle.cfg.specs.WellFormed.{is_well_formed};
 ghost use Rattle.cfg.specs.declared.programs.Flow.{Flow};
 ghost use Rattle.interval_domain.specs.declared.intervals.intervals.Interval.{Interval};
 ghost use Rattle.value_domain.specs.declared.values.row_cells.Cell.{Cell};
-ghost use Rattle.system_monotone.specs.Systems.RegularPrograms.{is_regular};
+ghost use Rattle.transfer_system.specs.System.RegularPrograms.{is_regular};
 ghost use Rattle.analysis.specs.Analyses.{IsAnalysis};
 ghost use Rattle.analysis.specs.StepBounds.{most_edges};
 ghost use Rattle.analysis_determined.specs.LeastMaps.CountedSteps.{visits};

@@ -13,7 +13,7 @@ use Rattle.interval_domain.specs.Intervals.Spans.{Stands}
 use Rattle.interval_domain.specs.Intervals.IntervalLattice.{interval_lattice}
 use Rattle.interval_domain.specs.Intervals.IntervalNumbers.{interval_numbers}
 use Rattle.store_sound.proofs.programs.WellFormedPremises.{meets_premises}
-use Rattle.system_monotone.specs.Systems.RegularPrograms.{has_scalars, has_initial_bytes, has_apart_members, is_near_list, is_regular}
+use Rattle.transfer_system.specs.System.RegularPrograms.{has_scalars, has_initial_bytes, has_apart_members, is_near_list, is_regular}
 use Rattle.system_monotone.proofs.systems.RegularPrograms.{regular_of}
 use Rattle.analysis.specs.Analyses.{IsAnalysis}
 use Rattle.analysis.specs.CheckedPrograms.{IsChecked}

@@ -18,7 +18,7 @@ use Rattle.store_sound.specs.Concretization.Coverage.{EachRunIsCovered}
 use Rattle.store_sound.specs.Programs.Premises.{AreHeld, HasPremises}
 use Rattle.store_sound.proofs.programs.WellFormedPremises.{meets_premises}
 use Rattle.transfer_system.specs.BoundedRows.IntervalEnds.{interval_ends}
-use Rattle.system_monotone.specs.Systems.RegularPrograms.{is_regular}
+use Rattle.transfer_system.specs.System.RegularPrograms.{is_regular}
 use Rattle.system_monotone.proofs.systems.WellFormed.{laid_out, all_named}
 use Rattle.system_monotone.proofs.systems.RegularPrograms.{Regular, regular_of}
 use Rattle.system_monotone.proofs.systems.RegularSystems.{regular_rising}

@@ -15,7 +15,7 @@ use Rattle.store_monotone.specs.Store.StoreLaws.{AreBytes}
 use Rattle.store_sound.specs.Programs.Premises.{HasPremises}
 use Rattle.store_sound.proofs.programs.ShapedBases.{all_at}
 use Rattle.store_sound.proofs.programs.WellFormedPremises.{well_formed_good}
-use Rattle.system_monotone.specs.Systems.RegularPrograms.{is_byte, has_bytes, follows_leaves, has_scalars}
+use Rattle.transfer_system.specs.System.RegularPrograms.{is_byte, has_bytes, follows_leaves, has_scalars}
 use Rattle.library_sound.specs.Spelling.SpellSteps.{AreCharacters}
 use Rattle.library_sound.proofs.spelling.FollowedArrays.{followed_characters}
 use Rattle.analysis_sound.specs.Programs.OpenSteps.{SpellsOverCharacters}

@@ -8,7 +8,7 @@ use Rattle.cc_base.specs.declared.limit_table.Limits.{Limits}
 use Rattle.cfg.specs.WellFormed.{is_well_formed}
 use Rattle.cfg.specs.declared.programs.Flow.{Flow}
 use Rattle.lower_templates.specs.Views.ProgramViews.{FlowView, flow_view}
-use Rattle.store_monotone.specs.Layouts.LaidApart.{are_laid_apart}
+use Rattle.store_structs.specs.LaidApart.{are_laid_apart}
 use Rattle.analysis_preconditions.specs.StructNesting.OrderedStructs.{are_ordered}
 use Rattle.analysis.specs.Analyses.{IsAnalysis}
 use Rattle.loop_unrolling.specs.Turns.{split}

@@ -45,7 +45,7 @@ use Rattle.interval_domain.specs.Intervals.IntervalNumbers.{interval_numbers}
 use Rattle.memory_model.specs.Effects.Worlds.{Violation}
 use Rattle.transfer_edges.specs.StartRows.{start_value, start_object, start_objects, start_row}
 use Rattle.transfer_system.specs.System.FlowMachines.{has_start}
-use Rattle.system_monotone.specs.Systems.RegularPrograms.{is_regular}
+use Rattle.transfer_system.specs.System.RegularPrograms.{is_regular}
 use Rattle.analysis.specs.CheckedPrograms.{IsChecked}
 use Rattle.row_bounds.specs.Entries.CutStarts.{type_list}
 use Rattle.analysis_sound.specs.Analyses.SoundAnalyses.{IsViolatedIn}

@@ -10,7 +10,7 @@ use Rattle.analysis_preconditions.specs.Objects.Sites.{has_sites, ends_with_line
 use Rattle.analysis_preconditions.specs.Objects.SpelledTexts.{spells_over_characters}
 use Rattle.analysis_preconditions.specs.Objects.ScalarTests.{all_follow_scalars}
 use Rattle.store_sound.specs.Programs.Premises.{HasPremises}
-use Rattle.system_monotone.specs.Systems.RegularPrograms.{has_scalars}
+use Rattle.transfer_system.specs.System.RegularPrograms.{has_scalars}
 use Rattle.transfer_sound.specs.Values.SoundSteps.{AreSound}
 use Rattle.transfer_sound.specs.Induction.SoundEnds.{IsDoneIn}
 use Rattle.analysis_sound.specs.Programs.OpenSteps.{IsOpenStep, SpellsOverCharacters, AllocatesAtSites, KindIsProved}

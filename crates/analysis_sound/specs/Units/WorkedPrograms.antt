@@ -13,7 +13,7 @@ use Rattle.memory_model.specs.Effects.Worlds.{Violation}
 use Rattle.analysis.specs.Analyses.{IsAnalysis}
 use Rattle.analysis.specs.CheckedPrograms.{IsChecked}
 use Rattle.transfer_system.specs.System.FlowMachines.{has_start}
-use Rattle.system_monotone.specs.Systems.RegularPrograms.{is_regular}
+use Rattle.transfer_system.specs.System.RegularPrograms.{is_regular}
 use Rattle.analysis_sound.specs.Analyses.SoundAnalyses.{IsViolatedIn}
 use Rattle.entry_sound.specs.Tables.UnitStarts.{StartsAs}
 

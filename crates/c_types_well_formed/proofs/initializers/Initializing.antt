@@ -29,7 +29,7 @@ use Rattle.c_types_expressions.specs.BracedLists.Initializers as spec
 use Rattle.lower_templates.specs.Worklist.TermKinds.{term_type}
 use Rattle.source_preservation.specs.Checks.LookedTypes.{is_scalar_type}
 use Rattle.source_preservation.specs.Checks.LookedTerms.{is_marked_term, is_marked_place}
-use Rattle.source_preservation.specs.UnitChecks.LookedStatements.{are_bytes}
+use Rattle.c_layout.specs.ByteTexts.{are_bytes}
 use Rattle.c_types_well_formed.specs.WellFormed.ModelTypes.{IsTypeOf}
 use Rattle.c_types_well_formed.specs.WellFormed.MadeTerms.{IsMade, IsMadeOperand, IsMadeForm, Gives}
 use Rattle.c_types_well_formed.specs.WellFormed.UnitParts.{IsPartOf}

@@ -24,7 +24,7 @@ use Rattle.c_types_initializers.specs.ListStores.{FillingView, nothing, scalar_o
 use Rattle.c_types_initializers.specs.Initialized.{InitializedView, scalar_by, struct_by, filled_by}
 use Rattle.c_types_expressions.specs.BracedLists.BracedLists as lists
 use Rattle.c_types_expressions.specs.BracedLists.Initializers as spec
-use Rattle.source_preservation.specs.UnitChecks.LookedStatements.{are_bytes}
+use Rattle.c_layout.specs.ByteTexts.{are_bytes}
 use Rattle.c_types_well_formed.specs.WellFormed.ProperStatements.{IsProperInitializer, AreProperInitializers}
 use Rattle.c_types_well_formed.specs.WellFormed.ProperTrees.{IsProperTree}
 use Rattle.c_types_well_formed.specs.Stores.StaticStores.{IsByteStore, AreByteStores, IsByteInitial}

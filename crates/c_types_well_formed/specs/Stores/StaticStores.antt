@@ -14,7 +14,7 @@ use Rattle.c_types_scopes.specs.States.{State}
 use Rattle.c_types_initializers.specs.Initialized.{InitializedView, ByTerm, ByLvalue, ByStores}
 use Rattle.c_types_initializers.specs.StaticStores.{constant_stores}
 use Rattle.c_types_expressions.specs.BracedLists.Initializers.{initializer_of}
-use Rattle.source_preservation.specs.UnitChecks.LookedStatements.{are_bytes}
+use Rattle.c_layout.specs.ByteTexts.{are_bytes}
 use Rattle.c_types_well_formed.specs.WellFormed.ProperStatements.{IsProperInitializer}
 use Rattle.c_types_well_formed.specs.WellFormed.ProperStores.{AreProperStores}
 

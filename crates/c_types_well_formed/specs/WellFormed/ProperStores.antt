@@ -6,7 +6,7 @@ use Rattle.c_layout.specs.declared.checked_tree.checked_units.StaticBase.{Static
 use Rattle.c_layout.specs.declared.checked_tree.checked_units.StaticBase.TheVariants as base
 use Rattle.c_layout.specs.declared.checked_tree.checked_units.StaticValue.{StaticValue}
 use Rattle.c_layout.specs.declared.checked_tree.checked_units.StaticValue.TheVariants as value
-use Rattle.source_preservation.specs.UnitChecks.LookedStatements.{are_bytes}
+use Rattle.c_layout.specs.ByteTexts.{are_bytes}
 
 -- a literal of bytes, whose array has a size
 pub record IsShortLiteral (l : LiteralView) : Type 0 where

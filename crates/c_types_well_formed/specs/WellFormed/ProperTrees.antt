@@ -6,7 +6,7 @@ use Rattle.c_layout.specs.SyntaxTrees.{Tree, Trees}
 use Rattle.c_layout.specs.declared.data_model.Model.{Model}
 use Rattle.c_layout.specs.declared.syntax_tree.expressions.Constant.{Constant}
 use Rattle.c_types_primary.specs.Primaries.{constant_value}
-use Rattle.source_preservation.specs.UnitChecks.LookedStatements.{are_bytes}
+use Rattle.c_layout.specs.ByteTexts.{are_bytes}
 use Rattle.c_types_well_formed.specs.WellFormed.ModelTypes.{IsKindOf}
 
 pub record IsProperConstant (m : Model) (c : Constant) : Type 0 where

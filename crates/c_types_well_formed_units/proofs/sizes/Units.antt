@@ -26,7 +26,7 @@ use Rattle.c_types.specs.Units.UnitDefinitions.{with_externals}
 use Rattle.c_types.specs.Units.UnitEntries.{judged}
 use Rattle.c_types_theorems.proofs.entries.Entries.{same_value}
 use Rattle.memory_model.specs.Effects.LibraryChecks.{most_size}
-use Rattle.source_preservation.specs.UnitChecks.LookedStatements.{are_bytes}
+use Rattle.c_layout.specs.ByteTexts.{are_bytes}
 use Rattle.source_preservation.specs.UnitChecks.LookedUnits.{is_small, is_small_local, is_proper_value, is_proper_store, is_marked_static, is_marked_literal, are_marked_objects}
 use Rattle.source_preservation.specs.UnitChecks.SmallUnits.{has_small_objects, is_small_unit}
 use Rattle.c_types_well_formed.specs.WellFormed.ModelTypes.{IsTypeOf}

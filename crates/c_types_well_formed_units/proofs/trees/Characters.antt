@@ -9,7 +9,7 @@ use Rattle.std.proofs.lemmas.Option.{option_and_then_some, same_Some}
 use Rattle.c_parser_tokens.specs.CharacterCodes.{CharacterAt, with_rest, simple_escape, byte_with, numeric_of, numeric_escape, escape, first_character, without_last, inside, is_empty, codes_after, literal_bytes}
 use Rattle.c_parser_tokens.specs.IntegerForms.{digit_count, magnitude, is_between}
 use Rattle.source_preservation.proofs.checks.Truths.{both_true, either_true, no_some}
-use Rattle.source_preservation.specs.UnitChecks.LookedStatements.{is_byte, are_bytes}
+use Rattle.c_layout.specs.ByteTexts.{is_byte, are_bytes}
 
 -- ---- parts of texts
 

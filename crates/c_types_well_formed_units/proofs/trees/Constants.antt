@@ -18,7 +18,7 @@ use Rattle.c_types_rules.specs.declared.rules.integer_kinds.Rank.{Rank}
 use Rattle.c_types_rules.specs.declared.rules.integer_kinds.Rank.TheVariants as rank
 use Rattle.domain_theorems.specs.Intervals.Kit.{in_type_between}
 use Rattle.source_preservation.proofs.checks.Truths.{both_true, either_true, no_some}
-use Rattle.source_preservation.specs.UnitChecks.LookedStatements.{is_byte, are_bytes}
+use Rattle.c_layout.specs.ByteTexts.{is_byte, are_bytes}
 use Rattle.c_types_well_formed.specs.WellFormed.ModelTypes.{IsKindOf}
 use Rattle.c_types_well_formed.specs.WellFormed.ProperTrees.{IsProperConstant}
 use Rattle.c_types_well_formed_units.proofs.trees.Characters.{character_byte, bytes_inside}

@@ -16,7 +16,7 @@ use Rattle.c_parser_expressions.specs.Expressions.{Derives, DeriveEach}
 use Rattle.c_parser_expressions.specs.Fronts.{first_symbol, first_text, IsConstant, IsLiteral}
 use Rattle.c_parser_expressions.specs.Spans.{Span, Separated, Chain}
 use Rattle.c_parser_expressions.specs.TypeNames.{IsTypeNameWord, IsTypeName, IsBrackets, Arrays, Layers, Declarator, Length}
-use Rattle.source_preservation.specs.UnitChecks.LookedStatements.{are_bytes}
+use Rattle.c_layout.specs.ByteTexts.{are_bytes}
 use Rattle.c_types_well_formed.specs.WellFormed.ProperTrees.{IsProperConstant, IsProperLiteral, IsProperTree, AreProperTrees}
 use Rattle.c_types_well_formed_units.specs.Trees.ByteTokens.{AreProperTerminals}
 use Rattle.c_types_well_formed_units.proofs.trees.Fronts as front

@@ -22,8 +22,7 @@ use Rattle.c_parser_tokens.specs.ConstantTypes.{integer_constant}
 use Rattle.c_parser_tokens.specs.Keywords.{is_left_out, keyword_of}
 use Rattle.c_parser_tokens.specs.Punctuators.{punctuator_of}
 use Rattle.source_preservation.proofs.checks.Truths.{both_true, no_some}
-use Rattle.source_preservation.specs.UnitChecks.LookedStatements.{are_bytes}
-use Rattle.source_preservation.specs.UnitChecks.SmallUnits.{has_byte_text}
+use Rattle.c_layout.specs.ByteTexts.{are_bytes, has_byte_text}
 use Rattle.c_types_well_formed.specs.WellFormed.ProperTrees.{IsProperConstant}
 use Rattle.c_types_well_formed_units.specs.Trees.ByteTokens.{IsProperTerminal, AreProperTerminals}
 use Rattle.c_types_well_formed_units.proofs.trees.Characters.{bytes_both, literal_is_of_bytes}

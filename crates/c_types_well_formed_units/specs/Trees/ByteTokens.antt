@@ -8,8 +8,7 @@ use Rattle.cc_base.specs.declared.lexemes.Token.{Token}
 use Rattle.c_parser_tokens.specs.declared.terminals.Symbol.TheVariants as symbol
 use Rattle.c_parser_tokens.specs.declared.terminals.Terminal.{Terminal}
 use Rattle.c_parser.specs.Externals.{IsUnit}
-use Rattle.source_preservation.specs.UnitChecks.LookedStatements.{are_bytes}
-use Rattle.source_preservation.specs.UnitChecks.SmallUnits.{have_byte_texts}
+use Rattle.c_layout.specs.ByteTexts.{are_bytes, have_byte_texts}
 use Rattle.c_types_well_formed.specs.WellFormed.ProperTrees.{IsProperConstant}
 use Rattle.c_types_well_formed.specs.WellFormed.ProperStatements.{AreProperExternals}
 use Rattle.c_types_well_formed_units.specs.Scoped.BlockDeclarations.{UnitInBlocks}

@@ -9,7 +9,7 @@ use Rattle.interval_domain.specs.declared.intervals.intervals.Interval.{Interval
 use Rattle.interval_domain.specs.Intervals.IntervalLattice.{interval_lattice}
 use Rattle.interval_domain.specs.Intervals.IntervalNumbers.{interval_numbers}
 use Rattle.transfer_system.specs.System.FlowMachines.{has_start}
-use Rattle.system_monotone.specs.Systems.RegularPrograms.{is_regular}
+use Rattle.transfer_system.specs.System.RegularPrograms.{is_regular}
 use Rattle.diagnose.specs.Operands.TypedRows.{is_typed_map}
 use Rattle.analysis.specs.Analyses.{row_lattice, machine_of, admitted_pairs}
 use Rattle.analysis.specs.CheckedPrograms.{IsChecked}

@@ -7,7 +7,7 @@ ghost use Rattle.interval_domain.specs.Intervals.IntervalLattice.{interval_latti
 ghost use Rattle.interval_domain.specs.Intervals.IntervalNumbers.{interval_numbers};
 ghost use Rattle.transfer_system.specs.System.SystemChecks.{is_system};
 ghost use Rattle.transfer_system.specs.System.FlowMachines.{has_start};
-ghost use Rattle.system_monotone.specs.Systems.RegularPrograms.{is_regular};
+ghost use Rattle.transfer_system.specs.System.RegularPrograms.{is_regular};
 ghost use Rattle.diagnose.specs.Operands.TypedRows.{is_typed_map};
 ghost use Rattle.analysis.specs.CheckedPrograms.{IsChecked};
 ghost use Rattle.certificate_text.specs.Maps.MapTexts.{text_of_map};

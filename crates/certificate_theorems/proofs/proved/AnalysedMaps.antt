@@ -23,7 +23,7 @@ use Rattle.row_bounds.specs.Edges.OwnLists.{ReachesTypes}
 use Rattle.row_bounds.proofs.edges.IntervalSystems.{regular_fit_nothing}
 use Rattle.row_bounds.proofs.edges.OwnEdges.{leaves_own}
 use Rattle.row_bounds.proofs.entries.RegularStarts.{regular_fits}
-use Rattle.system_monotone.specs.Systems.RegularPrograms.{is_regular}
+use Rattle.transfer_system.specs.System.RegularPrograms.{is_regular}
 use Rattle.system_monotone.proofs.systems.RegularPrograms.{Regular, regular_of}
 use Rattle.system_monotone.proofs.systems.RegularSystems.{regular_rising}
 use Rattle.system_monotone.proofs.systems.WellFormed.{laid_out, all_named}

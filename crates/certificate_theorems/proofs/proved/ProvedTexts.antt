@@ -9,7 +9,7 @@ use Rattle.cfg.specs.WellFormed.{is_well_formed}
 use Rattle.cfg.specs.declared.programs.Flow.{Flow}
 use Rattle.interval_domain.specs.Intervals.IntervalLattice.{interval_lattice}
 use Rattle.interval_domain.specs.Intervals.IntervalNumbers.{interval_numbers}
-use Rattle.system_monotone.specs.Systems.RegularPrograms.{has_scalars, has_initial_bytes, has_apart_members, is_near_list, is_regular}
+use Rattle.transfer_system.specs.System.RegularPrograms.{has_scalars, has_initial_bytes, has_apart_members, is_near_list, is_regular}
 use Rattle.diagnose.specs.Operands.TypedRows.{is_typed_map}
 use Rattle.analysis.specs.Analyses.{admitted_pairs, IsAnalysis}
 use Rattle.analysis.specs.CheckedPrograms.{IsChecked}

@@ -29,7 +29,7 @@ use Rattle.transfer_system.specs.BoundedRows.EndLaws.{HasEnds, EndLaws}
 use Rattle.transfer_system.specs.BoundedRows.FittedRows.{cell_made, cell_fit, cells_fit, row_fit, all_cells}
 use Rattle.transfer_system.specs.BoundedRows.OwnLaws.{own_length, own_cells}
 use Rattle.transfer_system.specs.BoundedRows.OwnRows.{program_bases, reach_of, is_consistent, is_own_pointer, is_known_value, is_own_cell, are_own_cells, is_own_row}
-use Rattle.transfer_monotone.specs.Edges.SystemLaws.{IsNearList}
+use Rattle.transfer_system.specs.BoundedRows.NearLists.{IsNearList}
 use Rattle.transfer_monotone.proofs.edges.FittedOrder.{top_cell, top_cells, cells_top}
 
 module _ {I : Type 0} {l : LatticeOf I} {n : IntegersOf I} {stands : I → ℤ → Type 0} (o : OrderLaws l) (k : RoundLaws l) (h : HeightLaws l) (b : BoundLaws l n stands) (ends : EndLaws l n)

@@ -52,7 +52,7 @@ use Rattle.transfer_instructions.specs.Instructions.StepViolations.{operation_vi
 use Rattle.transfer_instructions.specs.Values.IntegerSteps.{constant_step, binary_step}
 use Rattle.transfer_instructions.specs.Values.ResultTemps.{put_number}
 use Rattle.transfer_system.specs.System.FlowMachines.{has_start, start_of}
-use Rattle.system_monotone.specs.Systems.RegularPrograms.{is_regular}
+use Rattle.transfer_system.specs.System.RegularPrograms.{is_regular}
 use Rattle.row_bounds.specs.Entries.CutStarts.{type_list}
 use Rattle.row_bounds.proofs.entries.BuiltPrograms.{made, one, none}
 use Rattle.diagnose.specs.Diagnostics.AdmittedRules.{pairs_of, instruction_pairs, block_pairs, map_pairs}

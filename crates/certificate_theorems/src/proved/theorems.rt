@@ -4,7 +4,7 @@ ghost use Rattle.cfg.specs.declared.programs.Flow.{Flow};
 ghost use Rattle.interval_domain.specs.Intervals.IntervalLattice.{interval_lattice};
 ghost use Rattle.interval_domain.specs.Intervals.IntervalNumbers.{interval_numbers};
 ghost use Rattle.transfer_system.specs.System.FlowMachines.{has_start};
-ghost use Rattle.system_monotone.specs.Systems.RegularPrograms.{is_regular};
+ghost use Rattle.transfer_system.specs.System.RegularPrograms.{is_regular};
 ghost use Rattle.row_bounds.specs.Edges.OwnLists.{ReachesTypes};
 ghost use Rattle.certificate_theorems.specs.Proved.AnalysedMaps.{InductiveMapsAreClosed};
 ghost use Rattle.certificate_theorems.specs.Proved.ProvedTexts.{CertificatesAreAccepted, ProvedProgramsPass, NothingIsCut};

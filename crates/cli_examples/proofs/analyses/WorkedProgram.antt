@@ -37,7 +37,7 @@ use Rattle.transfer_instructions.specs.Instructions.StepViolations.{operation_vi
 use Rattle.transfer_instructions.specs.Values.IntegerSteps.{constant_step, binary_step}
 use Rattle.transfer_instructions.specs.Values.ResultTemps.{put_number}
 use Rattle.transfer_system.specs.System.FlowMachines.{has_start, start_of}
-use Rattle.system_monotone.specs.Systems.RegularPrograms.{is_regular}
+use Rattle.transfer_system.specs.System.RegularPrograms.{is_regular}
 use Rattle.diagnose.specs.Diagnostics.AdmittedRules.{pairs_of, instruction_pairs, block_pairs, map_pairs}
 use Rattle.diagnose.specs.Operands.TypedRows.{has_operands, are_typed, is_typed_block, is_typed_map}
 use Rattle.analysis.specs.Analyses.{row_lattice, machine_of, admitted_pairs, IsAnalysis}

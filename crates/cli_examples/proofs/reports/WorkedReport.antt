@@ -13,7 +13,7 @@ use Rattle.c_types.specs.Units.UnitChecks.{check}
 use Rattle.lower.specs.Inlining.Lowerings.{IsLowering}
 use Rattle.lower_preconditions.specs.Objects.PlainObjects.{has_plain_objects}
 use Rattle.lower_preconditions.specs.Units.RegularUnits.{is_regular_unit}
-use Rattle.source_preservation.specs.UnitChecks.SmallUnits.{have_byte_texts}
+use Rattle.c_layout.specs.ByteTexts.{have_byte_texts}
 use Rattle.cfg.specs.declared.programs.Flow.{Flow}
 use Rattle.lower_templates.specs.Views.ProgramViews.{FlowView, flow_view}
 use Rattle.cli_texts.specs.Reports.{Bytes, report_of}

@@ -12,10 +12,10 @@ use Rattle.c_types_theorems.proofs.entries.Entries.{entries_take_integers}
 use Rattle.cfg.specs.WellFormed.{is_well_formed}
 use Rattle.cfg.specs.declared.programs.Flow.{Flow}
 use Rattle.lower_templates.specs.Views.ProgramViews.{FlowView}
-use Rattle.store_monotone.specs.Layouts.LaidApart.{are_laid_apart}
+use Rattle.store_structs.specs.LaidApart.{are_laid_apart}
 use Rattle.store_sound.proofs.programs.WellFormedPremises.{well_formed_good}
 use Rattle.analysis_preconditions.specs.StructNesting.OrderedStructs.{are_ordered}
-use Rattle.system_monotone.specs.Systems.RegularPrograms.{is_regular, has_scalars, has_initial_bytes, has_apart_members, is_near_list}
+use Rattle.transfer_system.specs.System.RegularPrograms.{is_regular, has_scalars, has_initial_bytes, has_apart_members, is_near_list}
 use Rattle.entry_sound.specs.Tables.UnitStarts.{StartsAs}
 use Rattle.entry_sound.specs.Lowered.LoweredStarts.{HasIntegerParameters}
 use Rattle.entry_sound.proofs.lowered.LoweredStarts.{lowered_starts}

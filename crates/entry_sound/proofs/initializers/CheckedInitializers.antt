@@ -31,7 +31,7 @@ use Rattle.cfg.specs.ModelKinds.{is_int_type}
 use Rattle.memory_model.specs.Memory.ScalarSizes.{class_bytes}
 use Rattle.memory_model.specs.Memory.Tags.{tag_of}
 use Rattle.store_sound.proofs.programs.ShapedBases.{all_at}
-use Rattle.store_monotone.specs.Layouts.LaidApart.{has_class_bytes, are_laid_apart}
+use Rattle.store_structs.specs.LaidApart.{has_class_bytes, are_laid_apart}
 use Rattle.store_monotone.specs.Tags.TypeTags.{scalar_tags, type_tags}
 use Rattle.store_monotone.proofs.tags.FoldedTags.{all_tags}
 use Rattle.store_monotone.proofs.tags.PartTags.{of_element}

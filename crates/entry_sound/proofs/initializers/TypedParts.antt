@@ -17,7 +17,7 @@ use Rattle.c_types_initializers.specs.Subobjects.{SubobjectView, subobject, is_b
 use Rattle.c_types_theorems.specs.Stores.PlacedStores.{within, part_of, IsPart}
 use Rattle.lower_preconditions.specs.Objects.PlainObjects.{has_length, is_plain_struct}
 use Rattle.store_sound.proofs.programs.ShapedBases.{all_at}
-use Rattle.store_monotone.specs.Layouts.LaidApart.{has_class_bytes, are_laid_apart}
+use Rattle.store_structs.specs.LaidApart.{has_class_bytes, are_laid_apart}
 use Rattle.analysis_preconditions.specs.StructNesting.OrderedStructs.{are_ordered}
 use Rattle.store_monotone.specs.Tags.TypeTags.{type_tags}
 use Rattle.store_monotone.proofs.tags.PartTags.{of_element, of_member}

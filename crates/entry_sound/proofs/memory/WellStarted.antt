@@ -17,7 +17,7 @@ use Rattle.cfg.specs.declared.programs.InitialObject.{InitialObject}
 use Rattle.cfg.specs.declared.programs.ParameterInput.{ParameterInput}
 use Rattle.store_monotone.specs.Store.StoreLaws.{AreBytes}
 use Rattle.store_sound.proofs.programs.ShapedBases.{all_at}
-use Rattle.system_monotone.specs.Systems.RegularPrograms.{is_byte}
+use Rattle.transfer_system.specs.System.RegularPrograms.{is_byte}
 use Rattle.entry_sound.proofs.memory.Positions.{same_statics}
 
 pub record WellStarted (flow : Flow) : Type 0 where

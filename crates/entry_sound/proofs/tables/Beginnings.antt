@@ -43,7 +43,7 @@ use Rattle.store_monotone.specs.Store.StoreLaws.{AreBytes}
 use Rattle.store_sound.specs.Concretization.ValueMeaning.{Naming}
 use Rattle.store_sound.specs.Programs.Premises.{HasPremises}
 use Rattle.store_sound.proofs.programs.ShapedBases.{all_at}
-use Rattle.system_monotone.specs.Systems.RegularPrograms.{is_byte, spells_bytes, begins_with_bytes, has_initial_bytes}
+use Rattle.transfer_system.specs.System.RegularPrograms.{is_byte, spells_bytes, begins_with_bytes, has_initial_bytes}
 use Rattle.entry_sound.specs.Cells.StaticObjects.{IsTarget, IsValueOf, AreStoresOf}
 use Rattle.entry_sound.specs.Starts.StartedRows.{HasStart, IsBegun, IsTaken, IsBeginning, IsStartOf}
 use Rattle.entry_sound.proofs.starts.StaticBytes.{bytes_are_stored}

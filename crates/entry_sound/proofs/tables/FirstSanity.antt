@@ -52,7 +52,7 @@ use Rattle.store_sound.proofs.store.TagPlaces.{is_tagged}
 use Rattle.store_sound.specs.Programs.Premises.{HasPremises}
 use Rattle.store_sound.proofs.programs.ShapedBases.{all_at}
 use Rattle.store_sound.proofs.programs.Sizes.{same_bytes}
-use Rattle.system_monotone.specs.Systems.RegularPrograms.{is_byte, spells_bytes, begins_with_bytes, has_initial_bytes}
+use Rattle.transfer_system.specs.System.RegularPrograms.{is_byte, spells_bytes, begins_with_bytes, has_initial_bytes}
 use Rattle.store_cells.specs.ScalarTypes.{kind_of}
 use Rattle.transfer_sound.specs.Values.SoundSteps.{AreShort}
 use Rattle.transfer_edges.specs.StartRows.{static_class}

@@ -11,7 +11,7 @@ use Rattle.cfg.specs.declared.programs.Flow.{Flow}
 use Rattle.lower_templates.specs.Views.ProgramViews.{flow_view}
 use Rattle.lower.specs.Inlining.Lowerings.{IsLowering}
 use Rattle.lower_preconditions.specs.Objects.PlainObjects.{has_plain_objects}
-use Rattle.system_monotone.specs.Systems.RegularPrograms.{is_regular}
+use Rattle.transfer_system.specs.System.RegularPrograms.{is_regular}
 use Rattle.entry_sound.specs.Tables.UnitStarts.{StartsAs}
 
 -- the unit that a tree is under a data model and a name of an entry, whose program it is, and whose objects are

@@ -7,7 +7,7 @@ use Rattle.interval_domain.specs.Intervals.IntervalLattice.{interval_lattice}
 use Rattle.interval_domain.specs.Intervals.IntervalNumbers.{interval_numbers}
 use Rattle.transfer_system.specs.System.FlowMachines.{has_start}
 use Rattle.row_bounds.specs.Edges.OwnLists.{ReachesTypes}
-use Rattle.system_monotone.specs.Systems.RegularPrograms.{is_regular}
+use Rattle.transfer_system.specs.System.RegularPrograms.{is_regular}
 use Rattle.transfer_sound.specs.InvariantMaps.CarriedMaps.{EntryStands}
 use Rattle.entry_sound.specs.Tables.UnitStarts.{StartsAs}
 

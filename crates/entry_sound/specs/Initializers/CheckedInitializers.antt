@@ -7,7 +7,7 @@ use Rattle.c_layout.specs.DeclarationTrees.{ExternalTree}
 use Rattle.c_layout.specs.Models.{is_model}
 use Rattle.c_types.specs.Units.UnitChecks.{check}
 use Rattle.lower_preconditions.specs.Objects.PlainObjects.{has_plain_objects}
-use Rattle.store_monotone.specs.Layouts.LaidApart.{are_laid_apart}
+use Rattle.store_structs.specs.LaidApart.{are_laid_apart}
 use Rattle.analysis_preconditions.specs.StructNesting.OrderedStructs.{are_ordered}
 use Rattle.entry_sound.specs.Tables.TypedInitializers.{HasTypedInitializers}
 

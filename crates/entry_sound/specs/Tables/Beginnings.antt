@@ -5,7 +5,7 @@ use Rattle.c_layout.specs.CheckedUnits.{UnitView}
 use Rattle.cfg.specs.WellFormed.{is_well_formed}
 use Rattle.cfg.specs.declared.programs.Flow.{Flow}
 use Rattle.store_sound.specs.Programs.Premises.{HasPremises}
-use Rattle.system_monotone.specs.Systems.RegularPrograms.{has_initial_bytes}
+use Rattle.transfer_system.specs.System.RegularPrograms.{has_initial_bytes}
 use Rattle.entry_sound.specs.Starts.StartedRows.{HasBeginnings}
 use Rattle.entry_sound.specs.Tables.UnitStarts.{StartsAs}
 

@@ -14,7 +14,7 @@ use Rattle.transfer_system.specs.BoundedRows.IntervalEnds.{interval_ends}
 use Rattle.transfer_system.specs.BoundedRows.OwnRows.{is_own_row}
 use Rattle.transfer_system.specs.System.BlockPasses.{edge_end}
 use Rattle.transfer_system.specs.System.FlowMachines.{edge_at, through, flow_machine}
-use Rattle.system_monotone.specs.Systems.RegularPrograms.{is_regular}
+use Rattle.transfer_system.specs.System.RegularPrograms.{is_regular}
 use Rattle.system_monotone.proofs.systems.WellFormed.{laid_out, all_named}
 use Rattle.system_monotone.proofs.systems.RegularPrograms.{regular_of}
 use Rattle.system_monotone.proofs.systems.RegularSystems.{regular_rising}

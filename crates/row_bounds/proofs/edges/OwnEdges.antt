@@ -24,7 +24,7 @@ use Rattle.transfer_system.specs.System.FlowMachines.{edge_at, through, flow_mac
 use Rattle.transfer_monotone.specs.Values.LaidOut.{IsLaidOut}
 use Rattle.transfer_monotone.proofs.values.TempPlaces.{row_length}
 use Rattle.transfer_monotone.specs.Edges.ProgramLaws.{IsNamed, AreRising}
-use Rattle.transfer_monotone.specs.Edges.SystemLaws.{IsNearList}
+use Rattle.transfer_system.specs.BoundedRows.NearLists.{IsNearList}
 use Rattle.transfer_monotone.proofs.edges.FittedOrder.{row_top}
 use Rattle.system_monotone.specs.Systems.ProgramRows.{IsProgramRow, AreCut}
 use Rattle.system_monotone.proofs.systems.ProgramRows.{leaves_program, fit_kept}

@@ -5,7 +5,7 @@ use Rattle.interval_domain.specs.Intervals.IntervalNumbers.{interval_numbers}
 use Rattle.interval_domain.specs.Intervals.Spans.{between_or_empty}
 use Rattle.transfer_system.specs.BoundedRows.FittedRows.{row_fit, cell_fit}
 use Rattle.transfer_system.specs.BoundedRows.OwnRows.{bases_below}
-use Rattle.transfer_monotone.specs.Edges.SystemLaws.{IsNearList}
+use Rattle.transfer_system.specs.BoundedRows.NearLists.{IsNearList}
 use Rattle.system_monotone.proofs.systems.RegularPrograms.{near_of}
 use Rattle.row_bounds.specs.Edges.ShortLists.{short_list, row_of, minus_one}
 

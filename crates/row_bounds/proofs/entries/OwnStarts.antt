@@ -31,7 +31,7 @@ use Rattle.transfer_system.specs.declared.bounded_rows.own_cells.Reach.{Reach}
 use Rattle.transfer_system.specs.System.FlowMachines.{has_start, known_start, start_of}
 use Rattle.transfer_monotone.specs.Values.LaidOut.{IsLaidOut}
 use Rattle.transfer_monotone.proofs.values.TempPlaces.{row_length}
-use Rattle.transfer_monotone.specs.Edges.SystemLaws.{IsNearList}
+use Rattle.transfer_system.specs.BoundedRows.NearLists.{IsNearList}
 use Rattle.transfer_monotone.proofs.edges.FittedOrder.{row_top}
 use Rattle.system_monotone.specs.Systems.ProgramRows.{IsProgramRow, AreCut}
 use Rattle.system_monotone.proofs.systems.ProgramRows.{fit_kept}
@@ -41,7 +41,7 @@ use Rattle.row_bounds.proofs.stores.Ranges.{FloorLaws}
 use Rattle.row_bounds.proofs.steps.Starts.{start_from}
 use Rattle.row_bounds.specs.Edges.OwnLists.{ReachesTypes}
 use Rattle.row_bounds.proofs.edges.OwnFloors.{least_low, all_cut}
-use Rattle.system_monotone.specs.Systems.RegularPrograms.{has_initial_bytes}
+use Rattle.transfer_system.specs.System.RegularPrograms.{has_initial_bytes}
 use Rattle.row_bounds.proofs.entries.EmptyProgram.{empty_under}
 use Rattle.row_bounds.proofs.entries.StartSteps.{IsKept, IsLeftKept, objects_kept}
 use Rattle.row_bounds.proofs.entries.Parameters.{parameters_kept}

@@ -15,7 +15,7 @@ use Rattle.value_domain.specs.Values.Cells.{cell_lattice}
 use Rattle.value_domain.specs.declared.values.row_cells.Cell.{Cell}
 use Rattle.transfer_system.specs.BoundedRows.IntervalEnds.{interval_ends}
 use Rattle.transfer_system.specs.System.FlowMachines.{has_start, known_start, flow_machine}
-use Rattle.system_monotone.specs.Systems.RegularPrograms.{is_regular}
+use Rattle.transfer_system.specs.System.RegularPrograms.{is_regular}
 use Rattle.system_monotone.proofs.systems.RegularPrograms.{Regular, regular_of}
 use Rattle.system_monotone.proofs.systems.WellFormed.{well_made}
 use Rattle.row_bounds.specs.Edges.OwnLists.{ReachesTypes}

@@ -45,8 +45,8 @@ use Rattle.transfer_monotone.specs.Edges.FilledRows.{AreFilled, IsLeftFilled}
 use Rattle.transfer_monotone.proofs.edges.FilledSteps.{store_fills, clear_fills, spell_fills}
 use Rattle.transfer_monotone.proofs.edges.MemorySteps.{left_of, row_near}
 use Rattle.transfer_monotone.proofs.edges.Operations.{spell_rises}
-use Rattle.system_monotone.specs.Systems.RegularPrograms.{is_byte}
-use Rattle.system_monotone.specs.Systems.RegularPrograms.{spells_bytes, begins_with_bytes}
+use Rattle.transfer_system.specs.System.RegularPrograms.{is_byte}
+use Rattle.transfer_system.specs.System.RegularPrograms.{spells_bytes, begins_with_bytes}
 use Rattle.row_bounds.proofs.entries.StaticValues.{static_own}
 
 are_bytes : (text : List ℕ) → list_all is_byte text ≡ true → AreBytes text

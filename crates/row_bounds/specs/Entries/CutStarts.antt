@@ -9,7 +9,7 @@ use Rattle.value_domain.specs.declared.values.row_cells.Cell.TheVariants.{Nothin
 use Rattle.transfer_edges.specs.StartRows.{start_row}
 use Rattle.transfer_system.specs.BoundedRows.OwnRows.{is_own_row}
 use Rattle.transfer_system.specs.System.FlowMachines.{has_start, known_start}
-use Rattle.system_monotone.specs.Systems.RegularPrograms.{has_scalars, has_apart_members, is_near_list, is_regular}
+use Rattle.transfer_system.specs.System.RegularPrograms.{has_scalars, has_apart_members, is_near_list, is_regular}
 
 -- -2^63, 0 and 2^64
 abbrev pub type_list : List ℤ

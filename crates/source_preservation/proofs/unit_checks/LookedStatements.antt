@@ -28,7 +28,8 @@ use Rattle.source_preservation.specs.WellTyped.MarkedStatements.{MarkedIf, Marke
 use Rattle.source_preservation.specs.Checks.LookedTypes.{is_kind, is_wider, is_scalar_type, is_integer}
 use Rattle.source_preservation.specs.Checks.LookedTests.{same_object}
 use Rattle.source_preservation.specs.Checks.LookedTerms.{is_marked_term, is_marked_place, is_marked_condition, side}
-use Rattle.source_preservation.specs.UnitChecks.LookedStatements.{is_marked_if, is_marked_step, is_of_kind, is_within, matches, selects_by, is_byte, are_bytes, is_marked_store, is_marked_return, is_marked_statement, are_marked_statements}
+use Rattle.c_layout.specs.ByteTexts.{is_byte, are_bytes}
+use Rattle.source_preservation.specs.UnitChecks.LookedStatements.{is_marked_if, is_marked_step, is_of_kind, is_within, matches, selects_by, is_marked_store, is_marked_return, is_marked_statement, are_marked_statements}
 use Rattle.source_preservation.proofs.checks.Truths.{never, is_false, both_true, both, three, four}
 use Rattle.source_preservation.proofs.checks.SameTypes.{kind_there, wider, scalar_type, integer}
 use Rattle.source_preservation.proofs.checks.DecidedTests.{object_is}

@@ -27,7 +27,8 @@ use Rattle.source_preservation.specs.ValueTyping.MarkOperations.{IsKind}
 use Rattle.source_preservation.specs.WellTyped.MarkedTerms.{IsScalarType}
 use Rattle.source_preservation.specs.WellTyped.MarkedStatements.{MarkedFunction, IsProperValue, IsProperStore, AreProperStores, MarkedStatic, MarkedLiteral, AreIntegers}
 use Rattle.source_preservation.specs.Checks.LookedTypes.{is_scalar_type}
-use Rattle.source_preservation.specs.UnitChecks.LookedStatements.{are_bytes, are_marked_statements}
+use Rattle.c_layout.specs.ByteTexts.{are_bytes}
+use Rattle.source_preservation.specs.UnitChecks.LookedStatements.{are_marked_statements}
 use Rattle.source_preservation.specs.UnitChecks.LookedUnits.{is_small, is_small_local, are_scalars, is_marked_function, is_proper_value, is_proper_store, is_marked_static, is_marked_literal, is_entered, are_marked_objects, has_entry}
 use Rattle.source_preservation.specs.UnitChecks.LookLaws.{LooksMark, LooksStand}
 use Rattle.source_preservation.proofs.checks.Truths.{never, there, both_true, both, three, five, all_at}

@@ -1,6 +1,7 @@
 -- Looks at statements: conditions and what switches select by, initializers, and values that are returned.
-use Rattle.std.specs.Prelude.{ℕ, Bool, true, false, not, ◌&&◌, nat_lt, nat_le, List, Option, Some, None}
+use Rattle.std.specs.Prelude.{Bool, true, false, not, ◌&&◌, nat_le, List, Option, Some, None}
 use Rattle.std.specs.List.{list_all}
+use Rattle.c_layout.specs.ByteTexts.{are_bytes}
 use Rattle.c_layout.specs.CheckedTrees as tree
 use Rattle.c_layout.specs.CheckedTrees.{TermTree, StatementTree, StatementTrees, StoreTree, StoreValue, StoreCopy, StoreText}
 use Rattle.c_layout.specs.CheckedUnits.{FunctionView, UnitView}
@@ -45,12 +46,6 @@ selects_by u e None = is_marked_term u true e && is_integer (term_type e)
 selects_by u e (Some o) = matches u o (side u e)
 
 -- ---- initializers
-
-abbrev pub is_byte : ℕ → Bool
-is_byte b = nat_lt b 256
-
-abbrev pub are_bytes : List ℕ → Bool
-are_bytes text = list_all is_byte text
 
 abbrev pub is_marked_store : UnitView → StoreTree → Bool
 is_marked_store u (StoreValue offset e) = is_marked_term u true e && (is_scalar_type u (term_type e) && nat_le offset (most_size u.model))

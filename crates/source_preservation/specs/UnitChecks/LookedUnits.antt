@@ -14,7 +14,8 @@ use Rattle.memory_model.specs.Effects.UnitStarts.{entry_parameters}
 use Rattle.semantics.specs.SourceMachine.Operations.{size_of}
 use Rattle.semantics.specs.SourceMachine.SourceStates.{function_at}
 use Rattle.source_preservation.specs.Checks.LookedTypes.{is_kind, is_scalar_type, is_such}
-use Rattle.source_preservation.specs.UnitChecks.LookedStatements.{are_bytes, are_marked_statements}
+use Rattle.c_layout.specs.ByteTexts.{are_bytes}
+use Rattle.source_preservation.specs.UnitChecks.LookedStatements.{are_marked_statements}
 
 -- ---- functions
 

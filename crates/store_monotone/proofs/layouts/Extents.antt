@@ -12,7 +12,7 @@ use Rattle.cfg.specs.BaseShapes.{ends_by}
 use Rattle.store_cells.specs.RowPositions.{capped}
 use Rattle.store_structs.specs.LeafCounts.{bytes_in}
 use Rattle.store_structs.specs.LeafNumbers.{Element, count_of, member_with, element_with, behind, at_element, field_at, found_at}
-use Rattle.store_monotone.specs.Layouts.LaidApart.{has_class_bytes, is_member_in, are_members_in}
+use Rattle.store_structs.specs.LaidApart.{has_class_bytes, is_member_in, are_members_in}
 
 -- leaves by number at an offset, up to a count: each is as wanted, its bytes lie among so many from the offset on, and no byte
 -- is of two of them

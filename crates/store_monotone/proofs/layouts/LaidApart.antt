@@ -17,7 +17,7 @@ use Rattle.store_monotone.proofs.shapes.LeafBytes.{Covers, same_bytes, leaf_step
 use Rattle.store_structs.specs.LeafNumbers.{folded_member, struct_leaf}
 use Rattle.store_structs.specs.PaddingWrites.{Padded, covered_by, covered_leaf, leaf_bytes}
 use Rattle.store_monotone.specs.Structs.SpreadStructs.{padded_in, IsSpread}
-use Rattle.store_monotone.specs.Layouts.LaidApart.{are_laid_apart}
+use Rattle.store_structs.specs.LaidApart.{are_laid_apart}
 use Rattle.store_monotone.proofs.layouts.Extents.{AreExtents}
 use Rattle.store_monotone.proofs.layouts.TypeExtents.{IsFolded, IsByte, folded_struct, struct_size}
 

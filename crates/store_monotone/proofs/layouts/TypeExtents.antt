@@ -17,7 +17,7 @@ use Rattle.store_cells.specs.RowPositions.{capped}
 use Rattle.store_structs.specs.LeafCounts.{bytes_in, plain_count, long_count, folded_count}
 use Rattle.store_structs.specs.LeafNumbers.{leaf_at, alone, count_of, element, element_with, behind, behind_arrays, behind_short, at_element, member_at, plain_unit, plain_leaf_by, plain_member, plain_leaf, long_leaf, folded_unit, folded_leaf_by, folded_member}
 use Rattle.store_monotone.proofs.shapes.LeafBytes.{Covers}
-use Rattle.store_monotone.specs.Layouts.LaidApart.{has_class_bytes, are_members_in, is_laid_apart, are_laid_apart}
+use Rattle.store_structs.specs.LaidApart.{has_class_bytes, are_members_in, is_laid_apart, are_laid_apart}
 use Rattle.store_monotone.proofs.layouts.Extents.{AreExtents, some_same, extents_as, no_extents, in_element, behind_as, array_extents, members_extents}
 
 -- ---- products in 64 bits

@@ -9,7 +9,7 @@ use Rattle.store_cells.specs.AccessWindows.{window_between}
 use Rattle.store_structs.specs.LeafNumbers.{member_at, struct_leaf}
 use Rattle.store_structs.specs.PaddingWrites.{leaf_bytes}
 use Rattle.store_monotone.specs.Structs.SpreadStructs.{padded_in, IsSpread}
-use Rattle.store_monotone.specs.Layouts.LaidApart.{are_laid_apart}
+use Rattle.store_structs.specs.LaidApart.{are_laid_apart}
 use Rattle.store_monotone.proofs.layouts.LaidApart.{apart_spread}
 
 abbrev member : Ty → ℕ → FieldView

@@ -15,7 +15,7 @@ use Rattle.memory_model.specs.Memory.Bytes.{Tag}
 use Rattle.memory_model.specs.Memory.ScalarSizes.{class_bytes}
 use Rattle.memory_model.specs.Memory.Tags.{tag_at}
 use Rattle.store_structs.specs.LeafCounts.{bytes_in}
-use Rattle.store_monotone.specs.Layouts.LaidApart.{has_class_bytes, is_member_in, are_members_in, are_laid_apart}
+use Rattle.store_structs.specs.LaidApart.{has_class_bytes, is_member_in, are_members_in, are_laid_apart}
 use Rattle.store_monotone.specs.Tags.TypeTags.{shifted, repeated_tags, member_tags, scalar_tags, tags_with, struct_tags, type_tags}
 use Rattle.store_monotone.proofs.tags.RepeatedTags.{Ends, one_element, repeated_same}
 use Rattle.store_monotone.proofs.tags.LeafTags.{AreTags, tags_as, tags_behind, tags_joined, tags_repeated}

@@ -11,7 +11,7 @@ use Rattle.c_layout.specs.Types.{Ty, Int, Pointer, Array, Struct, Void}
 use Rattle.memory_model.specs.Memory.Bytes.{Tag}
 use Rattle.memory_model.specs.Memory.Tags.{or_tag}
 use Rattle.store_structs.specs.LeafCounts.{bytes_in}
-use Rattle.store_monotone.specs.Layouts.LaidApart.{has_class_bytes, is_member_in, are_members_in, are_laid_apart}
+use Rattle.store_structs.specs.LaidApart.{has_class_bytes, is_member_in, are_members_in, are_laid_apart}
 use Rattle.analysis_preconditions.specs.StructNesting.OrderedStructs.{is_made_of, are_made_of, nests_within, are_below, are_ordered}
 use Rattle.store_monotone.specs.Tags.TypeTags.{shifted, repeated_tags, member_tags, tags_with, struct_tags, type_tags}
 use Rattle.store_monotone.specs.Tags.PartTags.{IsMemberOf}

@@ -14,7 +14,7 @@ use Rattle.cfg.specs.ModelKinds as flow
 use Rattle.memory_model.specs.Memory.Bytes.{Tag}
 use Rattle.memory_model.specs.Memory.ScalarSizes.{class_bytes}
 use Rattle.store_structs.specs.LeafCounts.{bytes_in}
-use Rattle.store_monotone.specs.Layouts.LaidApart.{has_class_bytes, is_member_in, are_members_in, are_laid_apart}
+use Rattle.store_structs.specs.LaidApart.{has_class_bytes, is_member_in, are_members_in, are_laid_apart}
 use Rattle.store_monotone.specs.Tags.TypeTags.{shifted, repeated_tags, member_tags, scalar_tags, tags_with, struct_tags}
 use Rattle.store_monotone.proofs.tags.RepeatedTags.{Ends}
 use Rattle.store_monotone.proofs.tags.PlacedTags.{ArePlaced, placed_as, placed_joined, placed_behind, placed_repeated, leaf_placed}

@@ -19,7 +19,7 @@ use Rattle.memory_model.specs.Memory.Tags.{tag_of, or_tag}
 use Rattle.store_cells.specs.ScalarTypes as store
 use Rattle.store_monotone.proofs.shapes.LeafBytes.{same_bytes}
 use Rattle.store_structs.specs.LeafCounts.{bytes_in}
-use Rattle.store_monotone.specs.Layouts.LaidApart.{has_class_bytes, is_member_in, are_members_in, is_laid_apart, are_laid_apart}
+use Rattle.store_structs.specs.LaidApart.{has_class_bytes, is_member_in, are_members_in, is_laid_apart, are_laid_apart}
 use Rattle.store_monotone.specs.Tags.TypeTags.{shifted, repeated_tags, member_tags, scalar_tags, tags_with, struct_tags}
 use Rattle.store_monotone.proofs.tags.RepeatedTags.{Ends, shifted_ends, repeated_same, repeated_ends, one_element, repeated_twice}
 

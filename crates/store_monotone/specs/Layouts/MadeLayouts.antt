@@ -6,7 +6,7 @@ use Rattle.c_layout.specs.Layout.{is_complete}
 use Rattle.c_layout.specs.StructLayouts.{Partial, no_members, added, finished}
 use Rattle.c_layout.specs.StructViews.{StructView}
 use Rattle.c_layout.specs.Types.{Ty}
-use Rattle.store_monotone.specs.Layouts.LaidApart.{has_class_bytes}
+use Rattle.store_structs.specs.LaidApart.{has_class_bytes}
 
 -- a member that is declared: its name and its type
 abbrev pub Declared : Type 0

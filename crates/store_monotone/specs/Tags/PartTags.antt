@@ -5,7 +5,7 @@ use Rattle.c_layout.specs.Layout.{size_of_type}
 use Rattle.c_layout.specs.Models.{is_model}
 use Rattle.c_layout.specs.StructViews.{FieldView, StructView}
 use Rattle.c_layout.specs.Types.{Ty, Array, Struct}
-use Rattle.store_monotone.specs.Layouts.LaidApart.{has_class_bytes, are_laid_apart}
+use Rattle.store_structs.specs.LaidApart.{has_class_bytes, are_laid_apart}
 use Rattle.analysis_preconditions.specs.StructNesting.OrderedStructs.{are_ordered}
 use Rattle.store_monotone.specs.Tags.TypeTags.{type_tags}
 

@@ -11,7 +11,7 @@ use Rattle.c_layout.specs.Types.{Ty, Int, Pointer, Array, Struct, Void}
 use Rattle.memory_model.specs.Memory.Bytes.{Tag}
 use Rattle.memory_model.specs.Memory.ScalarSizes.{class_bytes}
 use Rattle.memory_model.specs.Memory.Tags.{tag_of, or_tag, tag_at}
-use Rattle.store_monotone.specs.Layouts.LaidApart.{has_class_bytes, are_laid_apart}
+use Rattle.store_structs.specs.LaidApart.{has_class_bytes, are_laid_apart}
 use Rattle.analysis_preconditions.specs.StructNesting.OrderedStructs.{is_made_of, nests_within, are_ordered}
 
 -- the tags behind an offset

@@ -5,7 +5,7 @@ ghost use Rattle.c_layout.specs.Models.{is_model};
 ghost use Rattle.c_layout.specs.StructViews.{StructView};
 ghost use Rattle.c_layout.specs.declared.data_model.Model.{Model};
 ghost use Rattle.store_monotone.specs.Structs.SpreadStructs.{IsSpread};
-ghost use Rattle.store_monotone.specs.Layouts.LaidApart.{is_laid_apart, are_laid_apart};
+ghost use Rattle.store_structs.specs.LaidApart.{is_laid_apart, are_laid_apart};
 ghost use Rattle.store_monotone.specs.Layouts.MadeLayouts.{Declared, layout_of, are_declarable};
 
 /// Under a data model, of structs whose members stand one behind the other within at most 2^30 bytes, no byte is of two

@@ -19,7 +19,7 @@ use Rattle.store_cells.specs.RowPositions.{capped}
 use Rattle.store_structs.specs.LeafCounts.{bytes_in, plain_count, folded_count}
 use Rattle.store_structs.specs.LeafCounts as counts
 use Rattle.store_structs.specs.LeafNumbers.{leaf_at, alone, element, element_with, behind, behind_short, at_element, member_at, plain_leaf_by, plain_member, plain_leaf, long_leaf, folded_unit, folded_leaf_by, folded_member}
-use Rattle.store_monotone.specs.Layouts.LaidApart.{has_class_bytes}
+use Rattle.store_structs.specs.LaidApart.{has_class_bytes}
 use Rattle.store_monotone.proofs.layouts.Extents.{in_element, behind_as}
 use Rattle.analysis_preconditions.specs.StructNesting.OrderedStructs.{is_made_of, nests_within}
 use Rattle.struct_copies_sound.proofs.ordered_structs.RepeatedLeaves.{AreLeaves, leaves_as, no_leaves, array_leaves, in_groups}

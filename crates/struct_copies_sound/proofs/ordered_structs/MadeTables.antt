@@ -9,7 +9,7 @@ use Rattle.c_layout.specs.Layout.{most_bytes, round_up, size_of_type, align_of_t
 use Rattle.c_layout.specs.StructLayouts.{Partial, no_members, added, finished}
 use Rattle.c_layout.specs.StructViews.{FieldView, StructView, no_struct, struct_at}
 use Rattle.c_layout.specs.Types.{Ty, Int, Pointer, Array, Struct, Void}
-use Rattle.store_monotone.specs.Layouts.LaidApart.{has_class_bytes}
+use Rattle.store_structs.specs.LaidApart.{has_class_bytes}
 use Rattle.store_monotone.specs.Layouts.MadeLayouts.{Declared, all_added, layout_of, is_declarable, are_declarable}
 use Rattle.store_monotone.proofs.layouts.Extents.{some_same, none_some}
 use Rattle.analysis_preconditions.specs.StructNesting.OrderedStructs.{is_made_of, are_made_of, nests_within, are_ordered}

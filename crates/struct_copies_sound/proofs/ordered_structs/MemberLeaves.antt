@@ -15,7 +15,7 @@ use Rattle.cfg.specs.BaseShapes.{ends_by}
 use Rattle.store_cells.specs.RowPositions.{capped}
 use Rattle.store_structs.specs.LeafCounts.{bytes_in}
 use Rattle.store_structs.specs.LeafNumbers.{count_of, member_with, at_element, found_at}
-use Rattle.store_monotone.specs.Layouts.LaidApart.{has_class_bytes, is_member_in, are_members_in}
+use Rattle.store_structs.specs.LaidApart.{has_class_bytes, is_member_in, are_members_in}
 use Rattle.store_monotone.proofs.layouts.Extents.{member_leaf, all_members_as}
 use Rattle.struct_copies_sound.proofs.ordered_structs.RepeatedLeaves.{AreLeaves, left_of, right_of}
 

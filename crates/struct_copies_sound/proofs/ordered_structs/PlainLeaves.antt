@@ -18,7 +18,7 @@ use Rattle.cfg.specs.ModelKinds.{class_bytes}
 use Rattle.cfg.specs.StructCounts.{leaves_of_fields, plain_leaves_of_fields, is_counted, are_counted}
 use Rattle.store_structs.specs.LeafCounts.{bytes_in, plain_count}
 use Rattle.store_structs.specs.LeafNumbers.{leaf_at, element_with, behind_arrays, member_at, plain_unit, plain_leaf_by, plain_member}
-use Rattle.store_monotone.specs.Layouts.LaidApart.{has_class_bytes, are_members_in, is_laid_apart, are_laid_apart}
+use Rattle.store_structs.specs.LaidApart.{has_class_bytes, are_members_in, is_laid_apart, are_laid_apart}
 use Rattle.store_monotone.proofs.layouts.Extents.{in_element, behind_as}
 use Rattle.analysis_preconditions.specs.StructNesting.OrderedStructs.{is_made_of, nests_within}
 use Rattle.struct_copies_sound.proofs.ordered_structs.RepeatedLeaves.{AreLeaves, leaves_as, no_leaves, array_leaves, in_groups}

@@ -5,7 +5,7 @@ use Rattle.c_layout.specs.Models.{lp64}
 use Rattle.c_layout.specs.StructViews.{FieldView, StructView}
 use Rattle.c_layout.specs.Types.{Ty, Int, Pointer, Array, Struct, Void}
 use Rattle.cfg.specs.StructCounts.{are_counted}
-use Rattle.store_monotone.specs.Layouts.LaidApart.{are_laid_apart}
+use Rattle.store_structs.specs.LaidApart.{are_laid_apart}
 use Rattle.struct_copies_sound.specs.Structs.LostLeaves as lost
 use Rattle.struct_copies_sound.specs.OrderedStructs.MadeTables.{Declare, Complete, all_stepped}
 use Rattle.analysis_preconditions.specs.StructNesting.OrderedStructs.{are_ordered}

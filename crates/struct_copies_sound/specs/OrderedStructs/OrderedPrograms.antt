@@ -7,7 +7,7 @@ use Rattle.c_layout.specs.declared.data_model.Model.{Model}
 use Rattle.cfg.specs.StructCounts.{are_counted}
 use Rattle.cfg.specs.WellFormed.{is_well_formed}
 use Rattle.cfg.specs.declared.programs.Flow.{Flow}
-use Rattle.store_monotone.specs.Layouts.LaidApart.{are_laid_apart}
+use Rattle.store_structs.specs.LaidApart.{are_laid_apart}
 use Rattle.struct_copies_sound.specs.Structs.StructTables.{IsNumbered, HasStructs}
 use Rattle.analysis_preconditions.specs.StructNesting.OrderedStructs.{are_ordered}
 

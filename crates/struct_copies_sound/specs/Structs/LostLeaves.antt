@@ -9,7 +9,7 @@ use Rattle.c_layout.specs.Types.{Ty, Int, Struct}
 use Rattle.c_layout.specs.declared.leaf_lists.Class.TheVariants as class
 use Rattle.c_layout.specs.declared.leaf_lists.Leaf.{Leaf}
 use Rattle.cfg.specs.StructCounts.{are_counted}
-use Rattle.store_monotone.specs.Layouts.LaidApart.{are_laid_apart}
+use Rattle.store_structs.specs.LaidApart.{are_laid_apart}
 use Rattle.store_structs.specs.LeafNumbers.{struct_leaf}
 
 abbrev member : Ty → ℕ → FieldView

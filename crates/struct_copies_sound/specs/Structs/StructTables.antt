@@ -9,7 +9,7 @@ use Rattle.c_layout.specs.declared.leaf_lists.Leaf.{Leaf}
 use Rattle.c_layout.specs.declared.shapes.BaseInfo.{BaseInfo}
 use Rattle.cfg.specs.WellFormed.{is_well_formed}
 use Rattle.cfg.specs.declared.programs.Flow.{Flow}
-use Rattle.store_monotone.specs.Layouts.LaidApart.{are_laid_apart}
+use Rattle.store_structs.specs.LaidApart.{are_laid_apart}
 use Rattle.store_structs.specs.LeafNumbers.{struct_leaf}
 use Rattle.struct_copies_sound.specs.Leaves.StructLeaves.{IsFew, IsStruct}
 

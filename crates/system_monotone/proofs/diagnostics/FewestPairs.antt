@@ -28,7 +28,7 @@ use Rattle.transfer_monotone.specs.Values.RisingRows.{LeftRise}
 use Rattle.transfer_monotone.specs.Values.LaidOut.{IsLaidOut}
 use Rattle.transfer_monotone.specs.Values.ViolationsBelow.{ViolationsBelow}
 use Rattle.transfer_monotone.specs.Edges.ProgramLaws.{HasBytes, IsNamed, IsRising, AreRising}
-use Rattle.transfer_monotone.specs.Edges.SystemLaws.{IsNearList}
+use Rattle.transfer_system.specs.BoundedRows.NearLists.{IsNearList}
 use Rattle.transfer_monotone.proofs.edges.Operations.{operate_rises, operation_more}
 use Rattle.transfer_monotone.proofs.edges.Systems.{own_rise}
 

@@ -12,9 +12,9 @@ use Rattle.transfer_system.specs.BoundedRows.IntervalEnds.{interval_ends}
 use Rattle.transfer_system.specs.BoundedRows.OwnRows.{program_bases}
 use Rattle.diagnose.specs.Diagnostics.AdmittedRules.{map_pairs}
 use Rattle.transfer_monotone.specs.Edges.ProgramLaws.{AreRising}
-use Rattle.transfer_monotone.specs.Edges.SystemLaws.{IsNearList}
+use Rattle.transfer_system.specs.BoundedRows.NearLists.{IsNearList}
 use Rattle.system_monotone.specs.Systems.Texts.{HasScalars}
-use Rattle.system_monotone.specs.Systems.RegularPrograms.{is_regular}
+use Rattle.transfer_system.specs.System.RegularPrograms.{is_regular}
 use Rattle.system_monotone.proofs.systems.WellFormed.{laid_out, all_named}
 use Rattle.system_monotone.proofs.systems.RegularSystems.{regular_rising}
 use Rattle.system_monotone.proofs.systems.RegularPrograms.{regular_of}

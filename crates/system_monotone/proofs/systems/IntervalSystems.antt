@@ -12,7 +12,7 @@ use Rattle.transfer_system.specs.BoundedRows.IntervalEnds.{interval_ends}
 use Rattle.transfer_system.specs.BoundedRows.OwnRows.{program_bases}
 use Rattle.transfer_system.specs.System.FlowMachines.{flow_machine}
 use Rattle.transfer_monotone.specs.Edges.ProgramLaws.{AreRising}
-use Rattle.transfer_monotone.specs.Edges.SystemLaws.{IsNearList}
+use Rattle.transfer_system.specs.BoundedRows.NearLists.{IsNearList}
 use Rattle.transfer_monotone.proofs.edges.Systems.{system_monotone}
 use Rattle.system_monotone.specs.Systems.Texts.{HasScalars}
 use Rattle.system_monotone.specs.Systems.CopiedStructs.{CopiesSpread}

@@ -20,7 +20,7 @@ use Rattle.interval_domain.specs.Intervals.IntervalLattice.{interval_lattice}
 use Rattle.interval_domain.specs.Intervals.IntervalNumbers.{interval_numbers}
 use Rattle.value_domain.specs.Strings.FirstZeros.{the_end}
 use Rattle.domain_theorems.proofs.values.Flags.{or_left, or_right}
-use Rattle.transfer_monotone.specs.Edges.SystemLaws.{is_near_number, IsNearList}
+use Rattle.transfer_system.specs.BoundedRows.NearLists.{is_near_number, IsNearList}
 
 abbrev IsNear : ℤ → Type 0
 IsNear z = (negsuc (2 ^ 64 - 1) ≤ℤ z) × (z ≤ℤ pos (2 ^ 64))

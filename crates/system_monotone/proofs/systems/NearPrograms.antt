@@ -26,7 +26,7 @@ use Rattle.cfg.specs.declared.machine_instructions.Operation.{Operation}
 use Rattle.cfg.specs.declared.machine_instructions.Operation.TheVariants as op
 use Rattle.interval_domain.specs.Intervals.IntervalLattice.{interval_lattice}
 use Rattle.interval_domain.specs.Intervals.IntervalNumbers.{interval_numbers}
-use Rattle.transfer_monotone.specs.Edges.SystemLaws.{is_near_number, IsNearList}
+use Rattle.transfer_system.specs.BoundedRows.NearLists.{is_near_number, IsNearList}
 use Rattle.system_monotone.specs.Systems.NearNumbers.{HasNearMembers}
 use Rattle.system_monotone.proofs.systems.WellFormed.{well_made, blocks_fit, has_model}
 use Rattle.system_monotone.proofs.systems.NearLists.{thresholds_near}

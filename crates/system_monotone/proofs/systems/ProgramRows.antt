@@ -35,7 +35,7 @@ use Rattle.transfer_monotone.specs.Values.LaidOut.{IsLaidOut}
 use Rattle.transfer_monotone.proofs.values.TempPlaces.{row_length}
 use Rattle.transfer_monotone.specs.Edges.FilledRows.{IsFilled, AreFilled, IsLeftFilled}
 use Rattle.transfer_monotone.specs.Edges.ProgramLaws.{IsNamed, AreRising}
-use Rattle.transfer_monotone.specs.Edges.SystemLaws.{IsNearList}
+use Rattle.transfer_system.specs.BoundedRows.NearLists.{IsNearList}
 use Rattle.transfer_monotone.proofs.edges.FilledProgram.{block_fills, edge_fills}
 use Rattle.transfer_monotone.proofs.edges.FittedOrder.{top_cell, top_cells, cells_filled, row_top}
 use Rattle.transfer_monotone.proofs.edges.Systems.{own_rise, end_rises}

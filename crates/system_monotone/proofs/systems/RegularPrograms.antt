@@ -25,9 +25,9 @@ use Rattle.value_domain.specs.Strings.FirstZeros.{the_end}
 use Rattle.store_monotone.specs.Store.StoreLaws.{AreBytes}
 use Rattle.transfer_system.specs.BoundedRows.FittedRows.{list_ends}
 use Rattle.transfer_monotone.specs.Edges.ProgramLaws.{HasBytes, HasLeaf, NamesLeaf, TestsLeaves, MatchesLeaf, FollowsLeaves}
-use Rattle.transfer_monotone.specs.Edges.SystemLaws.{is_near_number, IsNearList}
+use Rattle.transfer_system.specs.BoundedRows.NearLists.{is_near_number, IsNearList}
 use Rattle.system_monotone.specs.Systems.Texts.{HasScalars}
-use Rattle.system_monotone.specs.Systems.RegularPrograms.{is_byte, has_bytes, has_leaf, names_leaf, tests_leaves, matches_leaf, follows_leaves, has_scalars, has_initial_bytes, has_apart_members, first_number, last_number, is_near_list, is_regular}
+use Rattle.transfer_system.specs.System.RegularPrograms.{is_byte, has_bytes, has_leaf, names_leaf, tests_leaves, matches_leaf, follows_leaves, has_scalars, has_initial_bytes, has_apart_members, first_number, last_number, is_near_list, is_regular}
 use Rattle.system_monotone.proofs.systems.NearLists.{round_stays}
 use Rattle.system_monotone.proofs.systems.WellFormed.{all_at}
 

@@ -17,7 +17,7 @@ use Rattle.system_monotone.specs.StructCopies.SpreadStructs.{AreSpread}
 use Rattle.transfer_system.specs.BoundedRows.OwnRows.{program_bases}
 use Rattle.transfer_system.specs.System.FlowMachines.{flow_machine}
 use Rattle.transfer_monotone.specs.Edges.ProgramLaws.{AreRising}
-use Rattle.system_monotone.specs.Systems.RegularPrograms.{has_apart_members, is_regular}
+use Rattle.transfer_system.specs.System.RegularPrograms.{has_apart_members, is_regular}
 use Rattle.system_monotone.proofs.systems.WellFormed.{well_made, has_model, laid_out}
 use Rattle.system_monotone.proofs.systems.Sites.{all_sites}
 use Rattle.system_monotone.proofs.systems.AllCalls.{all_rise}

@@ -8,9 +8,9 @@ ghost use Rattle.interval_domain.specs.Intervals.IntervalLattice.{interval_latti
 ghost use Rattle.interval_domain.specs.Intervals.IntervalNumbers.{interval_numbers};
 ghost use Rattle.transfer_system.specs.BoundedRows.OwnRows.{program_bases};
 ghost use Rattle.transfer_monotone.specs.Edges.ProgramLaws.{AreRising};
-ghost use Rattle.transfer_monotone.specs.Edges.SystemLaws.{IsNearList};
+ghost use Rattle.transfer_system.specs.BoundedRows.NearLists.{IsNearList};
 ghost use Rattle.system_monotone.specs.Systems.Texts.{HasScalars};
-ghost use Rattle.system_monotone.specs.Systems.RegularPrograms.{is_regular};
+ghost use Rattle.transfer_system.specs.System.RegularPrograms.{is_regular};
 ghost use Rattle.system_monotone.specs.Diagnostics.LeastMaps.{AdmitsLeast};
 
 /// What the least inductive map of intervals of a well-formed program admits, each inductive map admits: of a program whose

@@ -20,12 +20,12 @@ ghost use Rattle.transfer_system.specs.System.BlockPasses.{edge_end};
 ghost use Rattle.transfer_system.specs.System.FlowMachines.{flow_machine};
 ghost use Rattle.transfer_monotone.specs.Values.LaidOut.{IsLaidOut};
 ghost use Rattle.transfer_monotone.specs.Edges.ProgramLaws.{IsNamed, AreRising};
-ghost use Rattle.transfer_monotone.specs.Edges.SystemLaws.{IsNearList};
+ghost use Rattle.transfer_system.specs.BoundedRows.NearLists.{IsNearList};
 ghost use Rattle.system_monotone.specs.Systems.Texts.{HasScalars};
 ghost use Rattle.system_monotone.specs.Systems.NearNumbers.{HasNearMembers};
 ghost use Rattle.system_monotone.specs.Systems.CopiedStructs.{CopiesSpread};
 ghost use Rattle.system_monotone.specs.StructCopies.SpreadStructs.{AreSpread};
-ghost use Rattle.system_monotone.specs.Systems.RegularPrograms.{has_apart_members, is_regular};
+ghost use Rattle.transfer_system.specs.System.RegularPrograms.{has_apart_members, is_regular};
 ghost use Rattle.system_monotone.specs.Systems.ProgramRows.{IsProgramRow, AreCut};
 
 use transfer_system::bounded_rows::Bounded;

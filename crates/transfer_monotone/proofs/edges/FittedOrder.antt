@@ -48,7 +48,7 @@ use Rattle.transfer_system.specs.BoundedRows.FittedRows.{list_ends, count_ends, 
 use Rattle.transfer_monotone.proofs.values.OwnBases.{words_less}
 use Rattle.transfer_monotone.proofs.values.IntegerChecks.{some_more}
 use Rattle.transfer_monotone.specs.Edges.FilledRows.{IsFilled, AreFilled}
-use Rattle.transfer_monotone.specs.Edges.SystemLaws.{is_near_number, IsNearList}
+use Rattle.transfer_system.specs.BoundedRows.NearLists.{is_near_number, IsNearList}
 
 flag_top : (p : Bool) → flag_leq p true ≡ true
 flag_top true = refl

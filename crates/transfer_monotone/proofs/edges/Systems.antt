@@ -28,7 +28,7 @@ use Rattle.transfer_monotone.specs.Values.StepLaws.{FlowRows, Rises}
 use Rattle.transfer_monotone.proofs.values.TempPlaces.{row_length}
 use Rattle.transfer_monotone.specs.Edges.ProgramLaws.{HasBytes, IsNamed, IsRising, AreRising}
 use Rattle.transfer_monotone.specs.Edges.FilledRows.{AreFilled, IsLeftFilled, LeavesFilled}
-use Rattle.transfer_monotone.specs.Edges.SystemLaws.{IsNearList}
+use Rattle.transfer_system.specs.BoundedRows.NearLists.{IsNearList}
 use Rattle.transfer_monotone.proofs.edges.Operations.{operate_rises}
 use Rattle.transfer_monotone.proofs.edges.Edges.{edge_rises}
 use Rattle.transfer_monotone.proofs.edges.FilledProgram.{block_fills, edge_fills}

@@ -11,7 +11,7 @@ ghost use Rattle.transfer_system.specs.System.FlowMachines.{flow_machine};
 ghost use Rattle.transfer_monotone.specs.Values.LaidOut.{IsLaidOut};
 ghost use Rattle.transfer_monotone.specs.Edges.MemoryLaws.{MemoryStepsRise, MemoryChecksRise};
 ghost use Rattle.transfer_monotone.specs.Edges.ProgramLaws.{IsNamed, AreRising, StepsRise};
-ghost use Rattle.transfer_monotone.specs.Edges.SystemLaws.{IsNearList};
+ghost use Rattle.transfer_system.specs.BoundedRows.NearLists.{IsNearList};
 
 use cc_base::IntDomain;
 use transfer_system::bounded_rows::Bounded;

@@ -19,7 +19,7 @@ use Rattle.transfer_system.specs.System.BlockPasses.{edge_end}
 use Rattle.transfer_system.specs.System.FlowMachines.{edge_at, start_of, through, flow_machine}
 use Rattle.transfer_monotone.specs.Values.LaidOut.{IsLaidOut}
 use Rattle.transfer_monotone.specs.Edges.ProgramLaws.{IsNamed, AreRising}
-use Rattle.transfer_monotone.specs.Edges.SystemLaws.{IsNearList}
+use Rattle.transfer_system.specs.BoundedRows.NearLists.{IsNearList}
 use Rattle.transfer_monotone.proofs.edges.Systems.{own_rise}
 use Rattle.row_bounds.specs.Edges.OwnLists.{ReachesTypes}
 use Rattle.row_bounds.proofs.edges.OwnEdges.{fit_nothing}

@@ -18,7 +18,7 @@ use Rattle.transfer_system.specs.BoundedRows.OwnRows.{program_bases}
 use Rattle.transfer_system.specs.System.FlowMachines.{start_of, flow_machine}
 use Rattle.transfer_monotone.specs.Values.LaidOut.{IsLaidOut}
 use Rattle.transfer_monotone.specs.Edges.ProgramLaws.{IsNamed, AreRising}
-use Rattle.transfer_monotone.specs.Edges.SystemLaws.{IsNearList}
+use Rattle.transfer_system.specs.BoundedRows.NearLists.{IsNearList}
 use Rattle.row_bounds.specs.Edges.OwnLists.{ReachesTypes}
 use Rattle.transfer_sound.specs.Values.SoundSteps.{StandsBehind}
 use Rattle.transfer_sound.specs.Induction.Covering.{Begins, Carries}

@@ -50,7 +50,7 @@ use Rattle.lower_preconditions.specs.Units.RegularStatements.{are_regular_statem
 use Rattle.simulation_layout.specs.FunctionChecks.LabelsOnce.{FunctionsAreLabelled}
 use Rattle.simulation_layout.specs.FunctionChecks.UnitParts.{FunctionsAreRegular}
 use Rattle.semantics.specs.CfgMachine.FlowStarts.{start_names}
-use Rattle.store_monotone.specs.Layouts.LaidApart.{has_class_bytes}
+use Rattle.store_structs.specs.LaidApart.{has_class_bytes}
 use Rattle.simulation_layout.specs.Copies.LowTemporaries.{IsActLow}
 use Rattle.simulation_layout.specs.Temporaries.LowPrograms.{WellFormedProgramsAreLow}
 use Rattle.simulation_layout.specs.Normalized.SettledRuns.{LabelsStandOnce}

@@ -11,7 +11,7 @@ use Rattle.typed_programs.specs.PlainUnits.ShortArrays.{has_short_arrays}
 use Rattle.lower_objects.specs.Shapes.FirstZeros.{object_shape}
 use Rattle.typed_programs.specs.PlainWorklists.LeadingPieces.{is_of_object}
 use Rattle.lower_templates.specs.Worklist.Pieces.{NameView}
-use Rattle.store_monotone.specs.Layouts.LaidApart.{has_class_bytes}
+use Rattle.store_structs.specs.LaidApart.{has_class_bytes}
 use Rattle.typed_lowering.specs.Conversions.TypedPieces.{name_type}
 
 -- a type whose scalars are those of the data model, and whose arrays have few elements

@@ -9,7 +9,7 @@ use Rattle.c_layout.specs.declared.checked_tree.checked_units.StaticValue.{Stati
 use Rattle.c_layout.specs.declared.checked_tree.checked_units.StaticValue.TheVariants as static_value
 use Rattle.lower_objects.specs.Counts.SharedObjects.{literal_type}
 use Rattle.memory_model.specs.Effects.UnitStarts.{base_instance}
-use Rattle.store_monotone.specs.Layouts.LaidApart.{has_class_bytes}
+use Rattle.store_structs.specs.LaidApart.{has_class_bytes}
 use Rattle.typed_programs.specs.Types.TypeBytes.{ScalarByte, scalar_byte, struct_byte}
 use Rattle.typed_programs.specs.Types.TypedPrograms.{first_types}
 

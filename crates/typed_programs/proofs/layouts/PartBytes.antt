@@ -8,7 +8,7 @@ use Rattle.c_layout.specs.Layout.{size_of_type}
 use Rattle.c_layout.specs.StructViews.{FieldView, StructView, no_struct, struct_at}
 use Rattle.c_layout.specs.Types.{Ty, Int, Pointer, Array, Struct, Void}
 use Rattle.store_structs.specs.LeafCounts.{bytes_in}
-use Rattle.store_monotone.specs.Layouts.LaidApart.{is_member_in, are_members_in}
+use Rattle.store_structs.specs.LaidApart.{is_member_in, are_members_in}
 use Rattle.store_monotone.proofs.tags.TypeTags.{member_is, laid_out}
 use Rattle.analysis_preconditions.specs.StructNesting.OrderedStructs.{is_made_of, are_made_of, nests_within}
 use Rattle.typed_programs.specs.Types.TypeBytes.{behind, member_bytes, bytes_with, struct_bytes, type_bytes}

@@ -7,7 +7,7 @@ use Rattle.c_layout.specs.Layout.{size_of_type}
 use Rattle.c_layout.specs.StructViews.{FieldView, StructView, struct_at}
 use Rattle.c_layout.specs.Types.{Ty, Int, Pointer, Array, Struct, Void}
 use Rattle.store_structs.specs.LeafCounts.{bytes_in}
-use Rattle.store_monotone.specs.Layouts.LaidApart.{is_member_in, are_members_in, are_laid_apart}
+use Rattle.store_structs.specs.LaidApart.{is_member_in, are_members_in, are_laid_apart}
 use Rattle.store_monotone.proofs.tags.TypeTags.{member_is, laid_out}
 use Rattle.typed_programs.specs.Types.TypeBytes.{member_bytes, bytes_with, struct_bytes, type_bytes}
 use Rattle.typed_programs.proofs.layouts.RepeatedBytes.{Ends, behind_ends, repeated_ends}

@@ -10,7 +10,7 @@ use Rattle.c_layout.specs.StructViews.{FieldView, StructView, struct_at}
 use Rattle.c_layout.specs.Types.{Ty, Int, Pointer, Array, Struct, Void}
 use Rattle.cfg.specs.ModelKinds as flow
 use Rattle.store_structs.specs.LeafCounts.{bytes_in}
-use Rattle.store_monotone.specs.Layouts.LaidApart.{has_class_bytes, is_member_in, are_members_in}
+use Rattle.store_structs.specs.LaidApart.{has_class_bytes, is_member_in, are_members_in}
 use Rattle.store_monotone.proofs.tags.TypeTags.{model_bytes, some_bytes, full_size, long_size, short_size, member_is, laid_out}
 use Rattle.typed_programs.specs.Types.StandingTypes.{AreLaidOut}
 

@@ -14,7 +14,7 @@ use Rattle.cfg.specs.ModelKinds as flow
 use Rattle.typed_programs.specs.PlainUnits.ShortArrays.{are_short, have_short_arrays, has_short_members, has_short_arrays_within, has_short_arrays}
 use Rattle.memory_model.specs.Memory.ScalarSizes.{class_bytes}
 use Rattle.store_structs.specs.LeafCounts.{bytes_in}
-use Rattle.store_monotone.specs.Layouts.LaidApart.{has_class_bytes, is_member_in, are_members_in}
+use Rattle.store_structs.specs.LaidApart.{has_class_bytes, is_member_in, are_members_in}
 use Rattle.store_monotone.proofs.tags.TypeTags.{model_bytes, short_size, member_is, laid_out}
 use Rattle.typed_programs.specs.Types.TypeBytes.{behind, repeated_bytes, member_bytes, struct_bytes, ScalarByte, own_scalar, scalar_byte}
 use Rattle.typed_programs.specs.Types.StandingTypes.{AreLaidOut}

@@ -5,7 +5,7 @@ use Rattle.c_layout.specs.Models.{is_model}
 use Rattle.c_layout.specs.StructViews.{FieldView, StructView}
 use Rattle.c_layout.specs.Types.{Ty, Array, Struct}
 use Rattle.c_layout.specs.declared.data_model.Model.{Model}
-use Rattle.store_monotone.specs.Layouts.LaidApart.{are_laid_apart}
+use Rattle.store_structs.specs.LaidApart.{are_laid_apart}
 use Rattle.analysis_preconditions.specs.StructNesting.OrderedStructs.{are_ordered}
 use Rattle.typed_programs.specs.Types.TypeBytes.{scalar_byte, struct_byte}
 

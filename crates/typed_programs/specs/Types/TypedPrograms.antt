@@ -29,7 +29,7 @@ use Rattle.memory_model.specs.Memory.Bytes.{into}
 use Rattle.memory_model.specs.Effects.NumberedTables.{set_at}
 use Rattle.memory_model.specs.Effects.UnitStarts.{base_instance}
 use Rattle.diagnose.specs.Diagnostics.AdmittedRules.{instructions_of}
-use Rattle.store_monotone.specs.Layouts.LaidApart.{has_class_bytes}
+use Rattle.store_structs.specs.LaidApart.{has_class_bytes}
 use Rattle.typed_programs.specs.Types.TypeBytes.{scalar_byte}
 use Rattle.typed_programs.specs.Types.StandingTypes.{AreLaidOut, Stands}
 use Rattle.typed_programs.specs.Types.PointedTypes.{Target, Element, Place, target_type, Known, Zero, Null, Pointing, IsLess, Points, IsOfKind, IsStorable}

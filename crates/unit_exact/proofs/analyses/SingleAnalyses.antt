@@ -35,7 +35,7 @@ use Rattle.transfer_system.specs.BoundedRows.IntervalEnds.{interval_ends}
 use Rattle.transfer_system.specs.BoundedRows.OwnRows.{program_bases}
 use Rattle.transfer_system.specs.System.FlowLaws.{flow-laws}
 use Rattle.transfer_system.specs.System.FlowMachines.{start_of}
-use Rattle.system_monotone.specs.Systems.RegularPrograms.{has_scalars, has_initial_bytes, has_apart_members, is_near_list, is_regular}
+use Rattle.transfer_system.specs.System.RegularPrograms.{has_scalars, has_initial_bytes, has_apart_members, is_near_list, is_regular}
 use Rattle.system_monotone.proofs.systems.WellFormed.{laid_out, all_named}
 use Rattle.system_monotone.proofs.systems.RegularPrograms.{Regular, regular_of}
 use Rattle.system_monotone.proofs.systems.RegularSystems.{regular_rising}

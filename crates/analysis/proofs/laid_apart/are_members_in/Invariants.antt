@@ -1,6 +1,6 @@
 use Rattle.std.proofs.Common.{◌≡◌, drop, map}
 use Rattle.c_layout.specs.StructViews.{structs_view, field_view}
-use Rattle.store_monotone.specs.Layouts.LaidApart as spec
+use Rattle.store_structs.specs.LaidApart as spec
 use Rattle.analysis.proofs.laid_apart.are_members_in.Given as goal
 
 abbrev pub invariant-loop-at : goal.invariant-loop-at

@@ -1,5 +1,5 @@
 use Rattle.std.proofs.Common.{◌≡◌, drop}
-use Rattle.source_preservation.specs.UnitChecks.LookedStatements.{are_bytes}
+use Rattle.c_layout.specs.ByteTexts.{are_bytes}
 use Rattle.cli_units.proofs.byte_texts.are_bytes.Given as goal
 
 abbrev pub invariant-loop-byte : goal.invariant-loop-byte

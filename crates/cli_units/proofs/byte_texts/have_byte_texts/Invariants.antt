@@ -1,5 +1,5 @@
 use Rattle.std.proofs.Common.{◌≡◌, drop}
-use Rattle.source_preservation.specs.UnitChecks.SmallUnits.{have_byte_texts}
+use Rattle.c_layout.specs.ByteTexts.{have_byte_texts}
 use Rattle.cli_units.proofs.byte_texts.have_byte_texts.Given as goal
 
 abbrev pub invariant-loop-at : goal.invariant-loop-at
