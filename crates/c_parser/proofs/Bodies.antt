@@ -6,9 +6,9 @@ use Rattle.c_layout.specs.DeclarationTrees.{NameView, LocalView, ForFirstView, S
 use Rattle.c_parser_tokens.specs.declared.terminals.Terminal.{Terminal}
 use Rattle.c_parser_tokens.specs.declared.terminals.Keyword.TheVariants as k
 use Rattle.c_parser_tokens.specs.declared.terminals.Punctuator.TheVariants as p
-use Rattle.c_parser_expressions.specs.Expressions.{height_of}
-use Rattle.c_parser_expressions.specs.Findings.{Found}
-use Rattle.c_parser_expressions.specs.Fronts.{first_symbol, first_place, IsSign, IsWord, IsName}
+use Rattle.c_parser_expression_grammar.specs.Expressions.{height_of}
+use Rattle.c_parser_expression_grammar.specs.Findings.{Found}
+use Rattle.c_parser_expression_grammar.specs.Fronts.{first_symbol, first_place, IsSign, IsWord, IsName}
 use Rattle.c_parser_declarations.specs.Grammar.Findings.{FoundLocal}
 use Rattle.c_parser.proofs.Jumps.{shut}
 use Rattle.c_parser.specs.Findings.{FoundCondition, FoundMaybe, FoundFirst, FoundStatement, FoundItem, FoundItems, FoundBraced, FoundBlock, is_else}

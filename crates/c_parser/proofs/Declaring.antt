@@ -4,7 +4,7 @@ use Rattle.cc_base.specs.declared.diagnostics.Place.{Place}
 use Rattle.c_layout.specs.DeclarationTrees.{InitDeclaratorView, Object, Initialized, Prototype, FunctionDeclaratorView, SpecTree, spec_trees, StatementTree, statement_trees, ExternalTree, Declared, Defined}
 use Rattle.c_parser_tokens.specs.declared.terminals.Terminal.{Terminal}
 use Rattle.c_parser_tokens.specs.declared.terminals.Punctuator.TheVariants as p
-use Rattle.c_parser_expressions.specs.Fronts.{first_place, IsSign}
+use Rattle.c_parser_expression_grammar.specs.Fronts.{first_place, IsSign}
 use Rattle.c_parser_declarations.specs.Grammar.Declarations.{IsDeclared, IsInitialized, bare, name_of, init_height, function_height}
 use Rattle.c_parser_declarations.specs.Grammar.Findings.{FoundSpec, FoundBare, FoundTail}
 use Rattle.c_parser_declarations.specs.Grammar.Lists.{highest}

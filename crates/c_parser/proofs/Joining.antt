@@ -5,8 +5,8 @@ use Rattle.c_layout.specs.DeclarationTrees.{SpecTree, spec_trees, StatementTree,
 use Rattle.c_parser_tokens.specs.declared.terminals.Punctuator.TheVariants as p
 use Rattle.c_parser_tokens.specs.declared.terminals.Symbol.TheVariants as symbol
 use Rattle.c_parser_tokens.specs.declared.terminals.Terminal.{Terminal}
-use Rattle.c_parser_expressions.specs.Fronts.{first_symbol, first_place, behind_first, IsSign}
-use Rattle.c_parser_expressions.specs.Readings.{is_left_brace}
+use Rattle.c_parser_expression_grammar.specs.Fronts.{first_symbol, first_place, behind_first, IsSign}
+use Rattle.c_parser_expression_grammar.specs.Readings.{is_left_brace}
 use Rattle.c_parser_declarations.specs.Grammar.DeclarationReaders.{file_declarator, initialized}
 use Rattle.c_parser_declarations.specs.Grammar.Items.{GotItem, item_of, after_item, one_more}
 use Rattle.c_parser_declarations.specs.Grammar.SpecifierReaders.{raised, is_semicolon, specifiers}

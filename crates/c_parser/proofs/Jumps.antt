@@ -6,8 +6,8 @@ use Rattle.c_layout.specs.DeclarationTrees.{NameView, StatementTree, Expression,
 use Rattle.c_parser_tokens.specs.declared.terminals.Terminal.{Terminal}
 use Rattle.c_parser_tokens.specs.declared.terminals.Keyword.TheVariants as k
 use Rattle.c_parser_tokens.specs.declared.terminals.Punctuator.TheVariants as p
-use Rattle.c_parser_expressions.specs.Findings.{Found}
-use Rattle.c_parser_expressions.specs.Fronts.{first_place, IsSign, IsWord, IsName}
+use Rattle.c_parser_expression_grammar.specs.Findings.{Found}
+use Rattle.c_parser_expression_grammar.specs.Fronts.{first_place, IsSign, IsWord, IsName}
 use Rattle.c_parser.specs.Findings.{FoundMaybe, FoundStatement}
 use Rattle.c_parser.specs.Statements.{is_statement, is_open, DeriveStatement, statement_height}
 

@@ -5,8 +5,8 @@ use Rattle.c_layout.specs.DeclarationTrees.{NoClause, Clause, Declares, LocalVie
 use Rattle.c_parser_tokens.specs.declared.terminals.Terminal.{Terminal}
 use Rattle.c_parser_tokens.specs.declared.terminals.Punctuator.{Punctuator}
 use Rattle.c_parser_tokens.specs.declared.terminals.Punctuator.TheVariants as p
-use Rattle.c_parser_expressions.specs.Findings.{Found}
-use Rattle.c_parser_expressions.specs.Fronts.{IsSign}
+use Rattle.c_parser_expression_grammar.specs.Findings.{Found}
+use Rattle.c_parser_expression_grammar.specs.Fronts.{IsSign}
 use Rattle.c_parser_declarations.specs.Grammar.Findings.{FoundLocal}
 use Rattle.c_parser.specs.Findings.{FoundCondition, FoundMaybe, FoundFirst}
 

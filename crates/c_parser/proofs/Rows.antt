@@ -9,7 +9,7 @@ use Rattle.c_parser_tokens.specs.declared.terminals.Keyword.TheVariants as k
 use Rattle.c_parser_tokens.specs.declared.terminals.Punctuator.TheVariants as p
 use Rattle.c_parser_tokens.specs.declared.terminals.Symbol.TheVariants as symbol
 use Rattle.c_parser_tokens.specs.declared.terminals.Terminal.{Terminal}
-use Rattle.c_parser_expressions.specs.Fronts.{IsName}
+use Rattle.c_parser_expression_grammar.specs.Fronts.{IsName}
 use Rattle.c_parser_declarations.specs.Grammar.Specifiers.{DeriveWord, IsSpec}
 use Rattle.c_parser_declarations.proofs.readers.Rows.{at, sign, word, name, sign_at, word_at, name_at}
 use Rattle.c_parser.specs.Externals.{in_force, IsExternal, external_height}

@@ -7,10 +7,10 @@ use Rattle.c_parser_tokens.specs.declared.terminals.Punctuator.TheVariants as p
 use Rattle.c_parser_tokens.specs.declared.terminals.Symbol.{Symbol}
 use Rattle.c_parser_tokens.specs.declared.terminals.Symbol.TheVariants as symbol
 use Rattle.c_parser_tokens.specs.declared.terminals.Terminal.{Terminal}
-use Rattle.c_parser_expressions.specs.ExpressionReaders.{Readers}
-use Rattle.c_parser_expressions.specs.Fronts.{first_symbol, first_place, behind_first, is_identifier_first, IsName, IsSign, IsWord}
-use Rattle.c_parser_expressions.specs.Readings.{Reading, got, is_colon, is_left_parenthesis, is_right_parenthesis}
-use Rattle.c_parser_expressions.specs.TypeNameReaders.{all_readers, readers_inside}
+use Rattle.c_parser_expression_grammar.specs.ExpressionReaders.{Readers}
+use Rattle.c_parser_expression_grammar.specs.Fronts.{first_symbol, first_place, behind_first, is_identifier_first, IsName, IsSign, IsWord}
+use Rattle.c_parser_expression_grammar.specs.Readings.{Reading, got, is_colon, is_left_parenthesis, is_right_parenthesis}
+use Rattle.c_parser_expression_grammar.specs.TypeNameReaders.{all_readers, readers_inside}
 use Rattle.c_parser_declarations.specs.Grammar.Items.{Item, GotItem, item_of, after_item}
 use Rattle.c_parser_declarations.specs.Grammar.SpecifierReaders.{raised, is_semicolon}
 use Rattle.c_parser_declarations.proofs.grammar.Reading.{inner_is, raised_is}

@@ -6,8 +6,8 @@ use Rattle.c_layout.specs.DeclarationTrees.{InitDeclaratorView, StatementTree}
 use Rattle.c_parser_tokens.specs.declared.terminals.Punctuator.TheVariants as p
 use Rattle.c_parser_tokens.specs.declared.terminals.Symbol.TheVariants as symbol
 use Rattle.c_parser_tokens.specs.declared.terminals.Terminal.{Terminal}
-use Rattle.c_parser_expressions.specs.Fronts.{first_symbol, behind_first}
-use Rattle.c_parser_expressions.specs.Readings.{is_comma, is_right_brace}
+use Rattle.c_parser_expression_grammar.specs.Fronts.{first_symbol, behind_first}
+use Rattle.c_parser_expression_grammar.specs.Readings.{is_comma, is_right_brace}
 use Rattle.c_parser_declarations.specs.Grammar.DeclarationReaders.{file_declarator, initialized}
 use Rattle.c_parser_declarations.specs.Grammar.Items.{Item, GotItem, item_of, after_item, one_more}
 use Rattle.c_parser_declarations.specs.Grammar.SpecifierReaders.{is_semicolon}

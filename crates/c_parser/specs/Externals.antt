@@ -6,7 +6,7 @@ use Rattle.c_layout.specs.DeclarationTrees.{NameView, InitDeclaratorView, Protot
 use Rattle.c_parser_tokens.specs.Classes.{classified}
 use Rattle.c_parser_tokens.specs.declared.terminals.Terminal.{Terminal}
 use Rattle.c_parser_tokens.specs.declared.terminals.Punctuator.TheVariants as p
-use Rattle.c_parser_expressions.specs.Fronts.{first_place, IsSign, with_text}
+use Rattle.c_parser_expression_grammar.specs.Fronts.{first_place, IsSign, with_text}
 use Rattle.c_parser_declarations.specs.Grammar.Declarations.{Initializes, IsFunction, name_of, init_height, function_height}
 use Rattle.c_parser_declarations.specs.Grammar.Lists.{highest}
 use Rattle.c_parser_declarations.specs.Grammar.Specifiers.{IsSpec, spec_height}

@@ -9,8 +9,8 @@ use Rattle.c_parser_tokens.specs.declared.terminals.Punctuator.{Punctuator}
 use Rattle.c_parser_tokens.specs.declared.terminals.Punctuator.TheVariants as p
 use Rattle.c_parser_tokens.specs.declared.terminals.Symbol.{Symbol}
 use Rattle.c_parser_tokens.specs.declared.terminals.Symbol.TheVariants as symbol
-use Rattle.c_parser_expressions.specs.Expressions.{height_of}
-use Rattle.c_parser_expressions.specs.Fronts.{first_symbol, first_place, IsSign}
+use Rattle.c_parser_expression_grammar.specs.Expressions.{height_of}
+use Rattle.c_parser_expression_grammar.specs.Fronts.{first_symbol, first_place, IsSign}
 use Rattle.c_parser_declarations.specs.Grammar.Declarations.{IsDeclared, bare, init_height}
 use Rattle.c_parser_declarations.specs.Grammar.Lists.{highest}
 use Rattle.c_parser_declarations.specs.Grammar.Specifiers.{IsSpec, spec_height}

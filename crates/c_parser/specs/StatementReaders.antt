@@ -7,11 +7,11 @@ use Rattle.c_parser_tokens.specs.declared.terminals.Keyword.TheVariants as k
 use Rattle.c_parser_tokens.specs.declared.terminals.Symbol.{Symbol}
 use Rattle.c_parser_tokens.specs.declared.terminals.Symbol.TheVariants as symbol
 use Rattle.c_parser_tokens.specs.declared.terminals.Terminal.{Terminal}
-use Rattle.c_parser_expressions.specs.Fronts.{first_symbol, first_place, behind_first, is_identifier_first, begins_specifiers}
+use Rattle.c_parser_expression_grammar.specs.Fronts.{first_symbol, first_place, behind_first, is_identifier_first, begins_specifiers}
 use Rattle.c_parser.specs.Findings.{is_else}
-use Rattle.c_parser_expressions.specs.Readings.{Reading, is_left_parenthesis, is_right_parenthesis, is_left_brace, is_right_brace, is_colon}
-use Rattle.c_parser_expressions.specs.ExpressionReaders.{Readers}
-use Rattle.c_parser_expressions.specs.TypeNameReaders.{readers_inside, all_readers}
+use Rattle.c_parser_expression_grammar.specs.Readings.{Reading, is_left_parenthesis, is_right_parenthesis, is_left_brace, is_right_brace, is_colon}
+use Rattle.c_parser_expression_grammar.specs.ExpressionReaders.{Readers}
+use Rattle.c_parser_expression_grammar.specs.TypeNameReaders.{readers_inside, all_readers}
 use Rattle.c_parser_declarations.specs.Grammar.Items.{Item, GotItem, item_of, after_item, one_more}
 use Rattle.c_parser_declarations.specs.Grammar.DeclarationReaders.{local_declaration}
 use Rattle.c_parser_declarations.specs.Grammar.DeclaratorReaders.{name_at}

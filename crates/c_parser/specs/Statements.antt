@@ -6,8 +6,8 @@ use Rattle.c_layout.specs.DeclarationTrees.{ForFirstView, NoClause, Clause, Decl
 use Rattle.c_parser_tokens.specs.declared.terminals.Terminal.{Terminal}
 use Rattle.c_parser_tokens.specs.declared.terminals.Keyword.TheVariants as k
 use Rattle.c_parser_tokens.specs.declared.terminals.Punctuator.TheVariants as p
-use Rattle.c_parser_expressions.specs.Expressions.{Derives, height_of}
-use Rattle.c_parser_expressions.specs.Fronts.{first_place, IsSign, IsWord, IsName}
+use Rattle.c_parser_expression_grammar.specs.Expressions.{Derives, height_of}
+use Rattle.c_parser_expression_grammar.specs.Fronts.{first_place, IsSign, IsWord, IsName}
 use Rattle.c_parser_declarations.specs.Grammar.Declarations.{IsLocal, local_height}
 
 -- an expression, or nothing

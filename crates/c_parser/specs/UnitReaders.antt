@@ -3,11 +3,11 @@ use Rattle.std.specs.Prelude.{ℕ, zero, suc, Bool, cond, max, length, List, [],
 use Rattle.cc_base.specs.declared.diagnostics.Place.{Place}
 use Rattle.c_layout.specs.DeclarationTrees.{SpecTrees, StatementTree, FunctionDeclaratorView, InitDeclaratorView, Object, Initialized, Prototype, ExternalTree, Declared, Defined}
 use Rattle.c_parser_tokens.specs.declared.terminals.Terminal.{Terminal}
-use Rattle.c_parser_expressions.specs.Fronts.{first_symbol, first_place, behind_first}
+use Rattle.c_parser_expression_grammar.specs.Fronts.{first_symbol, first_place, behind_first}
 use Rattle.c_parser_declarations.specs.Grammar.StorageClasses.{is_typedef}
 use Rattle.c_parser.specs.Externals.{with_declared, in_force}
 use Rattle.c_parser.specs.Pieces.{piece_length}
-use Rattle.c_parser_expressions.specs.Readings.{is_comma, is_left_brace}
+use Rattle.c_parser_expression_grammar.specs.Readings.{is_comma, is_left_brace}
 use Rattle.c_parser_declarations.specs.Grammar.Items.{Item, GotItem, item_of, after_item, one_more}
 use Rattle.c_parser_declarations.specs.Grammar.DeclarationReaders.{file_declarator, initialized}
 use Rattle.c_parser_declarations.specs.Grammar.ParameterReaders.{words_list}

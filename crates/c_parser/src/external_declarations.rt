@@ -2,11 +2,11 @@
 ghost use Rattle.std.specs.Prelude.{◌≡◌, ◌+◌, ◌≤◌, List, [], length, map, IfOk};
 ghost use Rattle.c_layout.specs.DeclarationTrees.{Declared, Prototype, spec_tree, spec_trees, function_declarator_view, init_declarator_view, external_tree};
 ghost use Rattle.c_parser_declarations.specs.Grammar.Findings.{FoundSpec, FoundBare, FoundTail};
-ghost use Rattle.c_parser_expressions.specs.Fronts.{first_place};
+ghost use Rattle.c_parser_expression_grammar.specs.Fronts.{first_place};
 ghost use Rattle.c_parser.specs.Externals.{with_declared};
 ghost use Rattle.c_parser.specs.Findings.{FoundLast, FoundBehind, FoundNamed, FoundExternal};
 ghost use Rattle.c_parser_tokens.specs.declared.terminals.Terminal.{Terminal};
-ghost use Rattle.c_parser_expressions.specs.ReadingResults.{Reads};
+ghost use Rattle.c_parser_expression_grammar.specs.ReadingResults.{Reads};
 ghost use Rattle.c_parser_declarations.specs.Grammar.Answers.{as_item};
 ghost use Rattle.c_parser_declarations.specs.Grammar.DeclarationReaders.{file_declarator, initialized};
 ghost use Rattle.c_parser_declarations.specs.Grammar.Items.{item_of, after_item};

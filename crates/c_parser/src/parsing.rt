@@ -4,7 +4,7 @@ ghost use Rattle.c_layout.specs.DeclarationTrees.{external_tree, unit_tree};
 ghost use Rattle.c_parser.specs.Externals.{in_force, IsPiece, ArePieces, IsUnit};
 ghost use Rattle.c_parser.specs.Refusals.{Refuses};
 ghost use Rattle.c_parser_tokens.specs.Classes.{classified};
-ghost use Rattle.c_parser_expressions.specs.ReadingResults.{Reads};
+ghost use Rattle.c_parser_expression_grammar.specs.ReadingResults.{Reads};
 ghost use Rattle.c_parser.specs.UnitReaders as readers;
 ghost use Rattle.c_parser.specs.UnitResults.{stop_of, ReadsOrStops, StopsUnread};
 

@@ -6,8 +6,8 @@ ghost use Rattle.c_layout.specs.DeclarationTrees.{for_first_view};
 ghost use Rattle.c_parser.specs.Findings.{FoundCondition, FoundMaybe, FoundFirst};
 ghost use Rattle.c_parser_tokens.specs.declared.terminals.Symbol.{Symbol};
 ghost use Rattle.c_parser_tokens.specs.declared.terminals.Symbol.TheVariants as symbol;
-ghost use Rattle.c_parser_expressions.specs.TypeNameReaders.{all_readers};
-ghost use Rattle.c_parser_expressions.specs.ReadingResults.{Reads};
+ghost use Rattle.c_parser_expression_grammar.specs.TypeNameReaders.{all_readers};
+ghost use Rattle.c_parser_expression_grammar.specs.ReadingResults.{Reads};
 ghost use Rattle.c_parser_declarations.specs.Grammar.Answers.{as_item};
 ghost use Rattle.c_parser.specs.StatementReaders as readers;
 

@@ -2,11 +2,11 @@
 ghost use Rattle.std.specs.Prelude.{◌≡◌, map, IfOk};
 ghost use Rattle.c_layout.specs.DeclarationTrees.{statement_tree};
 ghost use Rattle.c_parser.specs.Findings.{FoundStatement, FoundItem, FoundBraced, FoundBlock, is_else};
-ghost use Rattle.c_parser_expressions.specs.Fronts.{first_symbol};
+ghost use Rattle.c_parser_expression_grammar.specs.Fronts.{first_symbol};
 ghost use Rattle.c_parser_tokens.specs.declared.terminals.Keyword.TheVariants as k;
 ghost use Rattle.c_parser_tokens.specs.declared.terminals.Symbol.TheVariants as symbol;
-ghost use Rattle.c_parser_expressions.specs.TypeNameReaders.{readers_inside};
-ghost use Rattle.c_parser_expressions.specs.ReadingResults.{Reads};
+ghost use Rattle.c_parser_expression_grammar.specs.TypeNameReaders.{readers_inside};
+ghost use Rattle.c_parser_expression_grammar.specs.ReadingResults.{Reads};
 ghost use Rattle.c_parser_declarations.specs.Grammar.Answers.{as_item};
 ghost use Rattle.c_parser_declarations.specs.Grammar.Items.{item_of};
 ghost use Rattle.c_parser.specs.StatementReaders as readers;

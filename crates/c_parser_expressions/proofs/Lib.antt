@@ -1,4 +1,3 @@
-pub use Rattle.c_parser_expression_grammar.proofs.NameTexts
 pub mod Arguments
 pub mod Climbing
 pub mod Layers

@@ -7,5 +7,3 @@ pub mod SpecifierTrees
 pub mod Parameters
 pub mod FunctionHeads
 pub mod Initializers
-pub use Rattle.c_types_initializers.specs.Initialized
-pub use Rattle.c_types_initializers.specs.StaticStores

@@ -1,4 +1,3 @@
-pub use Rattle.c_library.specs.Formats.PrintfFormats
 pub mod Lists
 pub mod Primaries
 pub mod Members

@@ -11,7 +11,7 @@ ghost use Rattle.c_layout.specs.DeclarationTrees.{
 ghost use Rattle.c_types_scopes.specs.Answers.{Gives, Leads};
 ghost use Rattle.c_types_scopes.specs.DeclaredTypes.{declared_view};
 ghost use Rattle.c_types_scopes.specs.States.{state};
-ghost use Rattle.c_types_declarations.specs.Initialized.{initialized_view};
+ghost use Rattle.c_types_initializers.specs.Initialized.{initialized_view};
 ghost use Rattle.c_types_declarations.specs.Specifiers.{specified_view};
 ghost use Rattle.c_types_statement_rules.specs.Objects.LocalObjects.{parts_view};
 ghost use Rattle.c_types_statements.specs.LocalDeclarations as spec;

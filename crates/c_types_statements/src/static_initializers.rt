@@ -5,8 +5,8 @@ ghost use Rattle.c_layout.specs.DeclarationTrees.{initializer_tree};
 ghost use Rattle.c_types_scopes.specs.Answers.{Leads};
 ghost use Rattle.c_types_scopes.specs.Known.{known};
 ghost use Rattle.c_types_scopes.specs.States.{state};
-ghost use Rattle.c_types_declarations.specs.Initialized.{initialized_view};
-ghost use Rattle.c_types_declarations.specs.StaticStores.{stores_view};
+ghost use Rattle.c_types_initializers.specs.Initialized.{initialized_view};
+ghost use Rattle.c_types_initializers.specs.StaticStores.{stores_view};
 ghost use Rattle.c_types_statements.specs.StaticInitializers as spec;
 
 use c_layout::{CType, Initializer, StaticStore};

@@ -7,6 +7,3 @@ pub mod Choices
 pub mod Gates
 pub mod CertAnswers
 pub mod RunAnswers
-pub use Rattle.cli_units.specs.Judging
-pub use Rattle.cli_units.specs.Stages
-pub use Rattle.cli_units.specs.Certifying

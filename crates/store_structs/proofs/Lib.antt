@@ -1,3 +1,2 @@
-pub use Rattle.store_struct_leaves.proofs.Somewhere
 pub mod Batches
 pub mod MemberDepths

@@ -1,11 +1,7 @@
-pub use Rattle.store_struct_leaves.specs.CopyPlaces
-pub use Rattle.store_struct_leaves.specs.LeafCopies
 pub mod CopyZeros
 pub mod LeafCounts
 pub mod LeafNumbers
 pub mod PaddingWrites
 pub mod StructCopies
 pub mod CopyLengths
-pub use Rattle.store_struct_leaves.specs.declared.copy_places.Span
-pub use Rattle.store_struct_leaves.specs.declared.leaf_copies.LeafAccess
 pub mod LaidApart

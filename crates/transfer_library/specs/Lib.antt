@@ -1,13 +1,3 @@
-pub use Rattle.transfer_library_writes.specs.Sources
-pub use Rattle.transfer_library_writes.specs.TextWrites
-pub use Rattle.transfer_library_writes.specs.FillWrites
-pub use Rattle.transfer_library_writes.specs.CopyWrites
-pub use Rattle.transfer_library_plans.specs.Plans
-pub use Rattle.transfer_library_plans.specs.Calls
-pub use Rattle.transfer_library_plans.specs.Arguments
-pub use Rattle.transfer_library_plans.specs.Characters
-pub use Rattle.transfer_library_plans.specs.Allocations
-pub use Rattle.transfer_library_plans.specs.Outputs
 pub mod MemoryCalls
 pub mod StringCalls
 pub mod Effects

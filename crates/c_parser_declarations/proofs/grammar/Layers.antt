@@ -6,10 +6,10 @@ use Rattle.c_layout.specs.SyntaxTrees.{Tree}
 use Rattle.c_layout.specs.DeclarationTrees.{NameView, SuffixView, DeclaratorLayerView, DeclaratorView}
 use Rattle.c_parser_tokens.specs.declared.terminals.Terminal.{Terminal}
 use Rattle.c_parser_tokens.specs.declared.terminals.Punctuator.TheVariants as p
-use Rattle.c_parser_expressions.specs.Findings.{Found}
-use Rattle.c_parser_expressions.specs.Fronts.{first_place, IsSign}
-use Rattle.c_parser_expressions.specs.Spans.{Chain}
-use Rattle.c_parser_expressions.specs.TypeNames.{Stars}
+use Rattle.c_parser_expression_grammar.specs.Findings.{Found}
+use Rattle.c_parser_expression_grammar.specs.Fronts.{first_place, IsSign}
+use Rattle.c_parser_expression_grammar.specs.Spans.{Chain}
+use Rattle.c_parser_expression_grammar.specs.TypeNames.{Stars}
 use Rattle.c_parser_expressions.proofs.Listing.{chain_more}
 use Rattle.c_parser_declarations.specs.Grammar.Declarators.{IsSuffix, Inside, Layers, Shape, length_height, flat, climbed, height_by, layer_height, enclosed_by, enclosed_height, layers_height, shape_height, inside_height}
 use Rattle.c_parser_declarations.specs.Grammar.Findings.{FoundSuffix, FoundSuffixes, FoundInside, FoundLayers, FoundBehind, FoundDeclarator, FoundNamedBehind, FoundNamed, is_empty, IsSomething, layer_of}

@@ -4,7 +4,7 @@ use Rattle.std.proofs.lemmas.List.{map-append}
 use Rattle.c_layout.specs.DeclarationTrees.{EnumeratorView}
 use Rattle.c_parser_tokens.specs.declared.terminals.Terminal.{Terminal}
 use Rattle.c_parser_tokens.specs.declared.terminals.Punctuator.TheVariants as p
-use Rattle.c_parser_expressions.specs.Fronts.{IsSign}
+use Rattle.c_parser_expression_grammar.specs.Fronts.{IsSign}
 use Rattle.c_parser_declarations.specs.Grammar.Findings.{FoundItems, FoundListed, FoundEnumerator, FoundEnumerators}
 use Rattle.c_parser_declarations.specs.Grammar.Specifiers.{IsEnumerator, Enumerators, enumerator_height}
 use Rattle.c_parser_declarations.specs.Grammar.Lists.{Trailed, Listed, highest}

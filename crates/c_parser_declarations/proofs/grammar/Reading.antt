@@ -8,10 +8,10 @@ use Rattle.c_layout.specs.DeclarationTrees.{NameView, SuffixView, DeclaratorView
 use Rattle.c_parser_tokens.specs.declared.terminals.Keyword.TheVariants as k
 use Rattle.c_parser_tokens.specs.declared.terminals.Punctuator.TheVariants as p
 use Rattle.c_parser_tokens.specs.declared.terminals.Terminal.{Terminal}
-use Rattle.c_parser_expressions.specs.Fronts.{first_symbol, first_place, IsName, IsSign, IsWord}
-use Rattle.c_parser_expressions.specs.Readings.{Reading, got, is_right_bracket, is_right_parenthesis}
-use Rattle.c_parser_expressions.specs.TypeNames.{is_one_type}
-use Rattle.c_parser_expressions.specs.TypeNameReaders.{all_readers, readers_inside}
+use Rattle.c_parser_expression_grammar.specs.Fronts.{first_symbol, first_place, IsName, IsSign, IsWord}
+use Rattle.c_parser_expression_grammar.specs.Readings.{Reading, got, is_right_bracket, is_right_parenthesis}
+use Rattle.c_parser_expression_grammar.specs.TypeNames.{is_one_type}
+use Rattle.c_parser_expression_grammar.specs.TypeNameReaders.{all_readers, readers_inside}
 use Rattle.c_parser_declarations.specs.Grammar.DeclarationReaders.{assigned, initialized_object, local_declarator, local_declarators, local_specifiers, local_declaration}
 use Rattle.c_parser_declarations.specs.Grammar.Declarations.{is_local_word, begins_declarator}
 use Rattle.c_parser_declarations.specs.Grammar.DeclaratorReaders.{GotParts, parts_of, after_parts, above, suffix, declarators, declarators_inside, enclosed, closed, closed_height, parameter_declarator, declarator_list}

@@ -6,9 +6,9 @@ use Rattle.c_layout.specs.DeclarationTrees.{SpecTree, SpecTrees, NoWord, MoreWor
 use Rattle.c_parser_tokens.specs.declared.terminals.Punctuator.TheVariants as p
 use Rattle.c_parser_tokens.specs.declared.terminals.Symbol.TheVariants as symbol
 use Rattle.c_parser_tokens.specs.declared.terminals.Terminal.{Terminal}
-use Rattle.c_parser_expressions.specs.ExpressionReaders.{Readers}
-use Rattle.c_parser_expressions.specs.Fronts.{first_symbol, behind_first, begins_specifiers}
-use Rattle.c_parser_expressions.specs.Readings.{is_comma, is_left_bracket, is_right_brace}
+use Rattle.c_parser_expression_grammar.specs.ExpressionReaders.{Readers}
+use Rattle.c_parser_expression_grammar.specs.Fronts.{first_symbol, behind_first, begins_specifiers}
+use Rattle.c_parser_expression_grammar.specs.Readings.{is_comma, is_left_bracket, is_right_brace}
 use Rattle.c_parser_declarations.specs.Grammar.DeclaratorReaders.{GotSuffixes, suffix, suffixes, climbs, with_suffix, after_suffixes}
 use Rattle.c_parser_declarations.specs.Grammar.Items.{Item, GotItem, item_of, after_item, one_more, last_one, listed, braced, chained}
 use Rattle.c_parser_declarations.specs.Grammar.SpecifierReaders.{words, no_word, more_words}

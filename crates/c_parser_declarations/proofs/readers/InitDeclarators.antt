@@ -5,8 +5,8 @@ use Rattle.c_layout.specs.DeclarationTrees.{DeclaratorView, FunctionDeclaratorVi
 use Rattle.std.specs.List.{list_all}
 use Rattle.c_parser_tokens.specs.declared.terminals.Terminal.{Terminal}
 use Rattle.c_parser_tokens.specs.declared.terminals.Punctuator.TheVariants as p
-use Rattle.c_parser_expressions.specs.Fronts.{first_place, IsSign}
-use Rattle.c_parser_expressions.specs.TypeNames.{Stars}
+use Rattle.c_parser_expression_grammar.specs.Fronts.{first_place, IsSign}
+use Rattle.c_parser_expression_grammar.specs.TypeNames.{Stars}
 use Rattle.c_parser_declarations.specs.Grammar.Declarations.{IsDeclared, IsInitialized, bare, init_height, local_init_height, IsLocalDeclarator, LocalDeclarators, is_local_word}
 use Rattle.c_parser_declarations.specs.Grammar.Declarators.{declarator_height}
 use Rattle.c_parser_declarations.specs.Grammar.Findings.{FoundSpec, FoundListed, FoundNamed, FoundNamedBehind, FoundFunctionBehind, FoundInitializer, FoundBareBehind, FoundBare, FoundAssigned, FoundLocalTail, FoundTail, FoundLocalDeclarator, FoundLocalDeclarators, FoundLocal}

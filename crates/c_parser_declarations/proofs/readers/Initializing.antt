@@ -5,9 +5,9 @@ use Rattle.c_layout.specs.SyntaxTrees.{Tree}
 use Rattle.c_layout.specs.DeclarationTrees.{InitializerTree, Single, Braces, initializer_trees}
 use Rattle.c_parser_tokens.specs.declared.terminals.Terminal.{Terminal}
 use Rattle.c_parser_tokens.specs.declared.terminals.Punctuator.TheVariants as p
-use Rattle.c_parser_expressions.specs.Findings.{Found}
-use Rattle.c_parser_expressions.specs.Fronts.{first_place, IsSign}
-use Rattle.c_parser_expressions.specs.Spans.{Span}
+use Rattle.c_parser_expression_grammar.specs.Findings.{Found}
+use Rattle.c_parser_expression_grammar.specs.Fronts.{first_place, IsSign}
+use Rattle.c_parser_expression_grammar.specs.Spans.{Span}
 use Rattle.c_parser_expressions.proofs.Listing.{trailed_more, separated_last}
 use Rattle.c_parser_declarations.specs.Grammar.Findings.{FoundInitializer, FoundSome, FoundBraced}
 use Rattle.c_parser_declarations.specs.Grammar.Initializers.{DeriveInitializer, DeriveItems, initializer_height, items_height, has_item}

@@ -10,7 +10,7 @@ use Rattle.c_parser_tokens.specs.declared.terminals.Punctuator.{Punctuator}
 use Rattle.c_parser_tokens.specs.declared.terminals.Punctuator.TheVariants as p
 use Rattle.c_parser_tokens.specs.declared.terminals.Symbol.TheVariants as symbol
 use Rattle.c_parser_tokens.specs.declared.terminals.Terminal.{Terminal}
-use Rattle.c_parser_expressions.specs.Fronts.{IsName, IsSign, IsWord}
+use Rattle.c_parser_expression_grammar.specs.Fronts.{IsName, IsSign, IsWord}
 use Rattle.c_parser_declarations.specs.Grammar.Declarations.{Parameters, IsLocal, parameters_height, list_height, is_void_first}
 use Rattle.c_parser_declarations.specs.Grammar.Declarators.{IsDeclarator, declarator_height}
 use Rattle.c_parser_declarations.specs.Grammar.Initializers.{DeriveInitializer}

@@ -3,7 +3,7 @@ use Rattle.std.proofs.Common.{◌≡◌, ◌≢◌, Bool, false, refl}
 use Rattle.c_parser_tokens.specs.declared.terminals.Punctuator.TheVariants as p
 use Rattle.c_parser_tokens.specs.declared.terminals.Symbol.{Symbol}
 use Rattle.c_parser_tokens.specs.declared.terminals.Symbol.TheVariants as symbol
-use Rattle.c_parser_expressions.specs.Readings.{is_left_brace, is_right_brace}
+use Rattle.c_parser_expression_grammar.specs.Readings.{is_left_brace, is_right_brace}
 use Rattle.c_parser_declarations.specs.Grammar.SpecifierReaders.{is_assign, is_semicolon}
 
 pub no_left_brace : (s : Symbol) → s ≢ symbol.Punctuator p.LeftBrace → is_left_brace s ≡ false

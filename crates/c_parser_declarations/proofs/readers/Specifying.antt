@@ -8,8 +8,8 @@ use Rattle.c_parser_tokens.specs.declared.terminals.Terminal.{Terminal}
 use Rattle.c_parser_tokens.specs.declared.terminals.Keyword.TheVariants as k
 use Rattle.c_parser_tokens.specs.declared.terminals.Punctuator.TheVariants as p
 use Rattle.c_parser_expression_grammar.specs.declared.specifier_words.SpecifierCounts.{SpecifierCounts}
-use Rattle.c_parser_expressions.specs.Fronts.{first_place, IsSign, IsWord}
-use Rattle.c_parser_expressions.specs.TypeNames.{is_one_type, no_words}
+use Rattle.c_parser_expression_grammar.specs.Fronts.{first_place, IsSign, IsWord}
+use Rattle.c_parser_expression_grammar.specs.TypeNames.{is_one_type, no_words}
 use Rattle.c_parser_declarations.specs.Grammar.Declarators.{declarator_height}
 use Rattle.c_parser_declarations.specs.Grammar.Findings.{FoundWord, FoundWords, FoundSpec, FoundMember, FoundChain, FoundMembers, FoundListed, PlainWord}
 use Rattle.c_parser_declarations.specs.Grammar.Specifiers.{Tag, IsNamed, DeriveWord, DeriveWords, DeriveMember, DeriveMembers, has_member, counted, counts_after, listed_height, word_height, words_height, member_height, members_height, spec_height}

@@ -6,8 +6,8 @@ use Rattle.c_layout.specs.DeclarationTrees.{NameView, EnumeratorView, SpecTree, 
 use Rattle.c_parser_tokens.specs.declared.terminals.Terminal.{Terminal}
 use Rattle.c_parser_tokens.specs.declared.terminals.Keyword.TheVariants as k
 use Rattle.c_parser_tokens.specs.declared.terminals.Punctuator.TheVariants as p
-use Rattle.c_parser_expressions.specs.Findings.{Found}
-use Rattle.c_parser_expressions.specs.Fronts.{first_place, IsSign, IsWord, IsName}
+use Rattle.c_parser_expression_grammar.specs.Findings.{Found}
+use Rattle.c_parser_expression_grammar.specs.Fronts.{first_place, IsSign, IsWord, IsName}
 use Rattle.c_parser_declarations.specs.Grammar.Findings.{FoundEnumerator, FoundEnumerators, FoundWord}
 use Rattle.c_parser_declarations.specs.Grammar.Specifiers.{Tag}
 

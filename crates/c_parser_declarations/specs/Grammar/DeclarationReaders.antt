@@ -4,10 +4,10 @@ use Rattle.std.specs.Prelude.{ℕ, zero, suc, cond, max, length, ◌&&◌, List,
 use Rattle.std.specs.List.{list_all}
 use Rattle.cc_base.specs.declared.diagnostics.Place.{Place}
 use Rattle.c_layout.specs.DeclarationTrees.{DeclaratorView, InitializerTree, FunctionDeclaratorView, InitDeclaratorView, Object, Initialized, Prototype, LocalView, SpecTrees}
-use Rattle.c_parser_expressions.specs.Fronts.{first_symbol, first_place, behind_first, is_identifier_first}
+use Rattle.c_parser_expression_grammar.specs.Fronts.{first_symbol, first_place, behind_first, is_identifier_first}
 use Rattle.c_parser_declarations.specs.Grammar.Declarations.{is_local_word}
-use Rattle.c_parser_expressions.specs.Readings.{is_left_parenthesis}
-use Rattle.c_parser_expressions.specs.TypeNameReaders.{stars}
+use Rattle.c_parser_expression_grammar.specs.Readings.{is_left_parenthesis}
+use Rattle.c_parser_expression_grammar.specs.TypeNameReaders.{stars}
 use Rattle.c_parser_declarations.specs.Grammar.Items.{Item, GotItem, item_of, after_item, listed}
 use Rattle.c_parser_declarations.specs.Grammar.DeclaratorReaders.{named_declarator, declarator}
 use Rattle.c_parser_declarations.specs.Grammar.InitializerReaders.{initializer}

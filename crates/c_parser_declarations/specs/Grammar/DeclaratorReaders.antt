@@ -3,11 +3,11 @@
 use Rattle.std.specs.Prelude.{◌+◌, ◌==◌, ◌&&◌, ℕ, zero, suc, Bool, false, cond, max, length, nat_lt, nat_le, List, [], ◌∷◌, Option, Some, None, is_some}
 use Rattle.c_layout.specs.DeclarationTrees.{NameView, SuffixView, DeclaratorLayerView, DeclaratorView}
 use Rattle.c_parser_tokens.specs.declared.terminals.Terminal.{Terminal}
-use Rattle.c_parser_expressions.specs.Fronts.{first_symbol, first_place, first_text, behind_first, is_identifier_first}
-use Rattle.c_parser_expressions.specs.TypeNames.{is_one_star}
-use Rattle.c_parser_expressions.specs.Readings.{Reading, is_left_parenthesis, is_right_parenthesis, is_left_bracket, is_right_bracket}
-use Rattle.c_parser_expressions.specs.ExpressionReaders.{Readers}
-use Rattle.c_parser_expressions.specs.TypeNameReaders.{stars, readers_inside}
+use Rattle.c_parser_expression_grammar.specs.Fronts.{first_symbol, first_place, first_text, behind_first, is_identifier_first}
+use Rattle.c_parser_expression_grammar.specs.TypeNames.{is_one_star}
+use Rattle.c_parser_expression_grammar.specs.Readings.{Reading, is_left_parenthesis, is_right_parenthesis, is_left_bracket, is_right_bracket}
+use Rattle.c_parser_expression_grammar.specs.ExpressionReaders.{Readers}
+use Rattle.c_parser_expression_grammar.specs.TypeNameReaders.{stars, readers_inside}
 use Rattle.c_parser_declarations.specs.Grammar.Items.{Item, GotItem, item_of, after_item, listed}
 
 -- ---- brackets

@@ -6,10 +6,10 @@ use Rattle.c_parser_tokens.specs.declared.terminals.Terminal.{Terminal}
 use Rattle.c_parser_tokens.specs.declared.terminals.Punctuator.TheVariants as p
 use Rattle.c_parser_tokens.specs.declared.terminals.Keyword.{Keyword}
 use Rattle.c_parser_expression_grammar.specs.declared.specifier_words.SpecifierCounts.{SpecifierCounts}
-use Rattle.c_parser_expressions.specs.Fronts.{first_place, IsSign, IsWord}
-use Rattle.c_parser_expressions.specs.Spans as spans
-use Rattle.c_parser_expressions.specs.Spans.{Chain, Span}
-use Rattle.c_parser_expressions.specs.TypeNames.{Stars, is_qualifier, storage_class, type_word_of}
+use Rattle.c_parser_expression_grammar.specs.Fronts.{first_place, IsSign, IsWord}
+use Rattle.c_parser_expression_grammar.specs.Spans as spans
+use Rattle.c_parser_expression_grammar.specs.Spans.{Chain, Span}
+use Rattle.c_parser_expression_grammar.specs.TypeNames.{Stars, is_qualifier, storage_class, type_word_of}
 use Rattle.c_parser_declarations.specs.Grammar.Declarations.{IsParameter, parameter_height, Parameters, list_height, parameters_height, IsFunction, function_height, IsDeclared, IsInitialized, bare, init_height, local_init_height, is_object, IsLocalDeclarator, LocalDeclarators, IsLocal, local_height}
 use Rattle.c_parser_declarations.specs.Grammar.Declarators.{IsSuffix, Inside, Shape, IsDeclarator, is_something, length_height, flat, climbed, inside_height, shape_height, declarator_height}
 use Rattle.c_parser_declarations.specs.Grammar.Initializers.{DeriveInitializer, DeriveItems, initializer_height, items_height, has_item}

@@ -2,9 +2,9 @@
 use Rattle.std.specs.Prelude.{◌+◌, ℕ, zero, suc, cond, length, nat_lt, List, Option, Some, None}
 use Rattle.c_layout.specs.DeclarationTrees.{InitializerTree, Single, Braces, initializer_trees}
 use Rattle.c_parser_tokens.specs.declared.terminals.Terminal.{Terminal}
-use Rattle.c_parser_expressions.specs.Fronts.{first_symbol, first_place, behind_first}
-use Rattle.c_parser_expressions.specs.Readings.{Reading, is_left_brace}
-use Rattle.c_parser_expressions.specs.TypeNameReaders.{all_readers}
+use Rattle.c_parser_expression_grammar.specs.Fronts.{first_symbol, first_place, behind_first}
+use Rattle.c_parser_expression_grammar.specs.Readings.{Reading, is_left_brace}
+use Rattle.c_parser_expression_grammar.specs.TypeNameReaders.{all_readers}
 use Rattle.c_parser_declarations.specs.Grammar.Items.{Item, GotItem, item_of, after_item, braced}
 
 abbrev pub value_of : Reading → Option (GotItem InitializerTree)

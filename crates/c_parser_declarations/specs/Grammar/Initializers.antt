@@ -3,9 +3,9 @@ use Rattle.std.specs.Prelude.{◌≡◌, ◌+◌, ℕ, Bool, true, false, max, L
 use Rattle.c_layout.specs.DeclarationTrees.{InitializerTree, InitializerTrees, Single, Braces, NoInitializer, MoreInitializers}
 use Rattle.c_parser_tokens.specs.declared.terminals.Terminal.{Terminal}
 use Rattle.c_parser_tokens.specs.declared.terminals.Punctuator.TheVariants as p
-use Rattle.c_parser_expressions.specs.Expressions.{Derives, height_of}
-use Rattle.c_parser_expressions.specs.Fronts.{first_place, IsSign}
-use Rattle.c_parser_expressions.specs.Spans.{Span, Trailed, Separated}
+use Rattle.c_parser_expression_grammar.specs.Expressions.{Derives, height_of}
+use Rattle.c_parser_expression_grammar.specs.Fronts.{first_place, IsSign}
+use Rattle.c_parser_expression_grammar.specs.Spans.{Span, Trailed, Separated}
 
 abbrev pub has_item : InitializerTrees → Bool
 has_item NoInitializer = false

@@ -1,8 +1,8 @@
 -- Readers of lists, over the reader of an item.
 use Rattle.std.specs.Prelude.{ℕ, zero, suc, cond, max, List, [], ◌∷◌, Option, Some, None}
 use Rattle.c_parser_tokens.specs.declared.terminals.Terminal.{Terminal}
-use Rattle.c_parser_expressions.specs.Fronts.{first_symbol, behind_first}
-use Rattle.c_parser_expressions.specs.Readings.{is_comma, is_right_brace}
+use Rattle.c_parser_expression_grammar.specs.Fronts.{first_symbol, behind_first}
+use Rattle.c_parser_expression_grammar.specs.Readings.{is_comma, is_right_brace}
 
 -- what was read, its height, and the terminals behind it
 pub record GotItem (X : Type 0) : Type 0 where

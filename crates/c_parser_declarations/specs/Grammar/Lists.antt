@@ -2,7 +2,7 @@
 use Rattle.std.specs.Prelude.{◌≡◌, ℕ, max, List, [], ◌∷◌}
 use Rattle.c_parser_tokens.specs.declared.terminals.Terminal.{Terminal}
 use Rattle.c_parser_tokens.specs.declared.terminals.Punctuator.TheVariants as p
-use Rattle.c_parser_expressions.specs.Fronts.{IsSign}
+use Rattle.c_parser_expression_grammar.specs.Fronts.{IsSign}
 
 -- items with a comma behind each
 abbrev pub Trailed : {X : Type 0} → (X → List Terminal → List Terminal → Type 0) → List X → List Terminal → List Terminal → Type 0

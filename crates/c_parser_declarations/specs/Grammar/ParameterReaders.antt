@@ -2,9 +2,9 @@
 use Rattle.std.specs.Prelude.{ℕ, zero, suc, cond, max, length, List, [], ◌∷◌, Option, Some, None}
 use Rattle.cc_base.specs.declared.diagnostics.Place.{Place}
 use Rattle.c_layout.specs.DeclarationTrees.{NameView, DeclaratorView, ParameterView, ParametersView, NoParameters, OnlyVoid, ParameterList, FunctionDeclaratorView, SpecTree, SpecTrees, NoWord, MoreWords}
-use Rattle.c_parser_expressions.specs.Fronts.{first_symbol, first_place, behind_first, is_identifier_first}
+use Rattle.c_parser_expression_grammar.specs.Fronts.{first_symbol, first_place, behind_first, is_identifier_first}
 use Rattle.c_parser_declarations.specs.Grammar.Declarations.{begins_declarator, is_void_first}
-use Rattle.c_parser_expressions.specs.Readings.{is_left_parenthesis, is_right_parenthesis}
+use Rattle.c_parser_expression_grammar.specs.Readings.{is_left_parenthesis, is_right_parenthesis}
 use Rattle.c_parser_declarations.specs.Grammar.Items.{Item, GotItem, item_of, after_item, listed}
 use Rattle.c_parser_declarations.specs.Grammar.DeclaratorReaders.{above, name_at, parameter_declarator}
 use Rattle.c_parser_declarations.specs.Grammar.SpecifierReaders.{raised, at_height, specifiers}

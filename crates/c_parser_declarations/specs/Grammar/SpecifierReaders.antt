@@ -10,11 +10,11 @@ use Rattle.c_parser_tokens.specs.declared.terminals.Punctuator.TheVariants as p
 use Rattle.c_parser_tokens.specs.declared.terminals.Symbol.{Symbol}
 use Rattle.c_parser_tokens.specs.declared.terminals.Symbol.TheVariants as symbol
 use Rattle.c_parser_tokens.specs.declared.terminals.Terminal.{Terminal}
-use Rattle.c_parser_expressions.specs.Fronts.{first_symbol, first_place, behind_first, is_identifier_first, is_typedef_first, begins_specifiers}
-use Rattle.c_parser_expressions.specs.TypeNames.{type_word_of, storage_class, is_qualifier, is_one_type}
+use Rattle.c_parser_expression_grammar.specs.Fronts.{first_symbol, first_place, behind_first, is_identifier_first, is_typedef_first, begins_specifiers}
+use Rattle.c_parser_expression_grammar.specs.TypeNames.{type_word_of, storage_class, is_qualifier, is_one_type}
 use Rattle.c_parser_declarations.specs.Grammar.Specifiers.{counts_of}
-use Rattle.c_parser_expressions.specs.Readings.{Reading, is_left_brace}
-use Rattle.c_parser_expressions.specs.TypeNameReaders.{readers_inside}
+use Rattle.c_parser_expression_grammar.specs.Readings.{Reading, is_left_brace}
+use Rattle.c_parser_expression_grammar.specs.TypeNameReaders.{readers_inside}
 use Rattle.c_parser_declarations.specs.Grammar.Items.{Item, GotItem, item_of, after_item, braced, chained}
 use Rattle.c_parser_declarations.specs.Grammar.DeclaratorReaders.{name_at, above, declarator_list}
 

@@ -7,9 +7,9 @@ use Rattle.c_parser_tokens.specs.declared.terminals.Keyword.{Keyword}
 use Rattle.c_parser_tokens.specs.declared.terminals.Keyword.TheVariants as k
 use Rattle.c_parser_tokens.specs.declared.terminals.Punctuator.TheVariants as p
 use Rattle.c_parser_expression_grammar.specs.declared.specifier_words.SpecifierCounts.{SpecifierCounts}
-use Rattle.c_parser_expressions.specs.Expressions.{Derives, height_of}
-use Rattle.c_parser_expressions.specs.Fronts.{first_place, IsSign, IsWord, IsName, IsTypedefName}
-use Rattle.c_parser_expressions.specs.TypeNames.{type_word_of, storage_class, is_qualifier, is_one_type, no_words, with_type, with_storage, with_other}
+use Rattle.c_parser_expression_grammar.specs.Expressions.{Derives, height_of}
+use Rattle.c_parser_expression_grammar.specs.Fronts.{first_place, IsSign, IsWord, IsName, IsTypedefName}
+use Rattle.c_parser_expression_grammar.specs.TypeNames.{type_word_of, storage_class, is_qualifier, is_one_type, no_words, with_type, with_storage, with_other}
 use Rattle.c_parser_declarations.specs.Grammar.Declarators.{IsDeclarator, declarator_height}
 use Rattle.c_parser_declarations.specs.Grammar.Lists.{Trailed, Listed, highest}
 

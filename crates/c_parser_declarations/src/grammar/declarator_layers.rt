@@ -7,7 +7,7 @@ ghost use Rattle.c_parser_declarations.specs.Grammar.Declarators.{named_height, 
 ghost use Rattle.c_parser_declarations.specs.Grammar.Findings.{is_empty, IsSomething, layer_of};
 ghost use Rattle.c_parser_declarations.specs.Grammar.Answers.{as_parts, as_suffixes};
 ghost use Rattle.c_parser_declarations.specs.Grammar.DeclaratorReaders as readers;
-ghost use Rattle.c_parser_expressions.specs.ReadingResults.{Reads};
+ghost use Rattle.c_parser_expression_grammar.specs.ReadingResults.{Reads};
 ghost use Rattle.c_parser_tokens.specs.declared.terminals.Terminal.{Terminal};
 
 use c_layout::{ArraySuffix, Declarator, DeclaratorLayer, Name};

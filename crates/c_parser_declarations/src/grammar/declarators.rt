@@ -9,11 +9,11 @@ ghost use Rattle.c_parser_declarations.specs.Grammar.Specifiers.{IsNamed};
 ghost use Rattle.c_parser_declarations.specs.Grammar.Answers.{as_item, as_parts, as_suffixes};
 ghost use Rattle.c_parser_declarations.specs.Grammar.DeclaratorReaders as readers;
 ghost use Rattle.c_parser_declarations.specs.Grammar.DeclaratorReaders.{declarators_inside};
-ghost use Rattle.c_parser_expressions.specs.Fronts.{first_symbol};
-ghost use Rattle.c_parser_expressions.specs.ReadingResults.{Reads};
+ghost use Rattle.c_parser_expression_grammar.specs.Fronts.{first_symbol};
+ghost use Rattle.c_parser_expression_grammar.specs.ReadingResults.{Reads};
 ghost use Rattle.c_parser_tokens.specs.declared.terminals.Punctuator.TheVariants as p;
 ghost use Rattle.c_parser_tokens.specs.declared.terminals.Symbol.TheVariants as symbol;
-ghost use Rattle.c_parser_expressions.specs.TypeNameReaders.{readers_inside};
+ghost use Rattle.c_parser_expression_grammar.specs.TypeNameReaders.{readers_inside};
 
 use crate::grammar::declarator_layers::{
     DeclaratorParts, Suffixes, climb, declarator_of, enclosed_height, layered,

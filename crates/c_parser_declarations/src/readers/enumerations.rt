@@ -7,8 +7,8 @@ ghost use Rattle.c_parser_declarations.specs.Grammar.Findings.{FoundEnumerator, 
 ghost use Rattle.c_parser_declarations.specs.Grammar.Specifiers.{Tag};
 ghost use Rattle.c_parser_declarations.specs.Grammar.Answers.{as_item};
 ghost use Rattle.c_parser_declarations.specs.Grammar.SpecifierReaders.{optional_tag, enumerator, enumerators, enumeration};
-ghost use Rattle.c_parser_expressions.specs.ReadingResults.{Reads};
-ghost use Rattle.c_parser_expressions.specs.Fronts.{first_symbol};
+ghost use Rattle.c_parser_expression_grammar.specs.ReadingResults.{Reads};
+ghost use Rattle.c_parser_expression_grammar.specs.Fronts.{first_symbol};
 ghost use Rattle.c_parser_tokens.specs.declared.terminals.Keyword.TheVariants as k;
 ghost use Rattle.c_parser_tokens.specs.declared.terminals.Symbol.TheVariants as symbol;
 

@@ -9,7 +9,7 @@ ghost use Rattle.c_parser_declarations.specs.Grammar.DeclarationReaders as reade
 ghost use Rattle.c_parser_declarations.specs.Grammar.DeclaratorReaders.{named_declarator};
 ghost use Rattle.c_parser_declarations.specs.Grammar.Items.{after_item};
 ghost use Rattle.c_parser_declarations.specs.Grammar.ParameterReaders.{function_declarator};
-ghost use Rattle.c_parser_expressions.specs.ReadingResults.{Reads};
+ghost use Rattle.c_parser_expression_grammar.specs.ReadingResults.{Reads};
 
 use crate::grammar::named_declarator;
 use crate::readers::initializers::assigned;

@@ -8,8 +8,8 @@ ghost use Rattle.c_parser_declarations.specs.Grammar.DeclarationReaders as decla
 ghost use Rattle.c_parser_declarations.specs.Grammar.InitializerReaders as readers;
 ghost use Rattle.c_parser_declarations.specs.Grammar.InitializerReaders.{value_of};
 ghost use Rattle.c_parser_declarations.specs.Grammar.Items.{braced};
-ghost use Rattle.c_parser_expressions.specs.TypeNameReaders.{all_readers};
-ghost use Rattle.c_parser_expressions.specs.ReadingResults.{Reads};
+ghost use Rattle.c_parser_expression_grammar.specs.TypeNameReaders.{all_readers};
+ghost use Rattle.c_parser_expression_grammar.specs.ReadingResults.{Reads};
 
 use c_layout::{Declarator, Expr, InitDeclarator, Initializer};
 use c_parser_expressions::{Parsed, Reader, Scope, Trouble, assignment, inner, made};

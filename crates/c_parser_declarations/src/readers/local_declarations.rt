@@ -7,7 +7,7 @@ ghost use Rattle.c_parser_declarations.specs.Grammar.Findings.{FoundSpec, FoundL
 ghost use Rattle.c_parser_declarations.specs.Grammar.Answers.{as_item};
 ghost use Rattle.c_parser_declarations.specs.Grammar.DeclarationReaders as readers;
 ghost use Rattle.c_parser_declarations.specs.Grammar.Items.{listed};
-ghost use Rattle.c_parser_expressions.specs.ReadingResults.{Reads};
+ghost use Rattle.c_parser_expression_grammar.specs.ReadingResults.{Reads};
 
 use crate::grammar::declarator;
 use crate::readers::initializers::assigned;

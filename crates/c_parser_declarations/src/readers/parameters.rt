@@ -3,11 +3,11 @@ ghost use Rattle.std.specs.Prelude.{◌≡◌, length, map, IfOk};
 ghost use Rattle.c_layout.specs.DeclarationTrees.{ParameterList, parameter_view, parameters_view, function_declarator_view};
 ghost use Rattle.c_parser_declarations.specs.Grammar.Declarations.{IsParameter, parameter_height, is_declarator_sign, begins_declarator, is_void_word, is_closing, is_void_first};
 ghost use Rattle.c_parser_declarations.specs.Grammar.Findings.{FoundListed, FoundParameter, FoundParameterList, FoundParameters, FoundFunctionBehind};
-ghost use Rattle.c_parser_expressions.specs.Fronts.{first_symbol, behind_first};
+ghost use Rattle.c_parser_expression_grammar.specs.Fronts.{first_symbol, behind_first};
 ghost use Rattle.c_parser_declarations.specs.Grammar.Answers.{as_item};
 ghost use Rattle.c_parser_declarations.specs.Grammar.Items.{listed};
 ghost use Rattle.c_parser_declarations.specs.Grammar.ParameterReaders as readers;
-ghost use Rattle.c_parser_expressions.specs.ReadingResults.{Reads};
+ghost use Rattle.c_parser_expression_grammar.specs.ReadingResults.{Reads};
 
 use crate::grammar::parameter_declarator;
 use crate::readers::specifier_lists::{list_height, specifiers};

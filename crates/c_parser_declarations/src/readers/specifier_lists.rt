@@ -2,18 +2,18 @@
 ghost use Rattle.std.specs.Prelude.{◌≡◌, ◌+◌, ◌==◌, ◌≤◌, true, cond, List, length, map, Some, IfOk};
 ghost use Rattle.std.specs.Option.{option_map};
 ghost use Rattle.c_layout.specs.DeclarationTrees.{StructTag, StructBody, Members, TypedefName, name_view, declarator_view, spec_tree, spec_trees, member_tree, member_trees};
-ghost use Rattle.c_parser_expressions.specs.TypeNames.{is_one_type};
+ghost use Rattle.c_parser_expression_grammar.specs.TypeNames.{is_one_type};
 ghost use Rattle.c_parser_declarations.specs.Grammar.Findings.{FoundWord, FoundSpec, FoundMember, FoundMembers, PlainWord};
 ghost use Rattle.c_parser_declarations.specs.Grammar.Specifiers.{counted};
 ghost use Rattle.c_parser_declarations.specs.Grammar.Answers.{as_item};
 ghost use Rattle.c_parser_declarations.specs.Grammar.Items.{item_of};
 ghost use Rattle.c_parser_declarations.specs.Grammar.SpecifierReaders as readers;
-ghost use Rattle.c_parser_expressions.specs.ReadingResults.{Reads};
-ghost use Rattle.c_parser_expressions.specs.Fronts.{first_symbol};
+ghost use Rattle.c_parser_expression_grammar.specs.ReadingResults.{Reads};
+ghost use Rattle.c_parser_expression_grammar.specs.Fronts.{first_symbol};
 ghost use Rattle.c_parser_tokens.specs.declared.terminals.Terminal.{Terminal};
 ghost use Rattle.c_parser_declarations.specs.Grammar.DeclaratorReaders.{above};
 ghost use Rattle.c_parser_declarations.specs.Grammar.Specifiers.{counts_of};
-ghost use Rattle.c_parser_expressions.specs.TypeNames.{storage_class, type_word_of};
+ghost use Rattle.c_parser_expression_grammar.specs.TypeNames.{storage_class, type_word_of};
 
 use crate::grammar::declarator_list;
 use crate::readers::enumerations::{enumeration, optional_tag};

@@ -9,11 +9,11 @@ use Rattle.c_parser_tokens.specs.declared.terminals.Punctuator.TheVariants as p
 use Rattle.c_parser_tokens.specs.declared.terminals.Symbol.{Symbol}
 use Rattle.c_parser_tokens.specs.declared.terminals.Symbol.TheVariants as symbol
 use Rattle.c_parser_tokens.specs.declared.terminals.Terminal.{Terminal}
-use Rattle.c_parser_expressions.specs.Fronts.{first_symbol, first_text, behind_first, begins_specifiers, begins_with, is_identifier, is_specifier, is_typedef, IsWord}
-use Rattle.c_parser_expressions.specs.TypeNames.{type_word_of, storage_class, is_qualifier, is_one_type}
+use Rattle.c_parser_expression_grammar.specs.Fronts.{first_symbol, first_text, behind_first, begins_specifiers, begins_with, is_identifier, is_specifier, is_typedef, IsWord}
+use Rattle.c_parser_expression_grammar.specs.TypeNames.{type_word_of, storage_class, is_qualifier, is_one_type}
 use Rattle.c_parser_declarations.specs.Grammar.Declarations.{is_declarator_sign, begins_declarator}
 use Rattle.c_parser_declarations.specs.Grammar.Specifiers.{DeriveWord, DeriveWords, DeriveMember, DeriveMembers, counts_of, IsNamed}
-use Rattle.c_parser_expressions.specs.Readings.{is_left_brace, is_right_brace, is_right_parenthesis}
+use Rattle.c_parser_expression_grammar.specs.Readings.{is_left_brace, is_right_brace, is_right_parenthesis}
 use Rattle.c_parser_theorems.proofs.complete_expressions.Shrinking.{length_behind}
 use Rattle.c_parser_theorems.specs.CompleteDeclarations.Found.{is_end, DeclaratorEnds, SpecEnds}
 use Rattle.c_parser_theorems.proofs.complete_declarations.Enumerators.{tag_shrinks, enumerators_few}

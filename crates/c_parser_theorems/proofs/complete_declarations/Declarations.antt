@@ -7,15 +7,15 @@ use Rattle.c_parser_tokens.specs.declared.terminals.Punctuator.TheVariants as p
 use Rattle.c_parser_tokens.specs.declared.terminals.Symbol.{Symbol}
 use Rattle.c_parser_tokens.specs.declared.terminals.Symbol.TheVariants as symbol
 use Rattle.c_parser_tokens.specs.declared.terminals.Terminal.{Terminal}
-use Rattle.c_parser_expressions.specs.Fronts.{first_symbol, first_place, first_text, behind_first, is_identifier, is_typedef, is_identifier_first, IsSign}
+use Rattle.c_parser_expression_grammar.specs.Fronts.{first_symbol, first_place, first_text, behind_first, is_identifier, is_typedef, is_identifier_first, IsSign}
 use Rattle.c_parser_declarations.specs.Grammar.Declarations.{is_declarator_sign, begins_declarator, IsFunction, function_height, IsDeclared, IsInitialized, bare, init_height, local_init_height, is_object, IsLocalDeclarator, is_local_word, LocalDeclarators, IsLocal, local_height}
 use Rattle.c_parser_declarations.specs.Grammar.Declarators.{Shape, declarator_height}
 use Rattle.c_parser_declarations.specs.Grammar.Initializers.{DeriveInitializer, initializer_height}
 use Rattle.c_parser_declarations.specs.Grammar.Lists.{Listed, highest}
 use Rattle.c_parser_declarations.specs.Grammar.Specifiers.{IsNamed, IsSpec, spec_height}
 use Rattle.c_parser_theorems.proofs.unique_expressions.Levels.{below}
-use Rattle.c_parser_expressions.specs.Readings.{is_left_parenthesis}
-use Rattle.c_parser_expressions.specs.TypeNameReaders.{stars}
+use Rattle.c_parser_expression_grammar.specs.Readings.{is_left_parenthesis}
+use Rattle.c_parser_expression_grammar.specs.TypeNameReaders.{stars}
 use Rattle.c_parser_theorems.proofs.complete_expressions.Shrinking.{length_behind}
 use Rattle.c_parser_theorems.proofs.complete_expressions.Stars.{stars_are, stars_few}
 use Rattle.c_parser_theorems.specs.CompleteDeclarations.Found.{InitializerEnds, is_end, DeclaratorEnds, SpecEnds, is_comma_or_semicolon, DeclaredEnds, FindsFileDeclarators}

@@ -5,13 +5,13 @@ use Rattle.c_parser_tokens.specs.declared.terminals.Terminal.{Terminal}
 use Rattle.c_parser_tokens.specs.declared.terminals.Punctuator.TheVariants as p
 use Rattle.c_parser_tokens.specs.declared.terminals.Symbol.{Symbol}
 use Rattle.c_parser_tokens.specs.declared.terminals.Symbol.TheVariants as symbol
-use Rattle.c_parser_expressions.specs.Fronts.{first_symbol, behind_first, is_identifier, is_identifier_first, IsSign, IsName}
-use Rattle.c_parser_expressions.specs.Spans.{Chain}
-use Rattle.c_parser_expressions.specs.TypeNames.{Stars, is_one_star, is_pointer_qualifier}
+use Rattle.c_parser_expression_grammar.specs.Fronts.{first_symbol, behind_first, is_identifier, is_identifier_first, IsSign, IsName}
+use Rattle.c_parser_expression_grammar.specs.Spans.{Chain}
+use Rattle.c_parser_expression_grammar.specs.TypeNames.{Stars, is_one_star, is_pointer_qualifier}
 use Rattle.c_parser_declarations.specs.Grammar.Declarators.{IsSuffix, Core, Layers, flat, climbed, layers_height}
 use Rattle.c_parser_theorems.proofs.unique_expressions.Levels.{below}
-use Rattle.c_parser_expressions.specs.Readings.{is_left_parenthesis, is_left_bracket}
-use Rattle.c_parser_expressions.specs.TypeNameReaders.{is_star, stars, readers_inside}
+use Rattle.c_parser_expression_grammar.specs.Readings.{is_left_parenthesis, is_left_bracket}
+use Rattle.c_parser_expression_grammar.specs.TypeNameReaders.{is_star, stars, readers_inside}
 use Rattle.c_parser_theorems.proofs.complete_expressions.Shrinking.{length_behind}
 use Rattle.c_parser_theorems.proofs.complete_expressions.Stars.{NoStar, stars_are, stars_few}
 use Rattle.c_parser_theorems.specs.CompleteDeclarations.Found.{is_end, DeclaratorEnds}

@@ -6,14 +6,14 @@ use Rattle.c_parser_tokens.specs.declared.terminals.Terminal.{Terminal}
 use Rattle.c_parser_tokens.specs.declared.terminals.Punctuator.TheVariants as p
 use Rattle.c_parser_tokens.specs.declared.terminals.Symbol.{Symbol}
 use Rattle.c_parser_tokens.specs.declared.terminals.Symbol.TheVariants as symbol
-use Rattle.c_parser_expressions.specs.Expressions.{Derives, height_of}
-use Rattle.c_parser_expressions.specs.Fronts.{first_symbol, behind_first, is_identifier_first, IsSign, IsName}
+use Rattle.c_parser_expression_grammar.specs.Expressions.{Derives, height_of}
+use Rattle.c_parser_expression_grammar.specs.Fronts.{first_symbol, behind_first, is_identifier_first, IsSign, IsName}
 use Rattle.c_parser_declarations.specs.Grammar.Lists.{highest}
 use Rattle.c_parser_declarations.specs.Grammar.Specifiers.{Tag, Value, IsEnumerator, value_height, enumerator_height, Enumerators}
 use Rattle.c_parser_theorems.specs.UniqueExpressions.Endings.{EndsBefore}
 use Rattle.c_parser_theorems.proofs.unique_expressions.Levels.{below}
-use Rattle.c_parser_expressions.specs.Readings.{is_right_brace}
-use Rattle.c_parser_expressions.specs.TypeNameReaders.{names_of}
+use Rattle.c_parser_expression_grammar.specs.Readings.{is_right_brace}
+use Rattle.c_parser_expression_grammar.specs.TypeNameReaders.{names_of}
 use Rattle.c_parser_theorems.proofs.complete_expressions.Lifts.{found_inside}
 use Rattle.c_parser_theorems.proofs.complete_expressions.Shrinking.{length_behind}
 use Rattle.c_parser_theorems.proofs.complete_expressions.Takes.{takes}

@@ -4,12 +4,12 @@ use Rattle.c_layout.specs.SyntaxTrees.{Tree}
 use Rattle.c_layout.specs.DeclarationTrees.{InitializerTree, InitializerTrees, Single, Braces, NoInitializer, MoreInitializers, initializer_trees}
 use Rattle.c_parser_tokens.specs.declared.terminals.Terminal.{Terminal}
 use Rattle.c_parser_tokens.specs.declared.terminals.Punctuator.TheVariants as p
-use Rattle.c_parser_expressions.specs.Fronts.{first_symbol, behind_first, IsSign}
-use Rattle.c_parser_expressions.specs.Spans.{Span, Separated, Trailed}
+use Rattle.c_parser_expression_grammar.specs.Fronts.{first_symbol, behind_first, IsSign}
+use Rattle.c_parser_expression_grammar.specs.Spans.{Span, Separated, Trailed}
 use Rattle.c_parser_declarations.specs.Grammar.Initializers.{DeriveInitializer, DeriveItems, has_item, initializer_height, items_height}
 use Rattle.c_parser_declarations.specs.Grammar.Lists.{highest}
 use Rattle.c_parser_theorems.proofs.unique_expressions.Levels.{ends_at, below}
-use Rattle.c_parser_expressions.specs.Readings.{is_right_brace}
+use Rattle.c_parser_expression_grammar.specs.Readings.{is_right_brace}
 use Rattle.c_parser_theorems.proofs.complete_expressions.Begins.{no_left_brace, no_right_brace}
 use Rattle.c_parser_theorems.proofs.complete_expressions.Shrinking.{length_behind}
 use Rattle.c_parser_theorems.proofs.complete_expressions.TypeNames.{all_expressions_found}

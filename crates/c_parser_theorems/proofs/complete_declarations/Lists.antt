@@ -2,9 +2,9 @@
 use Rattle.std.proofs.Common.{◌≡◌, ℕ, zero, suc, ◌+◌, ◌≤◌, ◌<◌, false, max, List, [], ◌∷◌, ◌⊎◌, inl, inr, length, Some, refl, arith}
 use Rattle.c_parser_tokens.specs.declared.terminals.Terminal.{Terminal}
 use Rattle.c_parser_tokens.specs.declared.terminals.Punctuator.TheVariants as p
-use Rattle.c_parser_expressions.specs.Fronts.{first_symbol, behind_first, IsSign}
+use Rattle.c_parser_expression_grammar.specs.Fronts.{first_symbol, behind_first, IsSign}
 use Rattle.c_parser_declarations.specs.Grammar.Lists.{Listed, Trailed, highest}
-use Rattle.c_parser_expressions.specs.Readings.{is_comma, is_right_brace}
+use Rattle.c_parser_expression_grammar.specs.Readings.{is_comma, is_right_brace}
 use Rattle.c_parser_theorems.proofs.complete_expressions.Shrinking.{length_behind}
 use Rattle.c_parser_declarations.specs.Grammar.Items.{Item, item_of, listed, braced}
 

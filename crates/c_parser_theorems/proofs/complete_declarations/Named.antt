@@ -4,15 +4,15 @@ use Rattle.c_layout.specs.DeclarationTrees.{NameView, SuffixView, DeclaratorLaye
 use Rattle.c_parser_tokens.specs.declared.terminals.Terminal.{Terminal}
 use Rattle.c_parser_tokens.specs.declared.terminals.Punctuator.TheVariants as p
 use Rattle.c_parser_tokens.specs.declared.terminals.Symbol.TheVariants as symbol
-use Rattle.c_parser_expressions.specs.Fronts.{first_symbol, IsSign, IsName}
-use Rattle.c_parser_expressions.specs.Spans.{Chain}
-use Rattle.c_parser_expressions.specs.TypeNames.{Stars}
+use Rattle.c_parser_expression_grammar.specs.Fronts.{first_symbol, IsSign, IsName}
+use Rattle.c_parser_expression_grammar.specs.Spans.{Chain}
+use Rattle.c_parser_expression_grammar.specs.TypeNames.{Stars}
 use Rattle.c_parser_declarations.specs.Grammar.Declarations.{begins_declarator}
 use Rattle.c_parser_declarations.specs.Grammar.Declarators.{IsSuffix, Core, Layers, Shape, IsDeclarator, is_something, shape_height, declarator_height}
 use Rattle.c_parser_declarations.specs.Grammar.Lists.{Listed, highest}
 use Rattle.c_parser_declarations.specs.Grammar.Specifiers.{IsNamed}
-use Rattle.c_parser_expressions.specs.Readings.{is_comma}
-use Rattle.c_parser_expressions.specs.TypeNameReaders.{stars, readers_inside}
+use Rattle.c_parser_expression_grammar.specs.Readings.{is_comma}
+use Rattle.c_parser_expression_grammar.specs.TypeNameReaders.{stars, readers_inside}
 use Rattle.c_parser_theorems.proofs.complete_expressions.Shrinking.{length_behind}
 use Rattle.c_parser_theorems.proofs.complete_expressions.Stars.{stars_few}
 use Rattle.c_parser_theorems.specs.CompleteDeclarations.Found.{DeclaratorEnds}

@@ -8,15 +8,15 @@ use Rattle.c_parser_tokens.specs.declared.terminals.Punctuator.TheVariants as p
 use Rattle.c_parser_tokens.specs.declared.terminals.Symbol.{Symbol}
 use Rattle.c_parser_tokens.specs.declared.terminals.Symbol.TheVariants as symbol
 use Rattle.c_parser_tokens.specs.declared.terminals.Terminal.{Terminal}
-use Rattle.c_parser_expressions.specs.Fronts.{first_symbol, first_place, first_text, behind_first, is_identifier, is_typedef, IsSign, IsWord}
-use Rattle.c_parser_expressions.specs.TypeNames.{is_one_type}
+use Rattle.c_parser_expression_grammar.specs.Fronts.{first_symbol, first_place, first_text, behind_first, is_identifier, is_typedef, IsSign, IsWord}
+use Rattle.c_parser_expression_grammar.specs.TypeNames.{is_one_type}
 use Rattle.c_parser_declarations.specs.Grammar.Declarations.{is_declarator_sign, begins_declarator, Optional, IsParameter, parameter_by, parameter_height, is_void_type, is_only_void, is_lone_void, is_void_word, is_closing, is_void_first, Parameters, IsFunction, function_height}
 use Rattle.c_parser_declarations.specs.Grammar.Declarations as declarations
 use Rattle.c_parser_declarations.specs.Grammar.Declarators.{IsDeclarator, declarator_height}
 use Rattle.c_parser_declarations.specs.Grammar.Lists.{Listed, highest}
 use Rattle.c_parser_declarations.specs.Grammar.Specifiers.{DeriveWord, DeriveWords, IsSpec, counts_of, spec_height}
 use Rattle.c_parser_theorems.proofs.unique_expressions.Levels.{below}
-use Rattle.c_parser_expressions.specs.Readings.{is_right_parenthesis}
+use Rattle.c_parser_expression_grammar.specs.Readings.{is_right_parenthesis}
 use Rattle.c_parser_theorems.proofs.complete_expressions.Shrinking.{length_behind}
 use Rattle.c_parser_theorems.specs.CompleteDeclarations.Found.{is_end, DeclaratorEnds}
 use Rattle.c_parser_declarations.specs.Grammar.Items.{item_of}

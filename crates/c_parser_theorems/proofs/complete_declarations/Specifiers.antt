@@ -8,13 +8,13 @@ use Rattle.c_parser_tokens.specs.declared.terminals.Keyword.{Keyword}
 use Rattle.c_parser_tokens.specs.declared.terminals.Keyword.TheVariants as k
 use Rattle.c_parser_tokens.specs.declared.terminals.Punctuator.TheVariants as p
 use Rattle.c_parser_tokens.specs.declared.terminals.Terminal.{Terminal}
-use Rattle.c_parser_expressions.specs.Fronts.{first_symbol, first_place, behind_first, begins_specifiers, is_typedef_first, IsSign, IsWord, IsTypedefName}
-use Rattle.c_parser_expressions.specs.TypeNames.{type_word_of, storage_class, is_qualifier, is_one_type}
+use Rattle.c_parser_expression_grammar.specs.Fronts.{first_symbol, first_place, behind_first, begins_specifiers, is_typedef_first, IsSign, IsWord, IsTypedefName}
+use Rattle.c_parser_expression_grammar.specs.TypeNames.{type_word_of, storage_class, is_qualifier, is_one_type}
 use Rattle.c_parser_declarations.specs.Grammar.Declarators.{declarator_height}
 use Rattle.c_parser_declarations.specs.Grammar.Lists.{Listed, highest}
 use Rattle.c_parser_declarations.specs.Grammar.Specifiers.{Tag, Enumerators, IsNamed, enumerator_height, has_member, DeriveWord, DeriveWords, DeriveMember, DeriveMembers, IsSpec, counts_of, listed_height, word_height, words_height, member_height, members_height, spec_height}
 use Rattle.c_parser_theorems.proofs.unique_expressions.Levels.{below}
-use Rattle.c_parser_expressions.specs.Readings.{is_left_brace}
+use Rattle.c_parser_expression_grammar.specs.Readings.{is_left_brace}
 use Rattle.c_parser_theorems.proofs.complete_expressions.Shrinking.{length_behind}
 use Rattle.c_parser_theorems.specs.CompleteDeclarations.Found.{DeclaratorEnds, SpecEnds}
 use Rattle.c_parser_declarations.specs.Grammar.Items.{Item, item_of, chained}

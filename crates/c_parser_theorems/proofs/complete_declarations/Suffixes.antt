@@ -4,13 +4,13 @@ use Rattle.c_layout.specs.SyntaxTrees.{Tree}
 use Rattle.c_layout.specs.DeclarationTrees.{SuffixView}
 use Rattle.c_parser_tokens.specs.declared.terminals.Terminal.{Terminal}
 use Rattle.c_parser_tokens.specs.declared.terminals.Punctuator.TheVariants as p
-use Rattle.c_parser_expressions.specs.Expressions.{Derives}
-use Rattle.c_parser_expressions.specs.Fronts.{first_symbol, first_place, behind_first, IsSign}
-use Rattle.c_parser_expressions.specs.Spans.{Chain}
+use Rattle.c_parser_expression_grammar.specs.Expressions.{Derives}
+use Rattle.c_parser_expression_grammar.specs.Fronts.{first_symbol, first_place, behind_first, IsSign}
+use Rattle.c_parser_expression_grammar.specs.Spans.{Chain}
 use Rattle.c_parser_declarations.specs.Grammar.Declarators.{Length, IsSuffix, length_height, flat, climbed}
 use Rattle.c_parser_theorems.proofs.unique_expressions.Levels.{ends_at, below}
-use Rattle.c_parser_expressions.specs.Readings.{is_left_bracket}
-use Rattle.c_parser_expressions.specs.TypeNameReaders.{names_of, readers_inside}
+use Rattle.c_parser_expression_grammar.specs.Readings.{is_left_bracket}
+use Rattle.c_parser_expression_grammar.specs.TypeNameReaders.{names_of, readers_inside}
 use Rattle.c_parser_theorems.proofs.complete_expressions.Begins.{no_bracket}
 use Rattle.c_parser_theorems.proofs.complete_expressions.Lifts.{found_inside}
 use Rattle.c_parser_theorems.proofs.complete_expressions.Shrinking.{length_behind, shrinks}

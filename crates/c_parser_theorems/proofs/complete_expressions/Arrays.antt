@@ -4,15 +4,15 @@ use Rattle.c_layout.specs.SyntaxTrees.{Trees, End, More}
 use Rattle.c_layout.specs.declared.syntax_tree.expressions.Brackets.{Brackets}
 use Rattle.c_parser_tokens.specs.declared.terminals.Terminal.{Terminal}
 use Rattle.c_parser_tokens.specs.declared.terminals.Punctuator.TheVariants as p
-use Rattle.c_parser_expressions.specs.Expressions.{Derives, DeriveEach, heights_of}
-use Rattle.c_parser_expressions.specs.Fronts.{first_symbol, first_place, behind_first, IsSign}
-use Rattle.c_parser_expressions.specs.Spans.{Span}
-use Rattle.c_parser_expressions.specs.TypeNames.{greatest, Length, Arrays, length_count}
+use Rattle.c_parser_expression_grammar.specs.Expressions.{Derives, DeriveEach, heights_of}
+use Rattle.c_parser_expression_grammar.specs.Fronts.{first_symbol, first_place, behind_first, IsSign}
+use Rattle.c_parser_expression_grammar.specs.Spans.{Span}
+use Rattle.c_parser_expression_grammar.specs.TypeNames.{greatest, Length, Arrays, length_count}
 use Rattle.c_parser_theorems.proofs.unique_expressions.Levels.{ends_at}
-use Rattle.c_parser_expressions.specs.Readings.{is_left_bracket}
-use Rattle.c_parser_expressions.specs.ExpressionReaders.{NameReaders, inside}
+use Rattle.c_parser_expression_grammar.specs.Readings.{is_left_bracket}
+use Rattle.c_parser_expression_grammar.specs.ExpressionReaders.{NameReaders, inside}
 use Rattle.c_parser_theorems.specs.CompleteExpressions.Found.{AllFound}
-use Rattle.c_parser_expressions.specs.TypeNameReaders.{GotArrays, pair_at, pair, pairs}
+use Rattle.c_parser_expression_grammar.specs.TypeNameReaders.{GotArrays, pair_at, pair, pairs}
 use Rattle.c_parser_theorems.proofs.complete_expressions.Lifts.{found_inside}
 use Rattle.c_parser_theorems.proofs.complete_expressions.Begins.{no_bracket}
 use Rattle.c_parser_theorems.proofs.complete_expressions.Shrinking.{AllShrink, IsNoLonger, length_behind}

@@ -11,11 +11,11 @@ use Rattle.c_parser_tokens.specs.declared.terminals.Punctuator.{Punctuator}
 use Rattle.c_parser_tokens.specs.declared.terminals.Punctuator.TheVariants as p
 use Rattle.c_parser_tokens.specs.declared.terminals.Symbol.{Symbol}
 use Rattle.c_parser_tokens.specs.declared.terminals.Symbol.TheVariants as symbol
-use Rattle.c_parser_expressions.specs.Expressions.{Derives}
-use Rattle.c_parser_expressions.specs.Fronts.{first_symbol, behind_first, begins_specifiers, IsSign, IsName}
-use Rattle.c_parser_expressions.specs.Levels.{step_sign, unary_sign}
+use Rattle.c_parser_expression_grammar.specs.Expressions.{Derives}
+use Rattle.c_parser_expression_grammar.specs.Fronts.{first_symbol, behind_first, begins_specifiers, IsSign, IsName}
+use Rattle.c_parser_expression_grammar.specs.Levels.{step_sign, unary_sign}
 use Rattle.c_parser_theorems.proofs.unique_expressions.Levels.{level_low, logical_low}
-use Rattle.c_parser_expressions.specs.Readings.{is_right_parenthesis, is_right_bracket, is_left_brace, is_right_brace}
+use Rattle.c_parser_expression_grammar.specs.Readings.{is_right_parenthesis, is_right_bracket, is_left_brace, is_right_brace}
 use Rattle.c_parser_theorems.proofs.complete_expressions.Lifts.{BeginsPostfix}
 
 -- ---- no expression begins as specifiers do

@@ -4,14 +4,14 @@ use Rattle.cc_base.specs.declared.diagnostics.Place.{Place}
 use Rattle.c_layout.specs.SyntaxTrees.{Tree, Trees, Call, End, More}
 use Rattle.c_parser_tokens.specs.declared.terminals.Terminal.{Terminal}
 use Rattle.c_parser_tokens.specs.declared.terminals.Punctuator.TheVariants as p
-use Rattle.c_parser_expressions.specs.Expressions.{Derives, DeriveEach, height_of, heights_of}
-use Rattle.c_parser_expressions.specs.Fronts.{first_symbol, behind_first, IsSign}
-use Rattle.c_parser_expressions.specs.Spans.{Span, Separated}
-use Rattle.c_parser_expressions.specs.TypeNames.{greatest}
+use Rattle.c_parser_expression_grammar.specs.Expressions.{Derives, DeriveEach, height_of, heights_of}
+use Rattle.c_parser_expression_grammar.specs.Fronts.{first_symbol, behind_first, IsSign}
+use Rattle.c_parser_expression_grammar.specs.Spans.{Span, Separated}
+use Rattle.c_parser_expression_grammar.specs.TypeNames.{greatest}
 use Rattle.c_parser_theorems.specs.UniqueExpressions.Endings.{EndsBefore}
 use Rattle.c_parser_theorems.proofs.unique_expressions.Levels.{below, ends_at}
-use Rattle.c_parser_expressions.specs.Readings.{GotSome, got, is_right_parenthesis}
-use Rattle.c_parser_expressions.specs.ExpressionReaders.{NameReaders, some_arguments, arguments, inside}
+use Rattle.c_parser_expression_grammar.specs.Readings.{GotSome, got, is_right_parenthesis}
+use Rattle.c_parser_expression_grammar.specs.ExpressionReaders.{NameReaders, some_arguments, arguments, inside}
 use Rattle.c_parser_theorems.specs.CompleteExpressions.Found.{IsFound, AllFound}
 use Rattle.c_parser_theorems.proofs.complete_expressions.Lifts.{found_inside}
 use Rattle.c_parser_theorems.proofs.complete_expressions.Begins.{no_parenthesis}

@@ -7,15 +7,15 @@ use Rattle.c_parser_tokens.specs.declared.terminals.Terminal.{Terminal}
 use Rattle.c_parser_tokens.specs.declared.terminals.Punctuator.{Punctuator}
 use Rattle.c_parser_tokens.specs.declared.terminals.Punctuator.TheVariants as p
 use Rattle.c_parser_tokens.specs.declared.terminals.Symbol.TheVariants as symbol
-use Rattle.c_parser_expressions.specs.Expressions.{DeriveEach, height_of, heights_of}
-use Rattle.c_parser_expressions.specs.Fronts.{first_symbol, behind_first, IsSign}
-use Rattle.c_parser_expressions.specs.Spans.{Span}
-use Rattle.c_parser_expressions.specs.TypeNames.{Arrays, Layers, Stars, is_lone_star, greatest, layers_height, length_count}
+use Rattle.c_parser_expression_grammar.specs.Expressions.{DeriveEach, height_of, heights_of}
+use Rattle.c_parser_expression_grammar.specs.Fronts.{first_symbol, behind_first, IsSign}
+use Rattle.c_parser_expression_grammar.specs.Spans.{Span}
+use Rattle.c_parser_expression_grammar.specs.TypeNames.{Arrays, Layers, Stars, is_lone_star, greatest, layers_height, length_count}
 use Rattle.c_parser_theorems.proofs.unique_expressions.Levels.{below}
-use Rattle.c_parser_expressions.specs.Readings.{GotLayers, is_left_parenthesis, is_left_bracket}
-use Rattle.c_parser_expressions.specs.ExpressionReaders.{NameReaders, inside}
+use Rattle.c_parser_expression_grammar.specs.Readings.{GotLayers, is_left_parenthesis, is_left_bracket}
+use Rattle.c_parser_expression_grammar.specs.ExpressionReaders.{NameReaders, inside}
 use Rattle.c_parser_theorems.specs.CompleteExpressions.Found.{AllFound}
-use Rattle.c_parser_expressions.specs.TypeNameReaders.{is_star, stars, both, layer_height, declarator, names_of}
+use Rattle.c_parser_expression_grammar.specs.TypeNameReaders.{is_star, stars, both, layer_height, declarator, names_of}
 use Rattle.c_parser_theorems.proofs.complete_expressions.Arrays.{Fits, lengths_counted, fits_all, arrays_are, arrays_few}
 use Rattle.c_parser_theorems.proofs.complete_expressions.Shrinking.{all_shrink}
 use Rattle.c_parser_theorems.proofs.complete_expressions.Stars.{NoStar, stars_are, stars_few}

@@ -2,7 +2,7 @@
 use Rattle.std.proofs.Common.{◌≡◌, ℕ, ◌≤◌, List, refl, arith}
 use Rattle.c_layout.specs.SyntaxTrees.{Tree, Trees, Name, Number, Literal, Paren, Subscript, Call, Member, Arrow, Postfix, Prefix, Unary, SizeofExpr, SizeofType, Cast, Binary, Logical, Conditional, Assign, Comma, End, More}
 use Rattle.c_parser_theorems.proofs.unique_expressions.Levels.{level_high, level_low, logical_high, logical_low}
-use Rattle.c_parser_expressions.specs.ExpressionReaders.{NameReaders}
+use Rattle.c_parser_expression_grammar.specs.ExpressionReaders.{NameReaders}
 use Rattle.c_parser_theorems.specs.CompleteExpressions.Found.{IsFound, AllFound, FindsNames}
 use Rattle.c_parser_theorems.proofs.complete_expressions.Lifts.{own_level, no_higher}
 use Rattle.c_parser_theorems.proofs.complete_expressions.Postfixes.{IsPostfixRead, name_read, number_read, literal_read, paren_read, subscript_read, member_read, arrow_read, postfix_read, postfix_found}

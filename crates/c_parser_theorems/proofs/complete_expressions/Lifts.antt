@@ -2,11 +2,11 @@
 use Rattle.std.proofs.Common.{◌≡◌, ℕ, zero, suc, ◌≤◌, ◌<◌, false, List, Some, None, refl, arith}
 use Rattle.c_layout.specs.SyntaxTrees.{Tree, Name, Number, Literal, Paren, Subscript, Call, Member, Arrow, Postfix, Prefix, Unary, SizeofExpr, SizeofType, Cast, Binary, Logical, Conditional, Assign, Comma}
 use Rattle.c_parser_tokens.specs.declared.terminals.Terminal.{Terminal}
-use Rattle.c_parser_expressions.specs.Expressions.{Derives, height_of}
-use Rattle.c_parser_expressions.specs.Fronts.{first_symbol}
-use Rattle.c_parser_expressions.specs.Levels.{binary_level, logical_level, step_of, unary_of}
-use Rattle.c_parser_expressions.specs.Readings.{Reading, got, is_sizeof}
-use Rattle.c_parser_expressions.specs.ExpressionReaders.{NameReaders, Readers, readers_at, expression, assignment, conditional, binary, cast, unary, postfix, opens_type_name, inside}
+use Rattle.c_parser_expression_grammar.specs.Expressions.{Derives, height_of}
+use Rattle.c_parser_expression_grammar.specs.Fronts.{first_symbol}
+use Rattle.c_parser_expression_grammar.specs.Levels.{binary_level, logical_level, step_of, unary_of}
+use Rattle.c_parser_expression_grammar.specs.Readings.{Reading, got, is_sizeof}
+use Rattle.c_parser_expression_grammar.specs.ExpressionReaders.{NameReaders, Readers, readers_at, expression, assignment, conditional, binary, cast, unary, postfix, opens_type_name, inside}
 use Rattle.c_parser_theorems.specs.CompleteExpressions.Found.{Reads, Finds, IsFound}
 use Rattle.c_parser_theorems.proofs.complete_expressions.Stops.{ends_weaker, no_question, no_assign, climb_stops, commas_stop}
 

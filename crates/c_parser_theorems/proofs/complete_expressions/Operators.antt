@@ -10,14 +10,14 @@ use Rattle.c_layout.specs.declared.syntax_tree.expressions.LogicalOp.{LogicalOp}
 use Rattle.c_parser_tokens.specs.declared.terminals.Terminal.{Terminal}
 use Rattle.c_parser_tokens.specs.declared.terminals.Punctuator.{Punctuator}
 use Rattle.c_parser_expression_grammar.specs.declared.operators.Infix.TheVariants as between
-use Rattle.c_parser_expressions.specs.Expressions.{Derives, height_of}
-use Rattle.c_parser_expressions.specs.Findings.{is_unary}
-use Rattle.c_parser_expressions.specs.Fronts.{first_symbol, behind_first, IsSign}
-use Rattle.c_parser_expressions.specs.Levels.{binary_sign, binary_level, logical_sign, logical_level, assign_sign, compound_sign, assign_of, assign_of_sign}
+use Rattle.c_parser_expression_grammar.specs.Expressions.{Derives, height_of}
+use Rattle.c_parser_expression_grammar.specs.Findings.{is_unary}
+use Rattle.c_parser_expression_grammar.specs.Fronts.{first_symbol, behind_first, IsSign}
+use Rattle.c_parser_expression_grammar.specs.Levels.{binary_sign, binary_level, logical_sign, logical_level, assign_sign, compound_sign, assign_of, assign_of_sign}
 use Rattle.c_parser_theorems.specs.UniqueExpressions.Endings.{EndsBefore}
 use Rattle.c_parser_theorems.proofs.unique_expressions.Levels.{below, ends_at, edge, edge_left, edge_right, power_at, power_is, with_sign, joined_sign, becomes_sign, level_high, level_low, logical_high, logical_low}
-use Rattle.c_parser_expressions.specs.Readings.{got}
-use Rattle.c_parser_expressions.specs.ExpressionReaders.{NameReaders, readers_at, infix_from, climb, commas, binary, conditional, assignment, expression, inside}
+use Rattle.c_parser_expression_grammar.specs.Readings.{got}
+use Rattle.c_parser_expression_grammar.specs.ExpressionReaders.{NameReaders, readers_at, infix_from, climb, commas, binary, conditional, assignment, expression, inside}
 use Rattle.c_parser_theorems.specs.CompleteExpressions.Found.{Reads, Finds, IsFound}
 use Rattle.c_parser_theorems.proofs.complete_expressions.Stops.{climb_stops, commas_stop}
 use Rattle.c_parser_theorems.proofs.complete_expressions.Lifts.{own_level, raise, nothing, to_conditional, to_expression, from_conditional, found_by, found_at, found_inside}

@@ -9,15 +9,15 @@ use Rattle.c_parser_tokens.specs.declared.terminals.Terminal.{Terminal}
 use Rattle.c_parser_tokens.specs.declared.terminals.Punctuator.TheVariants as p
 use Rattle.c_parser_tokens.specs.declared.terminals.Symbol.{Symbol}
 use Rattle.c_parser_tokens.specs.declared.terminals.Symbol.TheVariants as symbol
-use Rattle.c_parser_expressions.specs.Expressions.{Derives, height_of}
-use Rattle.c_parser_expressions.specs.Fronts.{first_symbol, first_place, behind_first, is_identifier_first, IsName}
-use Rattle.c_parser_expressions.specs.Levels.{step_sign, step_of, goes_on}
-use Rattle.c_parser_expressions.specs.Continuations.{continuation_of}
+use Rattle.c_parser_expression_grammar.specs.Expressions.{Derives, height_of}
+use Rattle.c_parser_expression_grammar.specs.Fronts.{first_symbol, first_place, behind_first, is_identifier_first, IsName}
+use Rattle.c_parser_expression_grammar.specs.Levels.{step_sign, step_of, goes_on}
+use Rattle.c_parser_expression_grammar.specs.Continuations.{continuation_of}
 use Rattle.c_parser_theorems.specs.UniqueExpressions.Endings.{power}
 use Rattle.c_parser_theorems.proofs.unique_expressions.Levels.{below, ends_at, power_at}
 use Rattle.c_parser_theorems.proofs.unique_expressions.Operands.{spine}
-use Rattle.c_parser_expressions.specs.Readings.{got, is_left_parenthesis}
-use Rattle.c_parser_expressions.specs.ExpressionReaders.{NameReaders, postfix, suffixes, inside}
+use Rattle.c_parser_expression_grammar.specs.Readings.{got, is_left_parenthesis}
+use Rattle.c_parser_expression_grammar.specs.ExpressionReaders.{NameReaders, postfix, suffixes, inside}
 use Rattle.c_parser_theorems.specs.CompleteExpressions.Found.{Reads, IsFound}
 use Rattle.c_parser_theorems.proofs.complete_expressions.Stops.{suffixes_stop}
 use Rattle.c_parser_theorems.proofs.complete_expressions.Lifts.{own_level, from_postfix, found_by, found_inside}

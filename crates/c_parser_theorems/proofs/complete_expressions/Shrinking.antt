@@ -6,10 +6,10 @@ use Rattle.c_layout.specs.declared.syntax_tree.expressions.TypeNameWord.{TypeNam
 use Rattle.c_layout.specs.declared.syntax_tree.expressions.TypeNameWord.TheVariants as word
 use Rattle.c_parser_tokens.specs.declared.terminals.Terminal.{Terminal}
 use Rattle.c_parser_tokens.specs.declared.terminals.Punctuator.{Punctuator}
-use Rattle.c_parser_expressions.specs.Expressions.{Derives, DeriveEach}
-use Rattle.c_parser_expressions.specs.Fronts.{behind_first, IsSign}
-use Rattle.c_parser_expressions.specs.Spans.{Span, Separated, Chain}
-use Rattle.c_parser_expressions.specs.TypeNames.{Qualifiers, IsStar, Length, Arrays, Layers, Declarator, IsTypeName, IsTypeNameWord}
+use Rattle.c_parser_expression_grammar.specs.Expressions.{Derives, DeriveEach}
+use Rattle.c_parser_expression_grammar.specs.Fronts.{behind_first, IsSign}
+use Rattle.c_parser_expression_grammar.specs.Spans.{Span, Separated, Chain}
+use Rattle.c_parser_expression_grammar.specs.TypeNames.{Qualifiers, IsStar, Length, Arrays, Layers, Declarator, IsTypeName, IsTypeNameWord}
 
 abbrev pub IsNoLonger : List Terminal → List Terminal → Type 0
 IsNoLonger rest ts = length rest ≤ length ts

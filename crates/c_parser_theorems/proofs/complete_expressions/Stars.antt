@@ -1,9 +1,9 @@
 -- The stars of abstract declarators are read.
 use Rattle.std.proofs.Common.{◌≡◌, ℕ, zero, suc, ◌+◌, ◌≤◌, true, false, List, [], ◌∷◌, length, refl, arith}
 use Rattle.c_parser_tokens.specs.declared.terminals.Terminal.{Terminal}
-use Rattle.c_parser_expressions.specs.Fronts.{first_symbol, behind_first}
-use Rattle.c_parser_expressions.specs.TypeNames.{is_pointer_qualifier, Qualifiers, Stars}
-use Rattle.c_parser_expressions.specs.TypeNameReaders.{is_star, qualifiers, stars}
+use Rattle.c_parser_expression_grammar.specs.Fronts.{first_symbol, behind_first}
+use Rattle.c_parser_expression_grammar.specs.TypeNames.{is_pointer_qualifier, Qualifiers, Stars}
+use Rattle.c_parser_expression_grammar.specs.TypeNameReaders.{is_star, qualifiers, stars}
 use Rattle.c_parser_theorems.proofs.complete_expressions.Shrinking.{length_behind}
 
 -- no star and no qualifier of one

@@ -4,12 +4,12 @@ use Rattle.c_parser_tokens.specs.declared.terminals.Terminal.{Terminal}
 use Rattle.c_parser_tokens.specs.declared.terminals.Punctuator.TheVariants as p
 use Rattle.c_parser_tokens.specs.declared.terminals.Symbol.{Symbol}
 use Rattle.c_parser_tokens.specs.declared.terminals.Symbol.TheVariants as symbol
-use Rattle.c_parser_expressions.specs.Fronts.{first_symbol}
-use Rattle.c_parser_expressions.specs.Levels.{assign_of, goes_on, binary_level, logical_level}
-use Rattle.c_parser_expressions.specs.Continuations.{Continuation, Arguments, Index, OfObject, OfPointer, Stepped, With, Joined, Asks, Becomes, Follows, Nothing, continuation_of}
+use Rattle.c_parser_expression_grammar.specs.Fronts.{first_symbol}
+use Rattle.c_parser_expression_grammar.specs.Levels.{assign_of, goes_on, binary_level, logical_level}
+use Rattle.c_parser_expression_grammar.specs.Continuations.{Continuation, Arguments, Index, OfObject, OfPointer, Stepped, With, Joined, Asks, Becomes, Follows, Nothing, continuation_of}
 use Rattle.c_parser_theorems.specs.UniqueExpressions.Endings.{power, EndsBefore}
-use Rattle.c_parser_expressions.specs.Readings.{Got, is_question, is_comma}
-use Rattle.c_parser_expressions.specs.ExpressionReaders.{Readers, infix_of, keep_from, infix_from, climb, commas, suffixes}
+use Rattle.c_parser_expression_grammar.specs.Readings.{Got, is_question, is_comma}
+use Rattle.c_parser_expression_grammar.specs.ExpressionReaders.{Readers, infix_of, keep_from, infix_from, climb, commas, suffixes}
 
 pub ends_weaker : (l m : ℕ) (rest : List Terminal) → l ≤ m → EndsBefore l rest → EndsBefore m rest
 ends_weaker l m rest low ends = omega arith

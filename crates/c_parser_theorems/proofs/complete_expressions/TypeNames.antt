@@ -7,15 +7,15 @@ use Rattle.c_parser_tokens.specs.declared.terminals.Terminal.{Terminal}
 use Rattle.c_parser_tokens.specs.declared.terminals.Punctuator.{Punctuator}
 use Rattle.c_parser_tokens.specs.declared.terminals.Punctuator.TheVariants as p
 use Rattle.c_parser_tokens.specs.declared.terminals.Symbol.TheVariants as symbol
-use Rattle.c_parser_expressions.specs.Expressions.{DeriveEach, heights_of}
-use Rattle.c_parser_expressions.specs.Fronts.{first_symbol, begins_specifiers, IsSign}
-use Rattle.c_parser_expressions.specs.Spans.{Span}
-use Rattle.c_parser_expressions.specs.TypeNames.{Declarator, Layers, words_height, layers_height, type_name_height, is_one_type, counts_of}
+use Rattle.c_parser_expression_grammar.specs.Expressions.{DeriveEach, heights_of}
+use Rattle.c_parser_expression_grammar.specs.Fronts.{first_symbol, begins_specifiers, IsSign}
+use Rattle.c_parser_expression_grammar.specs.Spans.{Span}
+use Rattle.c_parser_expression_grammar.specs.TypeNames.{Declarator, Layers, words_height, layers_height, type_name_height, is_one_type, counts_of}
 use Rattle.c_parser_theorems.proofs.unique_expressions.Levels.{below}
 use Rattle.c_parser_theorems.proofs.unique_expressions.Scanning.{declarator_sign}
-use Rattle.c_parser_expressions.specs.ExpressionReaders.{inside}
+use Rattle.c_parser_expression_grammar.specs.ExpressionReaders.{inside}
 use Rattle.c_parser_theorems.specs.CompleteExpressions.Found.{IsFound, AllFound, FindsNames}
-use Rattle.c_parser_expressions.specs.TypeNameReaders.{named, begins_abstract, names_of}
+use Rattle.c_parser_expression_grammar.specs.TypeNameReaders.{named, begins_abstract, names_of}
 use Rattle.c_parser_theorems.proofs.complete_expressions.Declarators.{declarator_inside, declarators_read}
 use Rattle.c_parser_theorems.proofs.complete_expressions.Expressions.{expressions_found}
 use Rattle.c_parser_theorems.proofs.complete_expressions.Words.{words_are, words_few}

@@ -15,15 +15,15 @@ use Rattle.c_parser_tokens.specs.declared.terminals.Keyword.TheVariants as k
 use Rattle.c_parser_tokens.specs.declared.terminals.Terminal.{Terminal}
 use Rattle.c_parser_tokens.specs.declared.terminals.Punctuator.TheVariants as p
 use Rattle.c_parser_tokens.specs.declared.terminals.Symbol.TheVariants as symbol
-use Rattle.c_parser_expressions.specs.Expressions.{Derives, DeriveEach, height_of, heights_of}
-use Rattle.c_parser_expressions.specs.Fronts.{behind_first, begins_specifiers, is_specifier, IsSign}
-use Rattle.c_parser_expressions.specs.Levels.{step_sign, step_of, unary_sign, unary_of}
-use Rattle.c_parser_expressions.specs.Spans.{Span}
-use Rattle.c_parser_expressions.specs.TypeNames.{type_word_of, storage_class, is_qualifier, IsTypeName, IsTypeNameWord, type_name_height}
+use Rattle.c_parser_expression_grammar.specs.Expressions.{Derives, DeriveEach, height_of, heights_of}
+use Rattle.c_parser_expression_grammar.specs.Fronts.{behind_first, begins_specifiers, is_specifier, IsSign}
+use Rattle.c_parser_expression_grammar.specs.Levels.{step_sign, step_of, unary_sign, unary_of}
+use Rattle.c_parser_expression_grammar.specs.Spans.{Span}
+use Rattle.c_parser_expression_grammar.specs.TypeNames.{type_word_of, storage_class, is_qualifier, IsTypeName, IsTypeNameWord, type_name_height}
 use Rattle.c_parser_theorems.proofs.unique_expressions.Levels.{below, level_low, logical_low}
 use Rattle.c_parser_theorems.proofs.unique_expressions.WordReading.{begins_word}
-use Rattle.c_parser_expressions.specs.Readings.{is_left_parenthesis}
-use Rattle.c_parser_expressions.specs.ExpressionReaders.{NameReaders, unary, cast, opens_type_name, inside}
+use Rattle.c_parser_expression_grammar.specs.Readings.{is_left_parenthesis}
+use Rattle.c_parser_expression_grammar.specs.ExpressionReaders.{NameReaders, unary, cast, opens_type_name, inside}
 use Rattle.c_parser_theorems.specs.CompleteExpressions.Found.{Reads, IsFound, AllFound, FindsNames}
 use Rattle.c_parser_theorems.proofs.complete_expressions.Lifts.{raise, nothing, from_unary, from_cast, found_by, found_inside}
 use Rattle.c_parser_theorems.proofs.complete_expressions.Begins.{begins_postfix}

@@ -7,10 +7,10 @@ use Rattle.c_layout.specs.declared.syntax_tree.expressions.TypeNameWord.TheVaria
 use Rattle.c_parser_tokens.specs.declared.terminals.Keyword.{Keyword}
 use Rattle.c_parser_tokens.specs.declared.terminals.Keyword.TheVariants as k
 use Rattle.c_parser_tokens.specs.declared.terminals.Terminal.{Terminal}
-use Rattle.c_parser_expressions.specs.Fronts.{first_symbol, behind_first, begins_specifiers, is_identifier_first, is_typedef_first, IsName, IsTypedefName}
-use Rattle.c_parser_expressions.specs.Spans.{Chain}
-use Rattle.c_parser_expressions.specs.TypeNames.{type_word_of, storage_class, is_qualifier, IsTypeNameWord}
-use Rattle.c_parser_expressions.specs.TypeNameReaders.{name_first, word_by, words}
+use Rattle.c_parser_expression_grammar.specs.Fronts.{first_symbol, behind_first, begins_specifiers, is_identifier_first, is_typedef_first, IsName, IsTypedefName}
+use Rattle.c_parser_expression_grammar.specs.Spans.{Chain}
+use Rattle.c_parser_expression_grammar.specs.TypeNames.{type_word_of, storage_class, is_qualifier, IsTypeNameWord}
+use Rattle.c_parser_expression_grammar.specs.TypeNameReaders.{name_first, word_by, words}
 use Rattle.c_parser_theorems.proofs.complete_expressions.Unaries.{word_specifies}
 
 -- ---- one word

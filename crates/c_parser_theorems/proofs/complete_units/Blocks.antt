@@ -2,15 +2,15 @@
 use Rattle.std.proofs.Common.{◌≡◌, ℕ, zero, suc, ◌+◌, ◌≤◌, ◌<◌, Bool, true, false, not, List, [], ◌∷◌, length, Some, refl, arith, sym, ap, ◌∙◌}
 use Rattle.cc_base.specs.declared.diagnostics.Place.{Place}
 use Rattle.c_layout.specs.DeclarationTrees.{StatementTree, StatementTrees, Declaration, Label, Case, Default, Block, Expression, If, IfElse, Switch, While, Do, For, Goto, Continue, Break, Return, NoStatement, MoreStatements, statement_trees}
-use Rattle.c_parser_expressions.specs.TypeNameReaders.{readers_inside}
+use Rattle.c_parser_expression_grammar.specs.TypeNameReaders.{readers_inside}
 use Rattle.c_parser_tokens.specs.declared.terminals.Punctuator.TheVariants as p
 use Rattle.c_parser_tokens.specs.declared.terminals.Symbol.TheVariants as symbol
 use Rattle.c_parser_tokens.specs.declared.terminals.Terminal.{Terminal}
-use Rattle.c_parser_expressions.specs.Fronts.{first_symbol, first_place, behind_first, begins_specifiers, IsSign}
+use Rattle.c_parser_expression_grammar.specs.Fronts.{first_symbol, first_place, behind_first, begins_specifiers, IsSign}
 use Rattle.c_parser.specs.Findings.{is_else}
 use Rattle.c_parser.specs.Statements.{is_statement, DeriveStatement, DeriveStatements, statement_height, statements_height, IsBlock, block_height}
 use Rattle.c_parser_theorems.proofs.unique_expressions.Levels.{below}
-use Rattle.c_parser_expressions.specs.Readings.{is_left_brace}
+use Rattle.c_parser_expression_grammar.specs.Readings.{is_left_brace}
 use Rattle.c_parser_theorems.proofs.complete_expressions.Shrinking.{length_behind}
 use Rattle.c_parser_theorems.proofs.complete_expressions.Takes.{takes}
 use Rattle.c_parser_declarations.specs.Grammar.Items.{item_of}

@@ -6,8 +6,8 @@ use Rattle.c_parser_tokens.specs.declared.terminals.Punctuator.TheVariants as p
 use Rattle.c_parser_tokens.specs.declared.terminals.Symbol.{Symbol}
 use Rattle.c_parser_tokens.specs.declared.terminals.Symbol.TheVariants as symbol
 use Rattle.c_parser_tokens.specs.declared.terminals.Terminal.{Terminal}
-use Rattle.c_parser_expressions.specs.Fronts.{first_symbol, first_place, first_text, behind_first, is_identifier, is_typedef, IsSign, IsName}
-use Rattle.c_parser_expressions.specs.TypeNames.{Stars}
+use Rattle.c_parser_expression_grammar.specs.Fronts.{first_symbol, first_place, first_text, behind_first, is_identifier, is_typedef, IsSign, IsName}
+use Rattle.c_parser_expression_grammar.specs.TypeNames.{Stars}
 use Rattle.c_parser_declarations.specs.Grammar.Declarations.{is_declarator_sign, begins_declarator, IsParameter, Parameters, IsFunction, function_height, IsDeclared, IsInitialized, bare, init_height}
 use Rattle.c_parser_declarations.specs.Grammar.Lists.{highest}
 use Rattle.c_parser_declarations.specs.Grammar.Specifiers.{IsSpec, spec_height}
@@ -15,7 +15,7 @@ use Rattle.c_parser_declarations.specs.Grammar.StorageClasses as classes
 use Rattle.c_parser.specs.Externals.{with_declared, IsFileDeclarator, Further, IsExternal, external_height}
 use Rattle.c_parser.specs.Statements.{IsBlock, block_height}
 use Rattle.c_parser_theorems.proofs.unique_expressions.Levels.{below}
-use Rattle.c_parser_expressions.specs.Readings.{is_comma, is_left_brace}
+use Rattle.c_parser_expression_grammar.specs.Readings.{is_comma, is_left_brace}
 use Rattle.c_parser_theorems.proofs.complete_expressions.Shrinking.{length_behind}
 use Rattle.c_parser_theorems.proofs.complete_expressions.Stars.{stars_few}
 use Rattle.c_parser_declarations.specs.Grammar.DeclarationReaders.{file_declarator, initialized}

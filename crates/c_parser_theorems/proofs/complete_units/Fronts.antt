@@ -12,15 +12,15 @@ use Rattle.c_parser_tokens.specs.declared.terminals.Punctuator.TheVariants as p
 use Rattle.c_parser_tokens.specs.declared.terminals.Symbol.{Symbol}
 use Rattle.c_parser_tokens.specs.declared.terminals.Symbol.TheVariants as symbol
 use Rattle.c_parser_tokens.specs.declared.terminals.Terminal.{Terminal}
-use Rattle.c_parser_expressions.specs.Expressions.{Derives}
-use Rattle.c_parser_expressions.specs.Fronts.{first_symbol, first_place, first_text, behind_first, begins_specifiers, is_identifier, is_typedef, is_specifier, IsSign, IsWord, IsName}
-use Rattle.c_parser_expressions.specs.Levels.{step_sign, unary_sign}
+use Rattle.c_parser_expression_grammar.specs.Expressions.{Derives}
+use Rattle.c_parser_expression_grammar.specs.Fronts.{first_symbol, first_place, first_text, behind_first, begins_specifiers, is_identifier, is_typedef, is_specifier, IsSign, IsWord, IsName}
+use Rattle.c_parser_expression_grammar.specs.Levels.{step_sign, unary_sign}
 use Rattle.c_parser_declarations.specs.Grammar.Declarations.{IsLocalDeclarator, LocalDeclarators, IsLocal}
 use Rattle.c_parser.specs.Findings.{is_else}
 use Rattle.c_parser.specs.Statements.{Maybe, Condition, FirstClause, is_statement, DeriveStatement, DeriveStatements}
 use Rattle.c_parser_theorems.proofs.unique_expressions.Levels.{ends_at}
 use Rattle.c_parser_theorems.proofs.unique_expressions.Unique.{one_expression}
-use Rattle.c_parser_expressions.specs.Readings.{is_right_brace, is_colon}
+use Rattle.c_parser_expression_grammar.specs.Readings.{is_right_brace, is_colon}
 use Rattle.c_parser_theorems.proofs.complete_expressions.Begins.{no_specifiers, no_right_brace}
 use Rattle.c_parser_theorems.proofs.complete_expressions.Shrinking.{length_behind}
 use Rattle.c_parser_theorems.proofs.complete_expressions.Takes.{takes}

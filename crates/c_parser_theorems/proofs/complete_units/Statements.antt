@@ -9,15 +9,15 @@ use Rattle.c_parser_tokens.specs.declared.terminals.Punctuator.TheVariants as p
 use Rattle.c_parser_tokens.specs.declared.terminals.Symbol.{Symbol}
 use Rattle.c_parser_tokens.specs.declared.terminals.Symbol.TheVariants as symbol
 use Rattle.c_parser_tokens.specs.declared.terminals.Terminal.{Terminal}
-use Rattle.c_parser_expressions.specs.Expressions.{Derives, height_of}
-use Rattle.c_parser_expressions.specs.Fronts.{first_symbol, first_place, behind_first, begins_specifiers, IsSign, IsWord, IsName}
+use Rattle.c_parser_expression_grammar.specs.Expressions.{Derives, height_of}
+use Rattle.c_parser_expression_grammar.specs.Fronts.{first_symbol, first_place, behind_first, begins_specifiers, IsSign, IsWord, IsName}
 use Rattle.c_parser_declarations.specs.Grammar.Declarations.{IsLocal, local_height}
 use Rattle.c_parser.specs.Findings.{is_else}
 use Rattle.c_parser.specs.Statements.{Maybe, Condition, FirstClause, maybe_height, first_height, expression_height, statement_height}
 use Rattle.c_parser_theorems.proofs.unique_expressions.Levels.{ends_at, below}
-use Rattle.c_parser_expressions.specs.Readings.{is_left_brace, is_right_parenthesis}
-use Rattle.c_parser_expressions.specs.ExpressionReaders.{Readers}
-use Rattle.c_parser_expressions.specs.TypeNameReaders.{names_of, readers_inside}
+use Rattle.c_parser_expression_grammar.specs.Readings.{is_left_brace, is_right_parenthesis}
+use Rattle.c_parser_expression_grammar.specs.ExpressionReaders.{Readers}
+use Rattle.c_parser_expression_grammar.specs.TypeNameReaders.{names_of, readers_inside}
 use Rattle.c_parser_theorems.proofs.complete_expressions.Begins.{no_specifiers, no_left_brace, no_parenthesis}
 use Rattle.c_parser_theorems.proofs.complete_expressions.Lifts.{found_inside}
 use Rattle.c_parser_theorems.proofs.complete_expressions.TypeNames.{all_expressions_found}

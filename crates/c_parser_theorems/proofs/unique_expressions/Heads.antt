@@ -10,12 +10,12 @@ use Rattle.c_layout.specs.declared.syntax_tree.expressions.UnaryOp.TheVariants a
 use Rattle.c_parser_tokens.specs.declared.terminals.Terminal.{Terminal}
 use Rattle.c_parser_tokens.specs.declared.terminals.Punctuator.TheVariants as p
 use Rattle.c_parser_tokens.specs.declared.terminals.Symbol.TheVariants as symbol
-use Rattle.c_parser_expressions.specs.Expressions.{Derives, DeriveEach}
-use Rattle.c_parser_expressions.specs.Fronts.{first_symbol, first_place, first_text, behind_first, IsSign}
-use Rattle.c_parser_expressions.specs.Levels.{step_sign, unary_sign}
-use Rattle.c_parser_expressions.specs.Spans.{Span}
-use Rattle.c_parser_expressions.specs.TypeNames.{IsTypeName}
-use Rattle.c_parser_expressions.specs.Continuations.{Continuation, Arguments, continuation_of}
+use Rattle.c_parser_expression_grammar.specs.Expressions.{Derives, DeriveEach}
+use Rattle.c_parser_expression_grammar.specs.Fronts.{first_symbol, first_place, first_text, behind_first, IsSign}
+use Rattle.c_parser_expression_grammar.specs.Levels.{step_sign, unary_sign}
+use Rattle.c_parser_expression_grammar.specs.Spans.{Span}
+use Rattle.c_parser_expression_grammar.specs.TypeNames.{IsTypeName}
+use Rattle.c_parser_expression_grammar.specs.Continuations.{Continuation, Arguments, continuation_of}
 use Rattle.c_parser_theorems.specs.UniqueExpressions.Endings.{power}
 use Rattle.c_parser_theorems.proofs.unique_expressions.WordReading.{begins_word, type_name_is, name_weight, Named}
 use Rattle.c_parser_theorems.proofs.unique_expressions.Reading.{Reads, on, several, skip_by, trees_at, called, type_behind, size_of, cast_to, begin, climb, read}

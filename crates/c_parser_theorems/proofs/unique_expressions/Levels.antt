@@ -11,10 +11,10 @@ use Rattle.c_layout.specs.declared.syntax_tree.expressions.StepOp.{StepOp}
 use Rattle.c_layout.specs.declared.syntax_tree.expressions.StepOp.TheVariants as step
 use Rattle.c_parser_tokens.specs.declared.terminals.Terminal.{Terminal}
 use Rattle.c_parser_tokens.specs.declared.terminals.Punctuator.{Punctuator}
-use Rattle.c_parser_expressions.specs.Expressions.{Derives}
-use Rattle.c_parser_expressions.specs.Fronts.{first_symbol, IsSign}
-use Rattle.c_parser_expressions.specs.Levels.{binary_sign, binary_level, logical_sign, logical_level, step_sign, assign_sign, compound_sign}
-use Rattle.c_parser_expressions.specs.Continuations.{Continuation, Stepped, With, Joined, Becomes, continuation_of, continuation_of_sign}
+use Rattle.c_parser_expression_grammar.specs.Expressions.{Derives}
+use Rattle.c_parser_expression_grammar.specs.Fronts.{first_symbol, IsSign}
+use Rattle.c_parser_expression_grammar.specs.Levels.{binary_sign, binary_level, logical_sign, logical_level, step_sign, assign_sign, compound_sign}
+use Rattle.c_parser_expression_grammar.specs.Continuations.{Continuation, Stepped, With, Joined, Becomes, continuation_of, continuation_of_sign}
 use Rattle.c_parser_theorems.specs.UniqueExpressions.Endings.{power, EndsBefore}
 
 pub below : (a b : ℕ) → a < b → nat_lt a b ≡ true

@@ -2,9 +2,9 @@
 use Rattle.std.proofs.Common.{◌≡◌, ℕ, zero, suc, ◌+◌, ◌-◌, ◌≤◌, ◌<◌, false, List, [], ◌∷◌, Some, None, nat_lt, refl, arith, sym, ap, ◌∙◌}
 use Rattle.c_layout.specs.SyntaxTrees.{Tree, Trees, Name, Number, Literal, Paren, Subscript, Call, Member, Arrow, Postfix, Prefix, Unary, SizeofExpr, SizeofType, Cast, Binary, Logical, Conditional, Assign, Comma, End, More}
 use Rattle.c_parser_tokens.specs.declared.terminals.Terminal.{Terminal}
-use Rattle.c_parser_expressions.specs.Expressions.{Derives}
-use Rattle.c_parser_expressions.specs.Fronts.{first_symbol, behind_first}
-use Rattle.c_parser_expressions.specs.Spans.{Span, Separated}
+use Rattle.c_parser_expression_grammar.specs.Expressions.{Derives}
+use Rattle.c_parser_expression_grammar.specs.Fronts.{first_symbol, behind_first}
+use Rattle.c_parser_expression_grammar.specs.Spans.{Span, Separated}
 use Rattle.c_parser_theorems.specs.UniqueExpressions.Endings.{EndsBefore}
 use Rattle.c_parser_theorems.proofs.unique_expressions.Scanning.{Skips, AllSkipped}
 use Rattle.c_parser_theorems.proofs.unique_expressions.WordReading.{name_weight}

@@ -9,12 +9,12 @@ use Rattle.c_parser_tokens.specs.declared.terminals.Keyword.TheVariants as k
 use Rattle.c_parser_tokens.specs.declared.terminals.Symbol.{Symbol}
 use Rattle.c_parser_tokens.specs.declared.terminals.Symbol.TheVariants as symbol
 use Rattle.c_parser_tokens.specs.declared.terminals.Punctuator.TheVariants as p
-use Rattle.c_parser_expressions.specs.Fronts.{first_symbol, first_place, first_text, behind_first, is_typedef}
-use Rattle.c_parser_expressions.specs.Levels.{step_of, unary_of}
-use Rattle.c_parser_expressions.specs.Spans.{Span}
-use Rattle.c_parser_expressions.specs.Continuations.{Continuation, Arguments, Index, OfObject, OfPointer, Stepped, With, Joined, Asks, Becomes, Follows, Nothing, continuation_of}
+use Rattle.c_parser_expression_grammar.specs.Fronts.{first_symbol, first_place, first_text, behind_first, is_typedef}
+use Rattle.c_parser_expression_grammar.specs.Levels.{step_of, unary_of}
+use Rattle.c_parser_expression_grammar.specs.Spans.{Span}
+use Rattle.c_parser_expression_grammar.specs.Continuations.{Continuation, Arguments, Index, OfObject, OfPointer, Stepped, With, Joined, Asks, Becomes, Follows, Nothing, continuation_of}
 use Rattle.c_parser_theorems.specs.UniqueExpressions.Endings.{power}
-use Rattle.c_parser_expressions.specs.Levels.{binary_level, logical_level}
+use Rattle.c_parser_expression_grammar.specs.Levels.{binary_level, logical_level}
 use Rattle.c_parser_theorems.proofs.unique_expressions.Scanning.{Skip}
 use Rattle.c_parser_theorems.proofs.unique_expressions.WordReading.{Named, type_name}
 

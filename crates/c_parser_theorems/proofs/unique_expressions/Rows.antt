@@ -7,8 +7,8 @@ use Rattle.c_layout.specs.declared.syntax_tree.expressions.BinaryOp.TheVariants 
 use Rattle.c_parser_tokens.specs.declared.terminals.Punctuator.TheVariants as p
 use Rattle.c_parser_tokens.specs.declared.terminals.Symbol.TheVariants as symbol
 use Rattle.c_parser_tokens.specs.declared.terminals.Terminal.{Terminal}
-use Rattle.c_parser_expressions.specs.Expressions.{Derives}
-use Rattle.c_parser_expressions.specs.Fronts.{IsName, IsSign}
+use Rattle.c_parser_expression_grammar.specs.Expressions.{Derives}
+use Rattle.c_parser_expression_grammar.specs.Fronts.{IsName, IsSign}
 use Rattle.c_parser_theorems.specs.UniqueExpressions.Endings.{EndsBefore}
 
 abbrev at : ℕ → Place

@@ -11,10 +11,10 @@ use Rattle.c_parser_tokens.specs.declared.terminals.Keyword.TheVariants as k
 use Rattle.c_parser_tokens.specs.declared.terminals.Terminal.{Terminal}
 use Rattle.c_parser_tokens.specs.declared.terminals.Punctuator.TheVariants as p
 use Rattle.c_parser_tokens.specs.declared.terminals.Symbol.TheVariants as symbol
-use Rattle.c_parser_expressions.specs.Expressions.{DeriveEach}
-use Rattle.c_parser_expressions.specs.Fronts.{first_symbol, behind_first, IsSign}
-use Rattle.c_parser_expressions.specs.Spans.{Span, Separated}
-use Rattle.c_parser_expressions.specs.TypeNames.{type_word_of, storage_class, is_qualifier, Length, Arrays, Layers, Declarator, IsTypeName, IsTypeNameWord}
+use Rattle.c_parser_expression_grammar.specs.Expressions.{DeriveEach}
+use Rattle.c_parser_expression_grammar.specs.Fronts.{first_symbol, behind_first, IsSign}
+use Rattle.c_parser_expression_grammar.specs.Spans.{Span, Separated}
+use Rattle.c_parser_expression_grammar.specs.TypeNames.{type_word_of, storage_class, is_qualifier, Length, Arrays, Layers, Declarator, IsTypeName, IsTypeNameWord}
 use Rattle.c_parser_theorems.specs.UniqueExpressions.Endings.{EndsBefore}
 use Rattle.c_parser_theorems.proofs.unique_expressions.Scanning.{StopsAtBracket}
 use Rattle.c_parser_theorems.proofs.unique_expressions.WordReading.{BeginsWord}

@@ -7,10 +7,10 @@ use Rattle.c_layout.specs.declared.syntax_tree.expressions.BinaryOp.{BinaryOp}
 use Rattle.c_layout.specs.declared.syntax_tree.expressions.LogicalOp.{LogicalOp}
 use Rattle.c_layout.specs.declared.syntax_tree.expressions.StepOp.{StepOp}
 use Rattle.c_parser_tokens.specs.declared.terminals.Terminal.{Terminal}
-use Rattle.c_parser_expressions.specs.Expressions.{Derives}
-use Rattle.c_parser_expressions.specs.Fronts.{first_symbol, behind_first}
-use Rattle.c_parser_expressions.specs.Levels.{binary_level, logical_level}
-use Rattle.c_parser_expressions.specs.Continuations.{Continuation, Index, OfObject, OfPointer, Stepped, With, Joined, Asks, Becomes, Follows, continuation_of}
+use Rattle.c_parser_expression_grammar.specs.Expressions.{Derives}
+use Rattle.c_parser_expression_grammar.specs.Fronts.{first_symbol, behind_first}
+use Rattle.c_parser_expression_grammar.specs.Levels.{binary_level, logical_level}
+use Rattle.c_parser_expression_grammar.specs.Continuations.{Continuation, Index, OfObject, OfPointer, Stepped, With, Joined, Asks, Becomes, Follows, continuation_of}
 use Rattle.c_parser_theorems.specs.UniqueExpressions.Endings.{power}
 use Rattle.c_parser_theorems.proofs.unique_expressions.Reading.{Reads, go_on, climb, start, read}
 use Rattle.c_parser_theorems.proofs.unique_expressions.Levels.{edge, edge_left, edge_postfix, edge_right, edge_least, ends_at, power_is, below, with_sign, joined_sign, stepped_sign, becomes_sign, level_high, level_low, logical_high, logical_low}

@@ -15,9 +15,9 @@ use Rattle.c_parser_tokens.specs.declared.terminals.Symbol.{Symbol}
 use Rattle.c_parser_tokens.specs.declared.terminals.Symbol.TheVariants as symbol
 use Rattle.c_parser_tokens.specs.declared.terminals.Punctuator.{Punctuator}
 use Rattle.c_parser_tokens.specs.declared.terminals.Punctuator.TheVariants as p
-use Rattle.c_parser_expressions.specs.Fronts.{first_symbol, first_place, first_text, behind_first, is_typedef, IsSign, IsName}
-use Rattle.c_parser_expressions.specs.Spans.{Span, Chain}
-use Rattle.c_parser_expressions.specs.TypeNames.{type_word_of, storage_class, is_qualifier, IsTypeNameWord, IsTypeName, is_one_type, counts_of}
+use Rattle.c_parser_expression_grammar.specs.Fronts.{first_symbol, first_place, first_text, behind_first, is_typedef, IsSign, IsName}
+use Rattle.c_parser_expression_grammar.specs.Spans.{Span, Chain}
+use Rattle.c_parser_expression_grammar.specs.TypeNames.{type_word_of, storage_class, is_qualifier, IsTypeNameWord, IsTypeName, is_one_type, counts_of}
 use Rattle.c_parser_theorems.proofs.unique_expressions.Scanning.{Skip, Layered, StopsAtBracket, AllSkipped, declarator, declarator_is, declarator_weight, declarator_sign}
 
 -- ---- what a keyword is to a type name

@@ -7,9 +7,9 @@ use Rattle.c_parser_tokens.specs.declared.terminals.Symbol.{Symbol}
 use Rattle.c_parser_tokens.specs.declared.terminals.Symbol.TheVariants as symbol
 use Rattle.c_parser_tokens.specs.declared.terminals.Punctuator.{Punctuator}
 use Rattle.c_parser_tokens.specs.declared.terminals.Punctuator.TheVariants as p
-use Rattle.c_parser_expressions.specs.Fronts.{first_symbol, is_identifier, IsSign}
-use Rattle.c_parser_expressions.specs.Spans.{Chain}
-use Rattle.c_parser_expressions.specs.TypeNames.{Stars, is_pointer_qualifier}
+use Rattle.c_parser_expression_grammar.specs.Fronts.{first_symbol, is_identifier, IsSign}
+use Rattle.c_parser_expression_grammar.specs.Spans.{Chain}
+use Rattle.c_parser_expression_grammar.specs.TypeNames.{Stars, is_pointer_qualifier}
 use Rattle.c_parser_declarations.specs.Grammar.Declarators.{Length, IsSuffix, Core, Layers, Shape, IsDeclarator}
 use Rattle.c_parser_theorems.proofs.unique_expressions.Scanning.{NoStar, no_star, stars, stars_are, star_weight, is_star, is_left_parenthesis}
 use Rattle.c_parser_theorems.proofs.unique_expressions.Levels.{ends_at}

@@ -6,8 +6,8 @@ use Rattle.c_parser_tokens.specs.declared.terminals.Terminal.{Terminal}
 use Rattle.c_parser_tokens.specs.declared.terminals.Symbol.{Symbol}
 use Rattle.c_parser_tokens.specs.declared.terminals.Symbol.TheVariants as symbol
 use Rattle.c_parser_tokens.specs.declared.terminals.Punctuator.TheVariants as p
-use Rattle.c_parser_expressions.specs.Expressions.{Derives}
-use Rattle.c_parser_expressions.specs.Fronts.{first_symbol, IsName}
+use Rattle.c_parser_expression_grammar.specs.Expressions.{Derives}
+use Rattle.c_parser_expression_grammar.specs.Fronts.{first_symbol, IsName}
 use Rattle.c_parser_theorems.specs.UniqueExpressions.Endings.{EndsBefore}
 use Rattle.c_parser_theorems.proofs.unique_expressions.Reading.{Reads, Found, begin, read}
 use Rattle.c_parser_theorems.proofs.unique_expressions.Operands.{operand, size}

@@ -8,10 +8,10 @@ use Rattle.c_parser_tokens.specs.declared.terminals.Keyword.TheVariants as k
 use Rattle.c_parser_tokens.specs.declared.terminals.Symbol.{Symbol}
 use Rattle.c_parser_tokens.specs.declared.terminals.Symbol.TheVariants as symbol
 use Rattle.c_parser_tokens.specs.declared.terminals.Punctuator.TheVariants as p
-use Rattle.c_parser_expressions.specs.Expressions.{Derives}
-use Rattle.c_parser_expressions.specs.Fronts.{first_symbol, first_place, first_text, behind_first, is_typedef, is_identifier, IsSign, IsWord, IsName}
-use Rattle.c_parser_expressions.specs.Spans.{Span, Trailed, Separated}
-use Rattle.c_parser_expressions.specs.TypeNames.{Stars}
+use Rattle.c_parser_expression_grammar.specs.Expressions.{Derives}
+use Rattle.c_parser_expression_grammar.specs.Fronts.{first_symbol, first_place, first_text, behind_first, is_typedef, is_identifier, IsSign, IsWord, IsName}
+use Rattle.c_parser_expression_grammar.specs.Spans.{Span, Trailed, Separated}
+use Rattle.c_parser_expression_grammar.specs.TypeNames.{Stars}
 use Rattle.c_parser_declarations.specs.Grammar.Declarators.{IsDeclarator, Shape}
 use Rattle.c_parser_declarations.specs.Grammar.Declarations.{is_declarator_sign, begins_declarator, Optional, IsParameter, is_lone_void, is_only_void, is_void_type, Parameters, IsFunction, Initializes, bare, IsLocalDeclarator, LocalDeclarators, IsLocal}
 use Rattle.c_parser_declarations.specs.Grammar.Initializers.{DeriveInitializer, DeriveItems}

@@ -5,7 +5,7 @@ use Rattle.c_parser_tokens.specs.declared.terminals.Symbol.{Symbol}
 use Rattle.c_parser_tokens.specs.declared.terminals.Symbol.TheVariants as symbol
 use Rattle.c_parser_tokens.specs.declared.terminals.Punctuator.{Punctuator}
 use Rattle.c_parser_tokens.specs.declared.terminals.Punctuator.TheVariants as p
-use Rattle.c_parser_expressions.specs.Fronts.{first_symbol, behind_first, IsSign}
+use Rattle.c_parser_expression_grammar.specs.Fronts.{first_symbol, behind_first, IsSign}
 use Rattle.c_parser_declarations.specs.Grammar.Lists.{Listed, Trailed}
 use Rattle.c_parser_theorems.proofs.unique_expressions.Reading.{is_comma}
 

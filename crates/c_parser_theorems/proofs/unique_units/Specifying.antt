@@ -7,10 +7,10 @@ use Rattle.c_parser_tokens.specs.declared.terminals.Symbol.{Symbol}
 use Rattle.c_parser_tokens.specs.declared.terminals.Symbol.TheVariants as symbol
 use Rattle.c_parser_tokens.specs.declared.terminals.Punctuator.{Punctuator}
 use Rattle.c_parser_tokens.specs.declared.terminals.Punctuator.TheVariants as p
-use Rattle.c_parser_expressions.specs.Expressions.{Derives}
-use Rattle.c_parser_expressions.specs.Fronts.{first_symbol, first_text, is_typedef, is_identifier, IsSign, IsName}
-use Rattle.c_parser_expressions.specs.Spans.{Chain}
-use Rattle.c_parser_expressions.specs.TypeNames.{Stars}
+use Rattle.c_parser_expression_grammar.specs.Expressions.{Derives}
+use Rattle.c_parser_expression_grammar.specs.Fronts.{first_symbol, first_text, is_typedef, is_identifier, IsSign, IsName}
+use Rattle.c_parser_expression_grammar.specs.Spans.{Chain}
+use Rattle.c_parser_expression_grammar.specs.TypeNames.{Stars}
 use Rattle.c_parser_declarations.specs.Grammar.Declarations.{is_declarator_sign, begins_declarator}
 use Rattle.c_parser_declarations.specs.Grammar.Declarators.{IsDeclarator, Shape, Core, IsSuffix, is_something}
 use Rattle.c_parser_declarations.specs.Grammar.Lists.{Listed}

@@ -8,8 +8,8 @@ use Rattle.c_parser_tokens.specs.declared.terminals.Keyword.TheVariants as k
 use Rattle.c_parser_tokens.specs.declared.terminals.Symbol.{Symbol}
 use Rattle.c_parser_tokens.specs.declared.terminals.Symbol.TheVariants as symbol
 use Rattle.c_parser_tokens.specs.declared.terminals.Punctuator.TheVariants as p
-use Rattle.c_parser_expressions.specs.Expressions.{Derives}
-use Rattle.c_parser_expressions.specs.Fronts.{first_symbol, first_place, first_text, behind_first, is_typedef, IsSign, IsWord}
+use Rattle.c_parser_expression_grammar.specs.Expressions.{Derives}
+use Rattle.c_parser_expression_grammar.specs.Fronts.{first_symbol, first_place, first_text, behind_first, is_typedef, IsSign, IsWord}
 use Rattle.c_parser.specs.Statements.{Maybe, DeriveStatement}
 use Rattle.c_parser_theorems.proofs.unique_expressions.Levels.{ends_at}
 use Rattle.c_parser_theorems.proofs.unique_expressions.Reading.{Reads, climb, read}

@@ -9,8 +9,8 @@ use Rattle.c_parser_tokens.specs.declared.terminals.Keyword.TheVariants as k
 use Rattle.c_parser_tokens.specs.declared.terminals.Symbol.{Symbol}
 use Rattle.c_parser_tokens.specs.declared.terminals.Symbol.TheVariants as symbol
 use Rattle.c_parser_tokens.specs.declared.terminals.Punctuator.TheVariants as p
-use Rattle.c_parser_expressions.specs.Expressions.{Derives}
-use Rattle.c_parser_expressions.specs.Fronts.{first_symbol, behind_first, IsSign, IsWord, IsName}
+use Rattle.c_parser_expression_grammar.specs.Expressions.{Derives}
+use Rattle.c_parser_expression_grammar.specs.Fronts.{first_symbol, behind_first, IsSign, IsWord, IsName}
 use Rattle.c_parser_declarations.specs.Grammar.Declarations.{IsLocal}
 use Rattle.c_parser.specs.Statements.{Maybe, Condition, FirstClause, is_open, DeriveStatement, DeriveStatements, IsBlock}
 use Rattle.c_parser_theorems.specs.UniqueUnits.StatementEnds.{is_else, TakesNoElse}

@@ -6,7 +6,7 @@ use Rattle.c_layout.specs.DeclarationTrees.{FunctionDeclaratorView, InitDeclarat
 use Rattle.c_parser_tokens.specs.declared.terminals.Terminal.{Terminal}
 use Rattle.c_parser_tokens.specs.declared.terminals.Symbol.TheVariants as symbol
 use Rattle.c_parser_tokens.specs.declared.terminals.Punctuator.TheVariants as p
-use Rattle.c_parser_expressions.specs.Fronts.{IsSign}
+use Rattle.c_parser_expression_grammar.specs.Fronts.{IsSign}
 use Rattle.c_parser_declarations.specs.Grammar.Declarations.{begins_declarator, IsFunction, bare, name_of}
 use Rattle.c_parser_declarations.specs.Grammar.StorageClasses.{is_typedef}
 use Rattle.c_parser_tokens.specs.Classes.{classified}

@@ -6,13 +6,13 @@ use Rattle.c_parser_tokens.specs.declared.terminals.Punctuator.TheVariants as p
 use Rattle.c_parser_tokens.specs.declared.terminals.Symbol.{Symbol}
 use Rattle.c_parser_tokens.specs.declared.terminals.Symbol.TheVariants as symbol
 use Rattle.c_parser_tokens.specs.declared.terminals.Terminal.{Terminal}
-use Rattle.c_parser_expressions.specs.Fronts.{first_symbol, begins_specifiers}
+use Rattle.c_parser_expression_grammar.specs.Fronts.{first_symbol, begins_specifiers}
 use Rattle.c_parser_declarations.specs.Grammar.Declarations.{IsDeclared, IsInitialized, bare, init_height, IsLocal, local_height}
 use Rattle.c_parser_declarations.specs.Grammar.Declarators.{IsDeclarator, declarator_height}
 use Rattle.c_parser_declarations.specs.Grammar.Initializers.{DeriveInitializer, initializer_height}
 use Rattle.c_parser_declarations.specs.Grammar.Specifiers.{IsNamed, IsSpec, spec_height}
 use Rattle.c_parser_theorems.specs.UniqueExpressions.Endings.{EndsBefore}
-use Rattle.c_parser_expressions.specs.Readings.{is_left_brace}
+use Rattle.c_parser_expression_grammar.specs.Readings.{is_left_brace}
 use Rattle.c_parser_declarations.specs.Grammar.Items.{item_of}
 use Rattle.c_parser_declarations.specs.Grammar.DeclarationReaders.{file_declarator, initialized, local_declaration}
 use Rattle.c_parser_declarations.specs.Grammar.DeclaratorReaders.{declarator, parameter_declarator}

@@ -3,13 +3,13 @@ use Rattle.std.specs.Prelude.{◌≡◌, ◌≤◌, ◌<◌, ℕ, zero, suc, Lis
 use Rattle.c_layout.specs.SyntaxTrees.{Tree, Trees, End, More, TypeNameView}
 use Rattle.c_parser_tokens.specs.declared.terminals.Punctuator.TheVariants as p
 use Rattle.c_parser_tokens.specs.declared.terminals.Terminal.{Terminal}
-use Rattle.c_parser_expressions.specs.Expressions.{Derives, DeriveEach, height_of, heights_of}
-use Rattle.c_parser_expressions.specs.Fronts.{IsSign}
-use Rattle.c_parser_expressions.specs.Spans.{Span}
-use Rattle.c_parser_expressions.specs.TypeNames.{IsTypeName, type_name_height}
+use Rattle.c_parser_expression_grammar.specs.Expressions.{Derives, DeriveEach, height_of, heights_of}
+use Rattle.c_parser_expression_grammar.specs.Fronts.{IsSign}
+use Rattle.c_parser_expression_grammar.specs.Spans.{Span}
+use Rattle.c_parser_expression_grammar.specs.TypeNames.{IsTypeName, type_name_height}
 use Rattle.c_parser_theorems.specs.UniqueExpressions.Endings.{EndsBefore}
-use Rattle.c_parser_expressions.specs.Readings.{Reading, got}
-use Rattle.c_parser_expressions.specs.ExpressionReaders.{NameReaders, Readers, no_readers, readers, inside}
+use Rattle.c_parser_expression_grammar.specs.Readings.{Reading, got}
+use Rattle.c_parser_expression_grammar.specs.ExpressionReaders.{NameReaders, Readers, no_readers, readers, inside}
 
 -- an expression of a level and of a height below the bound is what the reader answers
 abbrev pub Reads : List (List ℕ) → (List Terminal → Reading) → ℕ → ℕ → Tree → Type 0

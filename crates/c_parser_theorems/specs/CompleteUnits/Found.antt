@@ -8,7 +8,7 @@ use Rattle.c_layout.specs.declared.data_model.Model.{Model}
 use Rattle.c_layout.specs.DeclarationTrees.{StatementTree, ExternalTree, statement_trees}
 use Rattle.c_parser_tokens.specs.Classes.{classified}
 use Rattle.c_parser_tokens.specs.declared.terminals.Terminal.{Terminal}
-use Rattle.c_parser_expressions.specs.Fronts.{first_symbol}
+use Rattle.c_parser_expression_grammar.specs.Fronts.{first_symbol}
 use Rattle.c_parser.specs.Externals.{in_force_behind, IsExternal, external_height, ArePieces, IsUnit}
 use Rattle.c_parser.specs.Findings.{is_else}
 use Rattle.c_parser.specs.Pieces.{piece_length}

@@ -1,9 +1,9 @@
 -- Where an expression ends: which symbols go on with an operand.
 use Rattle.std.specs.Prelude.{ℕ, ◌+◌, ◌≤◌, List, min}
 use Rattle.c_parser_tokens.specs.declared.terminals.Terminal.{Terminal}
-use Rattle.c_parser_expressions.specs.Continuations.{Continuation, Arguments, Index, OfObject, OfPointer, Stepped, With, Joined, Asks, Becomes, Follows, Nothing, continuation_of}
-use Rattle.c_parser_expressions.specs.Fronts.{first_symbol}
-use Rattle.c_parser_expressions.specs.Levels.{binary_level, logical_level}
+use Rattle.c_parser_expression_grammar.specs.Continuations.{Continuation, Arguments, Index, OfObject, OfPointer, Stepped, With, Joined, Asks, Becomes, Follows, Nothing, continuation_of}
+use Rattle.c_parser_expression_grammar.specs.Fronts.{first_symbol}
+use Rattle.c_parser_expression_grammar.specs.Levels.{binary_level, logical_level}
 
 -- the least level above those at which it goes on; 0 for what begins nothing
 abbrev pub power : Continuation → ℕ

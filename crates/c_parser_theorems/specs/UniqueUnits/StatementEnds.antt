@@ -5,7 +5,7 @@ use Rattle.c_parser_tokens.specs.declared.terminals.Keyword.TheVariants as k
 use Rattle.c_parser_tokens.specs.declared.terminals.Symbol.{Symbol}
 use Rattle.c_parser_tokens.specs.declared.terminals.Symbol.TheVariants as symbol
 use Rattle.c_parser_tokens.specs.declared.terminals.Terminal.{Terminal}
-use Rattle.c_parser_expressions.specs.Fronts.{first_symbol}
+use Rattle.c_parser_expression_grammar.specs.Fronts.{first_symbol}
 use Rattle.c_parser.specs.Statements.{is_open}
 
 abbrev pub is_else : Symbol → Bool

@@ -2,7 +2,7 @@
 ghost use Rattle.std.specs.Prelude.{◌≡◌, ℕ, List};
 ghost use Rattle.c_layout.specs.SyntaxTrees.{Tree};
 ghost use Rattle.c_parser_tokens.specs.declared.terminals.Terminal.{Terminal};
-ghost use Rattle.c_parser_expressions.specs.Expressions.{Derives};
+ghost use Rattle.c_parser_expression_grammar.specs.Expressions.{Derives};
 ghost use Rattle.c_parser_theorems.specs.UniqueExpressions.Endings.{EndsBefore};
 
 /// Two expressions that derive from the same terminals, at a level, are the same and leave the same, where no

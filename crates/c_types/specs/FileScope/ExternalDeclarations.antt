@@ -14,7 +14,7 @@ use Rattle.c_types_scopes.specs.Answers.{after}
 use Rattle.c_types_scopes.specs.States.{State, with_name}
 use Rattle.c_types_scopes.specs.declared.meanings.Meaning.{Meaning}
 use Rattle.c_types_scopes.specs.declared.meanings.Meaning.TheVariants as meaning
-use Rattle.c_types_declarations.specs.Initialized.{InitializedView}
+use Rattle.c_types_initializers.specs.Initialized.{InitializedView}
 use Rattle.c_types_declarations.specs.Declarators.{declared_type}
 use Rattle.c_types_declarations.specs.Specifiers.{SpecifiedView, is_library_name}
 use Rattle.c_types_declarations.specs.SpecifierTrees.{specifiers}

@@ -22,7 +22,7 @@ use Rattle.c_types_operands.specs.Operands.{OperandForm, AsValue, AsLvalue, Oper
 use Rattle.c_types_primary.specs.Calls as calls
 use Rattle.c_types_primary.specs.Calls.{called, called_with, converted_arguments, each_formatted, formatted, formatted_arguments, is_wanted, literal_bytes, promoted_argument, takes_format}
 use Rattle.c_types_primary.specs.Lists.{with_first, if_first}
-use Rattle.c_types_primary.specs.PrintfFormats.{wanted_by}
+use Rattle.c_library.specs.Formats.PrintfFormats.{wanted_by}
 use Rattle.c_types_primary.specs.Primaries.{no_number}
 use Rattle.c_types_primary.specs.declared.calls.Callee.{Callee}
 use Rattle.c_types_primary.specs.declared.calls.Callee.TheVariants as callee

@@ -29,7 +29,7 @@ use Rattle.c_types_primary.specs.Primaries.{library_named, meaning_of}
 use Rattle.c_types_primary.specs.Members as members
 use Rattle.c_types_primary.specs.Calls as calls
 use Rattle.c_types_primary.specs.Lists.{if_first}
-use Rattle.c_types_primary.specs.PrintfFormats.{wanted_by}
+use Rattle.c_library.specs.Formats.PrintfFormats.{wanted_by}
 use Rattle.c_types_primary.specs.TypeNames.{named_type}
 use Rattle.c_types_primary.specs.declared.calls.Callee.{Callee}
 use Rattle.c_types_primary.specs.declared.calls.Callee.TheVariants as callee

@@ -8,9 +8,9 @@ use Rattle.c_layout.specs.declared.data_model.Model.{Model}
 use Rattle.c_parser_tokens.specs.declared.terminals.Terminal.{Terminal}
 use Rattle.c_parser_tokens.specs.declared.terminals.Keyword.TheVariants as k
 use Rattle.c_parser_tokens.specs.declared.terminals.Punctuator.TheVariants as p
-use Rattle.c_parser_expressions.specs.Fronts.{IsSign}
-use Rattle.c_parser_expressions.specs.Spans as spans
-use Rattle.c_parser_expressions.specs.Spans.{Span, Separated, Chain}
+use Rattle.c_parser_expression_grammar.specs.Fronts.{IsSign}
+use Rattle.c_parser_expression_grammar.specs.Spans as spans
+use Rattle.c_parser_expression_grammar.specs.Spans.{Span, Separated, Chain}
 use Rattle.c_parser_declarations.specs.Grammar.Declarators.{Length, IsSuffix, Core, Layers, Shape, IsDeclarator}
 use Rattle.c_parser_declarations.specs.Grammar.Declarations.{Optional, IsParameter, Parameters, IsFunction, IsDeclared, IsInitialized, Initializes, IsLocalDeclarator, LocalDeclarators, IsLocal}
 use Rattle.c_parser_declarations.specs.Grammar.Initializers.{DeriveInitializer, DeriveItems}

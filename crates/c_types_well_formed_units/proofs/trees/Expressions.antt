@@ -12,10 +12,10 @@ use Rattle.c_parser_tokens.specs.declared.terminals.Keyword.TheVariants as k
 use Rattle.c_parser_tokens.specs.declared.terminals.Punctuator.TheVariants as p
 use Rattle.c_parser_tokens.specs.declared.terminals.Symbol.{Symbol}
 use Rattle.c_parser_tokens.specs.declared.terminals.Symbol.TheVariants as symbol
-use Rattle.c_parser_expressions.specs.Expressions.{Derives, DeriveEach}
-use Rattle.c_parser_expressions.specs.Fronts.{first_symbol, first_text, IsConstant, IsLiteral}
-use Rattle.c_parser_expressions.specs.Spans.{Span, Separated, Chain}
-use Rattle.c_parser_expressions.specs.TypeNames.{IsTypeNameWord, IsTypeName, IsBrackets, Arrays, Layers, Declarator, Length}
+use Rattle.c_parser_expression_grammar.specs.Expressions.{Derives, DeriveEach}
+use Rattle.c_parser_expression_grammar.specs.Fronts.{first_symbol, first_text, IsConstant, IsLiteral}
+use Rattle.c_parser_expression_grammar.specs.Spans.{Span, Separated, Chain}
+use Rattle.c_parser_expression_grammar.specs.TypeNames.{IsTypeNameWord, IsTypeName, IsBrackets, Arrays, Layers, Declarator, Length}
 use Rattle.c_layout.specs.ByteTexts.{are_bytes}
 use Rattle.c_types_well_formed.specs.WellFormed.ProperTrees.{IsProperConstant, IsProperLiteral, IsProperTree, AreProperTrees}
 use Rattle.c_types_well_formed_units.specs.Trees.ByteTokens.{AreProperTerminals}

@@ -5,8 +5,8 @@ use Rattle.c_layout.specs.declared.data_model.Model.{Model}
 use Rattle.c_parser_tokens.specs.declared.terminals.Terminal.{Terminal}
 use Rattle.c_parser_tokens.specs.declared.terminals.Keyword.{Keyword}
 use Rattle.c_parser_tokens.specs.declared.terminals.Punctuator.{Punctuator}
-use Rattle.c_parser_expressions.specs.Fronts.{behind_first, IsSign, IsWord, IsName, IsTypedefName}
-use Rattle.c_parser_expressions.specs.TypeNames.{Qualifiers, IsStar, Stars}
+use Rattle.c_parser_expression_grammar.specs.Fronts.{behind_first, IsSign, IsWord, IsName, IsTypedefName}
+use Rattle.c_parser_expression_grammar.specs.TypeNames.{Qualifiers, IsStar, Stars}
 use Rattle.c_types_well_formed_units.specs.Trees.ByteTokens.{AreProperTerminals}
 
 module _ (m : Model) where

@@ -12,8 +12,8 @@ use Rattle.c_parser_tokens.specs.declared.terminals.Punctuator.{Punctuator}
 use Rattle.c_parser_tokens.specs.declared.terminals.Punctuator.TheVariants as p
 use Rattle.c_parser_tokens.specs.declared.terminals.Terminal.{Terminal}
 use Rattle.c_parser_tokens.specs.Classes.{classified}
-use Rattle.c_parser_expressions.specs.Expressions.{Derives}
-use Rattle.c_parser_expressions.specs.Fronts.{IsSign, IsWord, IsConstant}
+use Rattle.c_parser_expression_grammar.specs.Expressions.{Derives}
+use Rattle.c_parser_expression_grammar.specs.Fronts.{IsSign, IsWord, IsConstant}
 use Rattle.c_parser.specs.Externals.{ArePieces, IsUnit}
 use Rattle.c_parser.specs.Statements.{DeriveStatement, IsBlock}
 use Rattle.cli_examples.specs.Units.WorkedPlaces.{at}

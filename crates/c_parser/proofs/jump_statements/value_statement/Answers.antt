@@ -2,7 +2,7 @@ use Rattle.c_parser.proofs.Jumps.{null_found, value_found}
 use Rattle.std.proofs.lemmas.Result.{err_from_is_err_and}
 use Rattle.c_parser_declarations.proofs.readers.Signs.{no_semicolon}
 use Rattle.c_parser.proofs.Stepping.{in_readers, value_none, value_unended, value_is}
-use Rattle.c_parser_expressions.specs.TypeNameReaders.{readers_inside}
+use Rattle.c_parser_expression_grammar.specs.TypeNameReaders.{readers_inside}
 use Rattle.c_parser.proofs.jump_statements.value_statement.Goals as goal
 
 pub returns-then-accept-clause-found : goal.returns-then-accept-clause-found

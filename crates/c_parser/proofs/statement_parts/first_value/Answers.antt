@@ -3,7 +3,7 @@ use Rattle.c_parser.proofs.Parts.{no_clause, clause}
 use Rattle.std.proofs.lemmas.Result.{err_from_is_err_and}
 use Rattle.c_parser_declarations.proofs.readers.Signs.{no_semicolon}
 use Rattle.c_parser.proofs.Stepping.{first_unended}
-use Rattle.c_parser_expressions.specs.TypeNameReaders.{all_readers}
+use Rattle.c_parser_expression_grammar.specs.TypeNameReaders.{all_readers}
 use Rattle.c_parser.proofs.statement_parts.first_value.Goals as goal
 
 pub returns-then-accept-clause-found : goal.returns-then-accept-clause-found

@@ -12,10 +12,10 @@ use Rattle.c_parser_declarations.proofs.grammar.Listing.{map_snoc}
 use Rattle.c_parser.proofs.Stepping.{label_is, label_off, label_nameless, case_none, case_uncolon, case_is, default_uncolon, default_is, if_none, if_first, if_alone, if_second, switch_none, switch_is, while_none, while_is, do_body, do_unended, do_test, do_is, do_off, for_first_at, for_unopened, for_test_at, for_step_at, for_body_at, block_is}
 use Rattle.c_parser_declarations.proofs.grammar.Reading.{raised_is, raised_none}
 use Rattle.c_parser_declarations.specs.Grammar.SpecifierReaders.{is_semicolon}
-use Rattle.c_parser_expressions.specs.Readings.{is_right_parenthesis}
+use Rattle.c_parser_expression_grammar.specs.Readings.{is_right_parenthesis}
 use Rattle.c_parser_declarations.specs.Grammar.Answers.{as_item}
 use Rattle.c_parser_declarations.specs.Grammar.Items.{item_of}
-use Rattle.c_parser_expressions.specs.TypeNameReaders.{readers_inside}
+use Rattle.c_parser_expression_grammar.specs.TypeNameReaders.{readers_inside}
 use Rattle.c_parser.specs.StatementReaders.{statement_inside}
 use Rattle.c_parser.proofs.statements.+statements.Goals as goal
 

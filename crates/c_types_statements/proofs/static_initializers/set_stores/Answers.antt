@@ -1,7 +1,7 @@
 use Rattle.std.proofs.Common.{ap, refl}
 use Rattle.c_layout.specs.CheckedUnits.{static_view}
 use Rattle.c_types_scopes.specs.States.{State, state}
-use Rattle.c_types_declarations.specs.StaticStores.{stores_view}
+use Rattle.c_types_initializers.specs.StaticStores.{stores_view}
 use Rattle.c_types_statement_rules.proofs.objects.InPlace.{changed_in}
 use Rattle.c_types_statements.specs.StaticInitializers.{stored_static}
 use Rattle.c_types_statements.proofs.static_initializers.set_stores.Goals as goal

@@ -1,7 +1,7 @@
 use Rattle.std.proofs.Common.{map, length}
 use Rattle.c_layout.specs.DeclarationTrees.{suffix_view}
 use Rattle.c_parser_declarations.specs.Grammar.Findings.{FoundSuffixes}
-use Rattle.c_parser_expressions.specs.TypeNameReaders.{readers_inside}
+use Rattle.c_parser_expression_grammar.specs.TypeNameReaders.{readers_inside}
 use Rattle.c_parser_declarations.specs.Grammar.DeclaratorReaders.{suffixes}
 use Rattle.c_parser_declarations.proofs.grammar.Turns.{SuffixesLeft}
 use Rattle.c_parser_declarations.proofs.grammar.declarators.suffixes.Given as goal

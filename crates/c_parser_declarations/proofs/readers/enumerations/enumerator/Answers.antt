@@ -3,7 +3,7 @@ use Rattle.c_parser_declarations.proofs.readers.Words.{name_only, with_value}
 use Rattle.std.proofs.Common.{None, Some, ◌∙◌}
 use Rattle.std.proofs.lemmas.Result.{err_from_is_err_and}
 use Rattle.c_layout.specs.SyntaxTrees.{tree_of}
-use Rattle.c_parser_expressions.specs.Readings.{got}
+use Rattle.c_parser_expression_grammar.specs.Readings.{got}
 use Rattle.c_parser_declarations.proofs.grammar.Reading.{enumerator_is, raised_is}
 use Rattle.c_parser_declarations.proofs.readers.enumerations.enumerator.Goals as goal
 

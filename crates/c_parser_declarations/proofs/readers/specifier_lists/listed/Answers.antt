@@ -1,7 +1,7 @@
 use Rattle.std.proofs.Common.{None, Some, map, ◌∙◌, ap, sym}
 use Rattle.std.proofs.lemmas.Result.{err_from_is_err_and}
 use Rattle.c_layout.specs.DeclarationTrees.{spec_tree}
-use Rattle.c_parser_expressions.specs.TypeNames.{is_one_type}
+use Rattle.c_parser_expression_grammar.specs.TypeNames.{is_one_type}
 use Rattle.c_parser_declarations.proofs.grammar.Layers.{mapped_length}
 use Rattle.c_parser_declarations.proofs.grammar.Reading.{judged_is, len_is}
 use Rattle.c_parser_declarations.proofs.readers.specifier_lists.listed.Goals as goal
