@@ -4,3 +4,5 @@ pub mod UnrolledRuns
 pub mod LeastMaps
 pub mod UnrolledDiagnostics
 pub mod AnalysisViews
+pub use Rattle.analysis.specs.Analyses
+pub use Rattle.analysis.specs.CheckedPrograms

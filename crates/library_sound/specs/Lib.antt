@@ -7,3 +7,7 @@ pub mod Texts
 pub mod BoundedTexts
 pub mod Appends
 pub mod Lines
+pub use Rattle.transfer_sound.specs.Values.OperandTypes
+pub use Rattle.transfer_sound.specs.Values.SoundSteps
+pub use Rattle.transfer_sound.specs.InvariantMaps.CarriedMaps
+pub use Rattle.transfer_sound.specs.OwnLists

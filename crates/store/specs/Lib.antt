@@ -3,3 +3,13 @@ pub mod Loads
 pub mod Stores
 pub mod Spelling
 pub mod StoreLengths
+pub use Rattle.store_objects.specs.Freeing
+pub use Rattle.store_objects.specs.LiveBases
+pub use Rattle.store_objects.specs.ObjectLives
+pub use Rattle.store_cells.specs.AccessWindows
+pub use Rattle.store_cells.specs.FirstZeroWrites
+pub use Rattle.store_cells.specs.NearValues
+pub use Rattle.store_cells.specs.RowPositions
+pub use Rattle.store_cells.specs.Walks
+pub use Rattle.store_cells.specs.declared.access_windows.Window
+pub use Rattle.store_cells.specs.ScalarTypes

@@ -18,7 +18,7 @@ use Rattle.store_cells.specs.RowPositions.{leaf_position, class_position, value_
 use Rattle.store.specs.LeafSelection.{meets_padding}
 use Rattle.store_cells.specs.CellReads.{joined, whole_range, as_read, as_stored, byte_read}
 use Rattle.store_cells.specs.ByteWrites.{byte_written}
-use Rattle.store_objects.specs.LiveBases.{has_base}
+use Rattle.store.specs.LiveBases.{has_base}
 use Rattle.store.specs.Loads.{joined_if}
 use Rattle.store_struct_leaves.specs.declared.copy_places.Span.{Span}
 use Rattle.store_struct_leaves.specs.declared.leaf_copies.LeafAccess.{LeafAccess}

@@ -19,7 +19,7 @@ use Rattle.store_cells.specs.NearValues.{near_value}
 use Rattle.store_cells.specs.RowPositions.{capped, leaf_position, class_position, zero_position, join_value, write_value, put_zero}
 use Rattle.store_cells.specs.CellReads.{as_stored}
 use Rattle.store_cells.specs.ByteWrites.{byte_written}
-use Rattle.store_objects.specs.LiveBases.{has_base}
+use Rattle.store.specs.LiveBases.{has_base}
 use Rattle.store_cells.specs.RowLengths.{walk_keeps, turns_keep, cond_keeps, some_keeps, join_value_keeps, write_value_keeps}
 use Rattle.store_struct_leaves.specs.declared.leaf_copies.LeafAccess.{LeafAccess}
 use Rattle.store_struct_leaves.specs.CopyPlaces.{is_reached, is_touched}

@@ -15,7 +15,7 @@ use Rattle.store_cells.specs.declared.access_windows.Window.{Window}
 use Rattle.store_cells.specs.Walks.{walk, turns}
 use Rattle.store_cells.specs.RowPositions.{capped}
 use Rattle.store_cells.specs.AccessWindows.{window_of, window_is_one}
-use Rattle.store_objects.specs.LiveBases.{has_base, is_one_instance}
+use Rattle.store.specs.LiveBases.{has_base, is_one_instance}
 use Rattle.store_struct_leaves.specs.declared.leaf_copies.LeafAccess.{LeafAccess}
 use Rattle.store_structs.specs.declared.struct_copy.Route as code
 use Rattle.store_struct_leaves.specs.CopyPlaces.{span_of_leaf}

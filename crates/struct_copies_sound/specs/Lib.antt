@@ -5,3 +5,6 @@ pub mod Structs
 pub mod OrderedStructs
 pub mod Memory
 pub mod Copies
+pub use Rattle.memory_calls_sound.specs.Allocations.AllocationCalls
+pub use Rattle.memory_calls_sound.specs.Reallocations.ReallocationCalls
+pub use Rattle.memory_calls_sound.specs.SpellSteps

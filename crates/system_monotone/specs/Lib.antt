@@ -2,3 +2,11 @@ pub mod LibraryWrites
 pub mod StructCopies
 pub mod Systems
 pub mod Diagnostics
+pub use Rattle.transfer_monotone.specs.Edges.FilledRows
+pub use Rattle.transfer_monotone.specs.Edges.ProgramLaws
+pub use Rattle.transfer_monotone.specs.Values.LaidOut
+pub use Rattle.transfer_monotone.specs.Values.RisingRows
+pub use Rattle.transfer_monotone.specs.Values.StepLaws
+pub use Rattle.diagnose.specs.Diagnostics.AdmittedRules
+pub use Rattle.diagnose.specs.Operands.TypedRows
+pub use Rattle.transfer_monotone.specs.Values.ViolationsBelow

@@ -13,10 +13,10 @@ use Rattle.pointer_domain.specs.PointerTables.{offsets}
 use Rattle.value_domain.specs.declared.values.label_sets.Labels.{Labels}
 use Rattle.value_domain.specs.declared.values.row_cells.Cell.{Cell}
 use Rattle.value_domain.specs.Values.LabelSets.{is_unlabelled}
-use Rattle.store_cells.specs.NearValues.{near_pointer}
-use Rattle.store_objects.specs.LiveBases.{with_base_if, live_of, any_freed}
-use Rattle.store_objects.specs.Freeing.{is_heap_in}
-use Rattle.store_cells.specs.Walks.{walk}
+use Rattle.store.specs.NearValues.{near_pointer}
+use Rattle.store.specs.LiveBases.{with_base_if, live_of, any_freed}
+use Rattle.store.specs.Freeing.{is_heap_in}
+use Rattle.store.specs.Walks.{walk}
 use Rattle.transfer_checks.specs.declared.allocation_checks.Released.{Released}
 use Rattle.transfer_checks.specs.declared.violation_sets.Violations.{Violations}
 use Rattle.transfer_checks.specs.ViolationSets.{no_violations}

@@ -10,10 +10,10 @@ use Rattle.pointer_domain.specs.declared.pointer_sets.Pointers.{Pointers}
 use Rattle.pointer_domain.specs.BaseSets.{no_base}
 use Rattle.pointer_domain.specs.PointerTables.{offsets, rooms}
 use Rattle.value_domain.specs.declared.values.row_cells.Cell.{Cell}
-use Rattle.store_cells.specs.declared.access_windows.Window.{Window}
-use Rattle.store_cells.specs.AccessWindows.{window_within}
-use Rattle.store_cells.specs.NearValues.{near_pointer}
-use Rattle.store_objects.specs.LiveBases.{live_of, any_freed, writable_of}
+use Rattle.store.specs.Window.{Window}
+use Rattle.store.specs.AccessWindows.{window_within}
+use Rattle.store.specs.NearValues.{near_pointer}
+use Rattle.store.specs.LiveBases.{live_of, any_freed, writable_of}
 use Rattle.transfer_checks.specs.declared.library_arguments.Argument.{Argument}
 use Rattle.transfer_checks.specs.declared.violation_sets.Violations.{Violations}
 use Rattle.transfer_checks.specs.ViolationSets.{no_violations}

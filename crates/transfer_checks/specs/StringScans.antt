@@ -11,13 +11,13 @@ use Rattle.pointer_domain.specs.BaseSets.{no_base, bases_union}
 use Rattle.pointer_domain.specs.PointerTables.{offsets, rooms}
 use Rattle.value_domain.specs.Strings.ZeroTables.{scanned}
 use Rattle.value_domain.specs.declared.values.row_cells.Cell.{Cell}
-use Rattle.store_cells.specs.declared.access_windows.Window.{Window}
-use Rattle.store_cells.specs.AccessWindows.{window_within}
-use Rattle.store_cells.specs.NearValues.{near_number}
-use Rattle.store_cells.specs.RowPositions.{zero_at, zero_position}
-use Rattle.store_cells.specs.FirstZeroWrites.{covering_part, offsets_of}
-use Rattle.store_objects.specs.LiveBases.{has_base, only_base}
-use Rattle.store_cells.specs.Walks.{walk}
+use Rattle.store.specs.Window.{Window}
+use Rattle.store.specs.AccessWindows.{window_within}
+use Rattle.store.specs.NearValues.{near_number}
+use Rattle.store.specs.RowPositions.{zero_at, zero_position}
+use Rattle.store.specs.FirstZeroWrites.{covering_part, offsets_of}
+use Rattle.store.specs.LiveBases.{has_base, only_base}
+use Rattle.store.specs.Walks.{walk}
 use Rattle.transfer_checks.specs.declared.string_scans.Scanned.{Scanned}
 use Rattle.transfer_checks.specs.declared.string_scans.OneScan.{OneScan}
 

@@ -9,8 +9,8 @@ use Rattle.value_domain.specs.declared.values.values.Value.{Value}
 use Rattle.value_domain.specs.declared.values.row_cells.Cell.{Cell}
 use Rattle.value_domain.specs.Values.LabelSets.{no_labels}
 use Rattle.value_domain.specs.Values.ValueTables.{number_value}
-use Rattle.store_cells.specs.NearValues.{near_value}
-use Rattle.store_cells.specs.RowPositions.{capped, value_at, put_value}
+use Rattle.store.specs.NearValues.{near_value}
+use Rattle.store.specs.RowPositions.{capped, value_at, put_value}
 
 abbrev pub temp_position : Flow → ℕ → ℕ
 temp_position flow temp = capped ((flow.width - flow.temps) + temp)

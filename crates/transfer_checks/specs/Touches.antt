@@ -10,9 +10,9 @@ use Rattle.pointer_domain.specs.BaseSets.{bases_empty}
 use Rattle.pointer_domain.specs.PointerLattice.{no_pointer}
 use Rattle.pointer_domain.specs.PointerTables.{length_above}
 use Rattle.value_domain.specs.declared.values.row_cells.Cell.{Cell}
-use Rattle.store_cells.specs.NearValues.{near_pointer}
-use Rattle.store_objects.specs.LiveBases.{is_literal_kind, has_base, writable_of, live_of, any_freed}
-use Rattle.store_cells.specs.Walks.{walk}
+use Rattle.store.specs.NearValues.{near_pointer}
+use Rattle.store.specs.LiveBases.{is_literal_kind, has_base, writable_of, live_of, any_freed}
+use Rattle.store.specs.Walks.{walk}
 use Rattle.transfer_checks.specs.declared.touches.Touched.{Touched}
 use Rattle.transfer_checks.specs.declared.violation_sets.Violations.{Violations}
 use Rattle.transfer_checks.specs.ViolationSets.{no_violations}

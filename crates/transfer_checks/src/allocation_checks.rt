@@ -1,8 +1,8 @@
 //! Rules on allocation and release.
 ghost use Rattle.std.specs.Prelude.{◌≡◌};
 ghost use Rattle.pointer_domain.specs.PointerTables.{IsNearPointer};
-ghost use Rattle.store_objects.specs.LiveBases.{with_base_if};
-ghost use Rattle.store_objects.specs.Freeing.{is_heap_in};
+ghost use Rattle.store.specs.LiveBases.{with_base_if};
+ghost use Rattle.store.specs.Freeing.{is_heap_in};
 ghost use Rattle.transfer_checks.specs.AllocationChecks.{is_too_small, allocation_violations, heap_of, may_be_zero, may_differ, is_misplaced, release_violations, to_starts, released_rest, check_release};
 
 use crate::touches::{into_bases, no_pointer};

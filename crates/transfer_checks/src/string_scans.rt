@@ -2,7 +2,7 @@
 ghost use Rattle.std.specs.Prelude.{◌≡◌};
 ghost use Rattle.cc_base.specs.IntegerDomains.{IsNear};
 ghost use Rattle.pointer_domain.specs.PointerTables.{IsNearPointer};
-ghost use Rattle.store_cells.specs.FirstZeroWrites.{covering_part};
+ghost use Rattle.store.specs.FirstZeroWrites.{covering_part};
 ghost use Rattle.transfer_checks.specs.StringScans.{scan_start, last_of_room, unknown_length, length_in, length_at, known_length, scan_base, goes_on_in, unknown_in, with_base, with_base_if, nothing_scanned, scan_bases, near_scanned, scan};
 
 use c_layout::BaseInfo;

@@ -3,7 +3,7 @@ ghost use Rattle.std.specs.Prelude.{◌≡◌, ◌≤◌, ◌-ℤ◌, pos};
 ghost use Rattle.cc_base.specs.IntegerDomains.{IsNear};
 ghost use Rattle.pointer_domain.specs.PointerLattice.{no_pointer};
 ghost use Rattle.pointer_domain.specs.PointerTables.{IsNearPointer, length_above, longest};
-ghost use Rattle.store_objects.specs.LiveBases.{is_literal_kind};
+ghost use Rattle.store.specs.LiveBases.{is_literal_kind};
 ghost use Rattle.transfer_checks.specs.Touches.{leaves_bounds_at, span_of, is_literal_or, any_literal, kept_of, is_nowhere, into_bases, leaves_bounds, places_within, touched_inside, touch_violations, touched_rest, touch};
 
 use crate::violation_sets::Violations;

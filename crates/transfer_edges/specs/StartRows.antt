@@ -32,9 +32,9 @@ use Rattle.store_cells.specs.NearValues.{near_pointer, near_value}
 use Rattle.store_cells.specs.RowPositions.{leaf_position, state_position, put_value, put_state}
 use Rattle.store_cells.specs.ByteWrites.{null_pointer}
 use Rattle.store_cells.specs.CellReads.{whole_range}
-use Rattle.store_objects.specs.LiveBases.{only_base}
+use Rattle.store.specs.LiveBases.{only_base}
 use Rattle.store_cells.specs.FirstZeroWrites.{set_zeros}
-use Rattle.store_objects.specs.ObjectLives.{clear}
+use Rattle.store.specs.ObjectLives.{clear}
 use Rattle.store.specs.Spelling.{spell}
 use Rattle.store.specs.Stores.{store}
 use Rattle.transfer_instructions.specs.Values.Scalars.{class_of_kind}

@@ -14,8 +14,8 @@ use Rattle.value_domain.specs.Strings.ZeroTables.{ends_text}
 use Rattle.value_domain.specs.Values.LabelSets.{no_labels}
 use Rattle.value_domain.specs.Values.ValueTables.{pointer_value}
 use Rattle.value_domain.specs.declared.values.row_cells.Cell.{Cell}
-use Rattle.store_cells.specs.AccessWindows.{window_between, window_within}
-use Rattle.store_cells.specs.FirstZeroWrites.{any_zero}
+use Rattle.store.specs.AccessWindows.{window_between, window_within}
+use Rattle.store.specs.FirstZeroWrites.{any_zero}
 use Rattle.store_objects.specs.LiveBases.{only_base}
 use Rattle.transfer_checks.specs.LibraryArguments.{within_bases}
 use Rattle.transfer_checks.specs.declared.library_arguments.Argument.{Argument}

@@ -10,7 +10,7 @@ use Rattle.store_objects.specs.declared.allocation.Fresh.{Fresh}
 use Rattle.store_objects.specs.declared.allocation.Fresh.TheVariants as fresh
 use Rattle.store_objects.specs.Allocations.{renew, renewed_pointer, site_of}
 use Rattle.store_objects.specs.Freeing.{free}
-use Rattle.store_cells.specs.NearValues.{near_number}
+use Rattle.store.specs.NearValues.{near_number}
 use Rattle.transfer_checks.specs.Temporaries.{put_temp}
 use Rattle.transfer_library_plans.specs.declared.call_plans.Effect.{Effect}
 use Rattle.transfer_library_plans.specs.declared.call_plans.Effect.TheVariants.{Unreached, Result, Text, Fill, Copy, Allocate, Reallocate, Free}

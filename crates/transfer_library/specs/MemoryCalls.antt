@@ -11,8 +11,8 @@ use Rattle.pointer_domain.specs.PointerTables.{offsets}
 use Rattle.value_domain.specs.declared.values.values.Value.{Value}
 use Rattle.value_domain.specs.declared.values.row_cells.Cell.{Cell}
 use Rattle.value_domain.specs.Values.ValueTables.{pointer_value}
-use Rattle.store_cells.specs.declared.access_windows.Window.{Window}
-use Rattle.store_cells.specs.AccessWindows.{window_within}
+use Rattle.store.specs.Window.{Window}
+use Rattle.store.specs.AccessWindows.{window_within}
 use Rattle.store_objects.specs.LiveBases.{writable_of}
 use Rattle.transfer_checks.specs.declared.library_arguments.Argument.{Argument}
 use Rattle.transfer_checks.specs.IntegerChecks.{sink_violations}

@@ -15,11 +15,11 @@ use Rattle.value_domain.specs.declared.values.values.Value.{Value}
 use Rattle.value_domain.specs.declared.values.row_cells.Cell.{Cell}
 use Rattle.value_domain.specs.Values.LabelSets.{input_labels}
 use Rattle.value_domain.specs.Values.ValueTables.{pointer_value}
-use Rattle.store_cells.specs.declared.access_windows.Window.{Window}
-use Rattle.store_cells.specs.AccessWindows.{window_within, added_ranges, window_met}
+use Rattle.store.specs.Window.{Window}
+use Rattle.store.specs.AccessWindows.{window_within, added_ranges, window_met}
 use Rattle.store_objects.specs.LiveBases.{writable_of}
-use Rattle.store_cells.specs.NearValues.{near_number}
-use Rattle.store_cells.specs.ScalarTypes.{kind_of}
+use Rattle.store.specs.NearValues.{near_number}
+use Rattle.store.specs.ScalarTypes.{kind_of}
 use Rattle.transfer_checks.specs.declared.library_arguments.Argument.{Argument}
 use Rattle.transfer_checks.specs.declared.string_scans.Scanned.{Scanned}
 use Rattle.transfer_checks.specs.IntegerChecks.{sink_violations}

@@ -12,8 +12,8 @@ use Rattle.value_domain.specs.declared.values.label_sets.Labels.{Labels}
 use Rattle.value_domain.specs.declared.values.values.Value.{Value}
 use Rattle.value_domain.specs.declared.values.row_cells.Cell.{Cell}
 use Rattle.value_domain.specs.Values.LabelSets.{labels_join}
-use Rattle.store_cells.specs.NearValues.{near_number}
-use Rattle.store_cells.specs.ScalarTypes.{kind_of}
+use Rattle.store.specs.NearValues.{near_number}
+use Rattle.store.specs.ScalarTypes.{kind_of}
 use Rattle.transfer_checks.specs.declared.allocation_checks.Released.{Released}
 use Rattle.transfer_checks.specs.AllocationChecks.{allocation_violations, check_release}
 use Rattle.transfer_checks.specs.ViolationSets.{no_violations}

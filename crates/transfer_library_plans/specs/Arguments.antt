@@ -6,7 +6,7 @@ use Rattle.cfg.specs.declared.programs.Flow.{Flow}
 use Rattle.value_domain.specs.declared.values.values.Value.{Value}
 use Rattle.value_domain.specs.declared.values.row_cells.Cell.{Cell}
 use Rattle.value_domain.specs.Values.Values.{value_lattice}
-use Rattle.store_cells.specs.NearValues.{near_value}
+use Rattle.store.specs.NearValues.{near_value}
 use Rattle.transfer_checks.specs.declared.violation_sets.Violations.{Violations}
 use Rattle.transfer_checks.specs.ViolationSets.{no_violations}
 use Rattle.transfer_checks.specs.Temporaries.{temp_value}

@@ -13,8 +13,8 @@ use Rattle.value_domain.specs.declared.values.values.Value.{Value}
 use Rattle.value_domain.specs.declared.values.row_cells.Cell.{Cell}
 use Rattle.value_domain.specs.Values.LabelSets.{no_labels, input_labels}
 use Rattle.value_domain.specs.Values.ValueTables.{number_value}
-use Rattle.store_cells.specs.AccessWindows.{window_within}
-use Rattle.store_cells.specs.ScalarTypes.{kind_of}
+use Rattle.store.specs.AccessWindows.{window_within}
+use Rattle.store.specs.ScalarTypes.{kind_of}
 use Rattle.transfer_checks.specs.declared.library_arguments.Argument.{Argument}
 use Rattle.transfer_checks.specs.declared.string_scans.Scanned.{Scanned}
 use Rattle.transfer_checks.specs.declared.violation_sets.Violations.{Violations}

@@ -1,7 +1,7 @@
 //! The arguments of a call.
 ghost use Rattle.std.specs.Prelude.{◌≡◌};
 ghost use Rattle.value_domain.specs.Values.Values.{value_lattice};
-ghost use Rattle.store_cells.specs.NearValues.{near_value};
+ghost use Rattle.store.specs.NearValues.{near_value};
 ghost use Rattle.transfer_library_plans.specs.Calls.{call_view};
 ghost use Rattle.transfer_library_plans.specs.Arguments.{argument_value, string_violations, room_violations, literal_violations};
 ghost use Rattle.cc_base.specs.IntegerDomains.{IsNear};

@@ -20,7 +20,7 @@ use Rattle.store_cells.specs.CellReads.{whole_range}
 use Rattle.store_cells.specs.ClassNumbers.{class_at, is_pointer}
 use Rattle.store_cells.specs.FirstZeroWrites.{forget_zeros}
 use Rattle.store.specs.LeafSelection.{is_overlapped, has_stray, meets_padding}
-use Rattle.store_objects.specs.LiveBases.{has_base}
+use Rattle.store.specs.LiveBases.{has_base}
 use Rattle.store_cells.specs.RowPositions.{leaf_position, class_position, value_at, join_value}
 use Rattle.store_cells.specs.ScalarTypes.{kind_of}
 use Rattle.store_cells.specs.Walks.{walk, turns}

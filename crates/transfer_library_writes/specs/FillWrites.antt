@@ -24,7 +24,7 @@ use Rattle.store_cells.specs.ByteWrites.{labelled_null, byte_written}
 use Rattle.store_cells.specs.ClassNumbers.{class_at, is_pointer}
 use Rattle.store_cells.specs.FirstZeroWrites.{zero_target, any_zero, offsets_of}
 use Rattle.store.specs.LeafSelection.{is_overlapped, has_stray}
-use Rattle.store_objects.specs.LiveBases.{has_base, is_one_instance}
+use Rattle.store.specs.LiveBases.{has_base, is_one_instance}
 use Rattle.store_cells.specs.RowPositions.{capped, leaf_position, class_position, zero_position, state_position, state_at, zero_at, put_zero, join_value, write_value}
 use Rattle.store_cells.specs.ScalarTypes.{class_bytes}
 use Rattle.store_cells.specs.Walks.{walk, turns}

@@ -13,7 +13,7 @@ use Rattle.value_domain.specs.Values.LabelSets.{no_labels}
 use Rattle.store_cells.specs.declared.access_windows.Window.{Window}
 use Rattle.store_cells.specs.declared.cell_reads.Access.{Access}
 use Rattle.store_cells.specs.CellReads.{joined}
-use Rattle.store_objects.specs.LiveBases.{has_base}
+use Rattle.store.specs.LiveBases.{has_base}
 use Rattle.store.specs.Loads.{load_base, load_character}
 use Rattle.store_cells.specs.Walks.{walk}
 use Rattle.transfer_library_writes.specs.declared.source_bytes.Characters.{Characters}

@@ -24,7 +24,7 @@ use Rattle.store_cells.specs.ByteWrites.{byte_written}
 use Rattle.store_cells.specs.ClassNumbers.{class_at}
 use Rattle.store_cells.specs.FirstZeroWrites.{zero_target, any_zero, offsets_of}
 use Rattle.store.specs.LeafSelection.{is_overlapped, has_stray}
-use Rattle.store_objects.specs.LiveBases.{has_base, is_one_instance}
+use Rattle.store.specs.LiveBases.{has_base, is_one_instance}
 use Rattle.store_cells.specs.NearValues.{near_number}
 use Rattle.store_cells.specs.RowPositions.{leaf_position, class_position, zero_position, zero_at, put_zero, join_value}
 use Rattle.store_cells.specs.Walks.{walk, turns}

@@ -9,3 +9,9 @@ pub mod Edges
 pub mod Operands
 pub mod Tests
 pub mod InvariantMaps
+pub use Rattle.row_bounds.specs.Edges.OwnLists
+pub use Rattle.row_bounds.specs.Entries.CutStarts
+pub use Rattle.transfer_system.specs.CallSteps
+pub use Rattle.transfer_system.specs.StepViolations
+pub use Rattle.transfer_system.specs.Steps
+pub use Rattle.store_monotone.specs.Store.StoreLaws

@@ -1,2 +1,16 @@
 pub mod BoundedRows
 pub mod System
+pub use Rattle.transfer_edges.specs.Edges
+pub use Rattle.transfer_edges.specs.Refinements
+pub use Rattle.transfer_edges.specs.StartRows
+pub use Rattle.transfer_instructions.specs.Instructions.CallSteps
+pub use Rattle.transfer_instructions.specs.Instructions.MemorySteps
+pub use Rattle.transfer_instructions.specs.Instructions.StepViolations
+pub use Rattle.transfer_instructions.specs.Instructions.Steps
+pub use Rattle.transfer_instructions.specs.Values.IntegerSteps
+pub use Rattle.transfer_instructions.specs.Values.PointerSteps
+pub use Rattle.transfer_instructions.specs.Values.ResultTemps
+pub use Rattle.transfer_instructions.specs.Values.Scalars
+pub use Rattle.transfer_instructions.specs.Instructions.OperationGroups
+pub use Rattle.transfer_instructions.specs.Effects
+pub use Rattle.transfer_instructions.specs.Planning

@@ -5,3 +5,11 @@ pub mod Templates
 pub mod Bases
 pub mod PlainPrograms
 pub mod Units
+pub use Rattle.typed_programs.specs.SingleRuns
+pub use Rattle.typed_programs.specs.Types.StandingTypes
+pub use Rattle.typed_programs.specs.PlainUnits.PlainUnits
+pub use Rattle.typed_programs.specs.TypedAccesses
+pub use Rattle.typed_programs.specs.Types.PointedTypes
+pub use Rattle.typed_programs.specs.Types.TypeBytes
+pub use Rattle.typed_programs.specs.Types.TypedPrograms
+pub use Rattle.typed_programs.specs.Types.TypedStates

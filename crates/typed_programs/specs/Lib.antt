@@ -4,3 +4,7 @@ pub mod PlainTemplates
 pub mod Types
 pub mod Leaves
 pub mod Runs
+pub use Rattle.run_exact.specs.Runs.SingleRuns
+pub use Rattle.run_exact.specs.SingleLaws
+pub use Rattle.run_exact.specs.SingleRows
+pub use Rattle.run_exact.specs.TypedAccesses

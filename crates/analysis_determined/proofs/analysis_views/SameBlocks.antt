@@ -8,7 +8,7 @@ use Rattle.cfg.specs.declared.programs.Flow.{Flow}
 use Rattle.cfg.specs.declared.basic_blocks.BasicBlock.{BasicBlock}
 use Rattle.lower_templates.specs.Worklist.Acts.{Step, step}
 use Rattle.lower_templates.specs.Views.ProgramViews.{BlockView, FlowView, block, edge, flow_view}
-use Rattle.transfer_edges.specs.Edges.{last_of}
+use Rattle.transfer_system.specs.Edges.{last_of}
 use Rattle.transfer_system.specs.System.BlockPasses.{instructions_in}
 use Rattle.transfer_system.specs.System.FlowMachines.{head_in, edge_at, no_edge}
 use Rattle.analysis_determined.specs.UnrolledDiagnostics.SameParts.{SameParts}

@@ -10,8 +10,8 @@ use Rattle.lower_templates.specs.Worklist.Acts.{Step, step}
 use Rattle.lower_templates.specs.Views.ProgramViews.{EdgeView, edge, flow_view}
 use Rattle.value_domain.specs.declared.values.row_cells.Cell.{Cell}
 use Rattle.value_domain.specs.declared.values.row_cells.Cell.TheVariants.{Nothing}
-use Rattle.transfer_edges.specs.StartRows.{start_row}
-use Rattle.transfer_edges.specs.Edges as edges
+use Rattle.transfer_system.specs.StartRows.{start_row}
+use Rattle.transfer_system.specs.Edges as edges
 use Rattle.transfer_system.specs.BoundedRows.OwnRows.{is_own_row}
 use Rattle.transfer_system.specs.BoundedRows.FittedRows.{row_fit, reached_fit}
 use Rattle.transfer_system.specs.BoundedRows.BaseRooms.{spare_bases}

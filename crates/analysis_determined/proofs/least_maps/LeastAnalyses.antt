@@ -11,7 +11,7 @@ use Rattle.interval_domain.specs.Intervals.IntervalLattice.{interval_order}
 use Rattle.value_domain.specs.declared.values.row_cells.Cell.{Cell}
 use Rattle.value_domain.specs.Values.Cells.{cell_order}
 use Rattle.transfer_system.specs.System.RegularPrograms.{is_regular}
-use Rattle.system_monotone.proofs.diagnostics.LeastMaps.{regular_admits_least}
+use Rattle.analysis.proofs.LeastMaps.{regular_admits_least}
 use Rattle.analysis.specs.Analyses.{row_lattice, admitted_pairs, IsAnalysis}
 use Rattle.analysis_determined.specs.LeastMaps.LeastAnalyses.{IsLeastMap, IsLeastAnalysis, AdmitsExactly, AreAlike}
 use Rattle.analysis_determined.proofs.least_maps.OrderedSets.{one_list}

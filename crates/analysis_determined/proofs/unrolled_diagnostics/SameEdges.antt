@@ -14,9 +14,9 @@ use Rattle.lower_templates.specs.Worklist.Acts as acts
 use Rattle.lower_templates.specs.Worklist.Pieces.{Way, way}
 use Rattle.lower_templates.specs.Worklist.Pieces as ways
 use Rattle.value_domain.specs.declared.values.row_cells.Cell.{Cell}
-use Rattle.transfer_instructions.specs.Instructions.CallSteps.{write_line}
-use Rattle.transfer_edges.specs.Refinements.{put_side, refine_one, refine_two, refine_sides, refine_values, refine_integers, refine_pointer, refine_named, refine, refine_case}
-use Rattle.transfer_edges.specs.Edges.{deciding_operand, deciding_of, line_of, line_call_of, put_null, last_instruction, is_other_than, switched, put_kept, refine_if, behind_test, branch_edge, refine_object, case_edge, no_line_edge, line_edge, follow}
+use Rattle.transfer_system.specs.CallSteps.{write_line}
+use Rattle.transfer_system.specs.Refinements.{put_side, refine_one, refine_two, refine_sides, refine_values, refine_integers, refine_pointer, refine_named, refine, refine_case}
+use Rattle.transfer_system.specs.Edges.{deciding_operand, deciding_of, line_of, line_call_of, put_null, last_instruction, is_other_than, switched, put_kept, refine_if, behind_test, branch_edge, refine_object, case_edge, no_line_edge, line_edge, follow}
 use Rattle.analysis_determined.specs.UnrolledDiagnostics.SameParts.{SameParts}
 use Rattle.analysis_determined.proofs.unrolled_diagnostics.SameOperations.{core, core_is, write_core}
 

@@ -29,9 +29,9 @@ use Rattle.transfer_checks.specs.declared.violation_sets.Violations.{Violations}
 use Rattle.transfer_checks.specs.ViolationSets.{no_violations}
 use Rattle.transfer_checks.specs.Touches.{touch}
 use Rattle.transfer_checks.specs.Temporaries.{temp_value}
-use Rattle.transfer_instructions.specs.Values.ResultTemps.{put_number, put_truth, put_pointer}
-use Rattle.transfer_instructions.specs.Values.IntegerSteps.{constant_step, binary_step, binary_checks, unary_step, unary_checks, compare_step, not_step, put_converted, convert_value, convert_step}
-use Rattle.transfer_instructions.specs.Values.PointerSteps.{address_step, narrow_touched, narrow_step, narrow_violations, put_moved, shift_by, shift_step, shift_checks, difference_step, comparison_violations, relation_step}
+use Rattle.transfer_system.specs.ResultTemps.{put_number, put_truth, put_pointer}
+use Rattle.transfer_system.specs.IntegerSteps.{constant_step, binary_step, binary_checks, unary_step, unary_checks, compare_step, not_step, put_converted, convert_value, convert_step}
+use Rattle.transfer_system.specs.PointerSteps.{address_step, narrow_touched, narrow_step, narrow_violations, put_moved, shift_by, shift_step, shift_checks, difference_step, comparison_violations, relation_step}
 use Rattle.transfer_library_plans.specs.declared.call_plans.Effect.{Effect}
 use Rattle.transfer_library_plans.specs.declared.call_plans.Plan.{Plan}
 use Rattle.transfer_library_plans.specs.Arguments.{argument_value}
@@ -44,10 +44,10 @@ use Rattle.transfer_library.specs.MemoryCalls.{plan_copy, plan_fill}
 use Rattle.transfer_library_plans.specs.Outputs.{plan_puts, plan_printf, plan_strlen, plan_strcmp}
 use Rattle.transfer_library.specs.StringCalls.{plan_strcpy, plan_strncpy, plan_strcat, plan_fgets}
 use Rattle.transfer_library.specs.Planning.{plan_call}
-use Rattle.transfer_instructions.specs.Instructions.CallSteps.{call_of, call_step, call_violations, planned_line, goes_on, line_goes_on, line_violations, write_line}
-use Rattle.transfer_instructions.specs.Instructions.MemorySteps.{struct_size, size_of_struct, put_read, load_violations, load_step, move_temp, store_violations, store_to, store_step, both_touched, copy_violations, copy_touched, kept_target, copy_between, copy_step}
-use Rattle.transfer_instructions.specs.Instructions.StepViolations.{relation_violations, operation_violations}
-use Rattle.transfer_instructions.specs.Instructions.Steps.{operate}
+use Rattle.transfer_system.specs.CallSteps.{call_of, call_step, call_violations, planned_line, goes_on, line_goes_on, line_violations, write_line}
+use Rattle.transfer_system.specs.MemorySteps.{struct_size, size_of_struct, put_read, load_violations, load_step, move_temp, store_violations, store_to, store_step, both_touched, copy_violations, copy_touched, kept_target, copy_between, copy_step}
+use Rattle.transfer_system.specs.StepViolations.{relation_violations, operation_violations}
+use Rattle.transfer_system.specs.Steps.{operate}
 use Rattle.analysis_determined.specs.UnrolledDiagnostics.SameParts.{SameParts}
 
 -- ---- programs with parts of others

@@ -24,7 +24,7 @@ use Rattle.store_objects.specs.ObjectLives.{clear}
 use Rattle.store.specs.Spelling.{spell}
 use Rattle.store.specs.Stores.{store}
 use Rattle.store_cells.specs.Walks.{walk}
-use Rattle.transfer_edges.specs.StartRows.{with_size, same_object, base_in, static_class, pointer_into, static_pointer, static_value, store_static, start_store, store_at, start_stores, start_value, start_object, object_at, start_objects, start_parameter, parameter_at, start_parameters, empty_row, started, start_row}
+use Rattle.transfer_system.specs.StartRows.{with_size, same_object, base_in, static_class, pointer_into, static_pointer, static_value, store_static, start_store, store_at, start_stores, start_value, start_object, object_at, start_objects, start_parameter, parameter_at, start_parameters, empty_row, started, start_row}
 use Rattle.analysis_determined.specs.UnrolledDiagnostics.SameParts.{SameParts}
 use Rattle.analysis_determined.proofs.unrolled_diagnostics.SameOperations.{core, core_is}
 

@@ -18,8 +18,8 @@ use Rattle.lower_templates.specs.Views.ProgramViews.{EdgeView, block, edge, flow
 use Rattle.value_domain.specs.declared.values.row_cells.Cell.{Cell}
 use Rattle.value_domain.specs.declared.values.row_cells.Cell.TheVariants.{Nothing}
 use Rattle.value_domain.specs.Values.Cells.{cell_lattice}
-use Rattle.transfer_edges.specs.StartRows.{start_row}
-use Rattle.transfer_edges.specs.Edges as edges
+use Rattle.transfer_system.specs.StartRows.{start_row}
+use Rattle.transfer_system.specs.Edges as edges
 use Rattle.transfer_system.specs.BoundedRows.OwnRows.{is_own_row}
 use Rattle.transfer_system.specs.BoundedRows.FittedRows.{row_fit, reached_fit}
 use Rattle.transfer_system.specs.System.BlockPasses.{instructions_of, row_behind, rows_behind, block_end, edge_behind, edge_end}

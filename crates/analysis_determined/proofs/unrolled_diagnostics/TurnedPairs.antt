@@ -11,7 +11,7 @@ use Rattle.lower_templates.specs.Worklist.Acts.{Step, step}
 use Rattle.lower_templates.specs.Views.ProgramViews.{flow_view}
 use Rattle.value_domain.specs.declared.values.row_cells.Cell.{Cell}
 use Rattle.diagnose.specs.Diagnostics.AdmittedRules.{pairs_of, instructions_of, pairs_at, row_behind, pairs_from, instruction_pairs, block_pairs, entry_pairs, rows_pairs, map_pairs}
-use Rattle.system_monotone.proofs.diagnostics.FewestPairs.{In, AreIn, in_left, in_right, in_either, in_from, contains_in}
+use Rattle.analysis.proofs.FewestPairs.{In, AreIn, in_left, in_right, in_either, in_from, contains_in}
 use Rattle.loop_unrolling.specs.Turns.{copies, number_in, split}
 use Rattle.analysis_determined.specs.UnrolledDiagnostics.SameParts.{SameParts}
 use Rattle.analysis_determined.specs.UnrolledDiagnostics.CopiedMaps.{copied_map}

@@ -9,7 +9,7 @@ use Rattle.cfg.specs.declared.basic_blocks.BasicBlock.{BasicBlock}
 use Rattle.cfg.specs.declared.flow_edges.Edge.{Edge}
 use Rattle.lower_templates.specs.Worklist.Acts.{Step, step}
 use Rattle.lower_templates.specs.Views.ProgramViews.{BlockView, EdgeView, FlowView, block, edge, flow_view}
-use Rattle.transfer_edges.specs.Edges.{last_of}
+use Rattle.transfer_system.specs.Edges.{last_of}
 use Rattle.transfer_system.specs.System.BlockPasses.{instructions_in}
 use Rattle.transfer_system.specs.System.FlowMachines.{head_in, edge_at, no_edge}
 use Rattle.loop_unrolling.specs.Turns.{copies, last_copy, number_in, copy_behind, edge_copy, block_copy, split}

@@ -14,9 +14,9 @@ use Rattle.interval_domain.specs.Intervals.IntervalLattice.{interval_lattice}
 use Rattle.interval_domain.specs.Intervals.IntervalNumbers.{interval_numbers}
 use Rattle.store_sound.proofs.programs.WellFormedPremises.{meets_premises}
 use Rattle.transfer_system.specs.System.RegularPrograms.{has_scalars, has_initial_bytes, has_apart_members, is_near_list, is_regular}
-use Rattle.system_monotone.proofs.systems.RegularPrograms.{regular_of}
-use Rattle.analysis.specs.Analyses.{IsAnalysis}
-use Rattle.analysis.specs.CheckedPrograms.{IsChecked}
+use Rattle.analysis_determined.proofs.RegularPrograms.{regular_of}
+use Rattle.analysis_determined.specs.Analyses.{IsAnalysis}
+use Rattle.analysis_determined.specs.CheckedPrograms.{IsChecked}
 use Rattle.analysis_sound.proofs.analyses.Sites.{sites_there}
 use Rattle.analysis_sound.proofs.analyses.SpelledTexts.{texts_over}
 use Rattle.analysis_sound.proofs.analyses.ScalarTests.{kinds_proved}

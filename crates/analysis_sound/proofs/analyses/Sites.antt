@@ -6,8 +6,8 @@ use Rattle.c_layout.specs.declared.library_functions.LibFn.TheVariants as f
 use Rattle.cfg.specs.declared.machine_instructions.Operation.TheVariants as op
 use Rattle.cfg.specs.declared.programs.Flow.{Flow}
 use Rattle.analysis_preconditions.specs.Objects.Sites.{allocates, has_site, has_sites}
-use Rattle.memory_calls_sound.specs.Allocations.AllocationCalls.{Allocates}
-use Rattle.memory_calls_sound.specs.Reallocations.ReallocationCalls.{Reallocates}
+use Rattle.struct_copies_sound.specs.AllocationCalls.{Allocates}
+use Rattle.struct_copies_sound.specs.ReallocationCalls.{Reallocates}
 use Rattle.analysis_sound.specs.Programs.OpenSteps.{AllocatesAtSites}
 use Rattle.analysis_sound.proofs.analyses.Instructions.{done_in}
 

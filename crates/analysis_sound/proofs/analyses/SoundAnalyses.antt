@@ -19,10 +19,10 @@ use Rattle.store_sound.specs.Programs.Premises.{AreHeld, HasPremises}
 use Rattle.store_sound.proofs.programs.WellFormedPremises.{meets_premises}
 use Rattle.transfer_system.specs.BoundedRows.IntervalEnds.{interval_ends}
 use Rattle.transfer_system.specs.System.RegularPrograms.{is_regular}
-use Rattle.system_monotone.proofs.systems.WellFormed.{laid_out, all_named}
-use Rattle.system_monotone.proofs.systems.RegularPrograms.{Regular, regular_of}
-use Rattle.system_monotone.proofs.systems.RegularSystems.{regular_rising}
-use Rattle.analysis.specs.Analyses.{row_lattice, machine_of, IsAnalysis}
+use Rattle.analysis_determined.proofs.WellFormed.{laid_out, all_named}
+use Rattle.analysis_determined.proofs.RegularPrograms.{Regular, regular_of}
+use Rattle.analysis_determined.proofs.RegularSystems.{regular_rising}
+use Rattle.analysis_determined.specs.Analyses.{row_lattice, machine_of, IsAnalysis}
 use Rattle.transfer_sound.specs.InvariantMaps.CarriedMaps.{EntryStands}
 use Rattle.transfer_sound.proofs.invariant_maps.CarriedMaps.{map_carried, map_begins}
 use Rattle.transfer_sound.specs.Induction.Covering.{Begins, Carries, HasTypedRuns, row_before, Admits}

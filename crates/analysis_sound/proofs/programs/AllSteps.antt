@@ -29,16 +29,16 @@ use Rattle.transfer_sound.proofs.leave.Leaving.{leave_sound}
 use Rattle.library_sound.proofs.calls.ResultCalls.{result_call_sound}
 use Rattle.library_sound.proofs.strings.StringCalls.{string_call_sound}
 use Rattle.library_sound.proofs.prints.PrintCalls.{print_call_sound}
-use Rattle.memory_calls_sound.proofs.frees.FreeCalls.{free_call_sound}
+use Rattle.struct_copies_sound.proofs.FreeCalls.{free_call_sound}
 use Rattle.library_sound.proofs.texts.TextSteps.{text_call_sound}
 use Rattle.library_sound.proofs.fills.FillSteps.{fill_call_sound}
 use Rattle.struct_copies_sound.proofs.copies.CopySteps.{copy_sound}
-use Rattle.memory_calls_sound.proofs.moves.CopySteps.{copy_call_sound}
+use Rattle.struct_copies_sound.proofs.CopySteps.{copy_call_sound}
 use Rattle.library_sound.proofs.bounded_texts.BoundedSteps.{bounded_call_sound}
 use Rattle.library_sound.proofs.appends.ApartTexts.{well_formed_apart}
 use Rattle.library_sound.proofs.appends.AppendSteps.{append_call_sound}
-use Rattle.memory_calls_sound.proofs.allocations.AllocationSteps.{allocation_call_sound}
-use Rattle.memory_calls_sound.proofs.reallocations.ReallocationCalls.{reallocation_call_sound}
+use Rattle.struct_copies_sound.proofs.AllocationSteps.{allocation_call_sound}
+use Rattle.struct_copies_sound.proofs.ReallocationCalls.{reallocation_call_sound}
 use Rattle.library_sound.specs.Lines.LineEnds.{IsLineEnd}
 use Rattle.library_sound.proofs.lines.LineEnds.{line_end_sound}
 use Rattle.transfer_sound.specs.Induction.SoundEnds.{IsDoneIn, GoesOn, EndsBlock, EndIsSound, StepsGoOnSoundly, EndsGoOnSoundly}

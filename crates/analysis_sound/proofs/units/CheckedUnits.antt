@@ -10,7 +10,7 @@ use Rattle.cfg.specs.declared.programs.Flow.{Flow}
 use Rattle.lower_templates.specs.Views.ProgramViews.{FlowView, flow_view}
 use Rattle.store_structs.specs.LaidApart.{are_laid_apart}
 use Rattle.analysis_preconditions.specs.StructNesting.OrderedStructs.{are_ordered}
-use Rattle.analysis.specs.Analyses.{IsAnalysis}
+use Rattle.analysis_determined.specs.Analyses.{IsAnalysis}
 use Rattle.loop_unrolling.specs.Turns.{split}
 use Rattle.entry_sound.proofs.checked.CheckedStarts.{HaveSoundStructs, sound_structs, unit_starts}
 use Rattle.analysis_sound.specs.Units.CheckedUnits.{FindsPairsOfChecked}

@@ -1,6 +1,6 @@
 -- All premises hold of the worked program, and each analysis of it finds what its run violates.
 use Rattle.cfg.specs.declared.programs.Flow.{Flow}
-use Rattle.row_bounds.specs.Entries.CutStarts.{type_list}
+use Rattle.transfer_sound.specs.CutStarts.{type_list}
 use Rattle.analysis_sound.specs.Units.WorkedPrograms.{MeetsAllPremises, IsFoundIn}
 use Rattle.analysis_sound.proofs.units.SoundUnits.{units_found}
 use Rattle.analysis_sound.proofs.units.WorkedProgram.{program, unit, regular, started, checked, starts, violation, violated}

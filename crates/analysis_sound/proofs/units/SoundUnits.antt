@@ -2,7 +2,7 @@
 use Rattle.std.specs.Prelude.{ℤ, List}
 use Rattle.cc_base.specs.declared.diagnostics.Diag.{Diag}
 use Rattle.cfg.specs.declared.programs.Flow.{Flow}
-use Rattle.analysis.specs.Analyses.{IsAnalysis}
+use Rattle.analysis_determined.specs.Analyses.{IsAnalysis}
 use Rattle.analysis_sound.proofs.analyses.FoundRuns.{finds_each_pair}
 use Rattle.entry_sound.proofs.entries.EntryRows.{entry_stands}
 use Rattle.entry_sound.proofs.lowered.LoweredStarts.{lowered_starts}

@@ -13,7 +13,7 @@ use Rattle.lower_templates.specs.Views.ProgramViews.{FlowView, flow_view}
 use Rattle.semantics.specs.CfgMachine.FlowStates.{FlowRun, running, stopped, found_in}
 use Rattle.semantics.specs.CfgMachine.FlowSteps.{flow_steps}
 use Rattle.semantics.specs.CfgMachine.FlowStarts.{flow_begin}
-use Rattle.analysis.specs.Analyses.{IsAnalysis}
+use Rattle.analysis_determined.specs.Analyses.{IsAnalysis}
 use Rattle.loop_unrolling.specs.Turns.{split}
 use Rattle.analysis_determined.specs.UnrolledRuns.SameRuns.{SameRun}
 use Rattle.analysis_determined.proofs.unrolled_runs.LinkedPrograms.{linked}

@@ -46,8 +46,8 @@ use Rattle.memory_model.specs.Effects.Worlds.{Violation}
 use Rattle.transfer_edges.specs.StartRows.{start_value, start_object, start_objects, start_row}
 use Rattle.transfer_system.specs.System.FlowMachines.{has_start}
 use Rattle.transfer_system.specs.System.RegularPrograms.{is_regular}
-use Rattle.analysis.specs.CheckedPrograms.{IsChecked}
-use Rattle.row_bounds.specs.Entries.CutStarts.{type_list}
+use Rattle.analysis_determined.specs.CheckedPrograms.{IsChecked}
+use Rattle.transfer_sound.specs.CutStarts.{type_list}
 use Rattle.analysis_sound.specs.Analyses.SoundAnalyses.{IsViolatedIn}
 use Rattle.entry_sound.specs.Tables.UnitStarts.{IsBaseOf, StartsAs}
 

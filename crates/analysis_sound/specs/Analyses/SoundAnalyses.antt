@@ -12,7 +12,7 @@ use Rattle.lower_templates.specs.Views.ProgramViews.{flow_view}
 use Rattle.semantics.specs.CfgMachine.FlowStates.{found_in}
 use Rattle.semantics.specs.CfgMachine.FlowSteps.{flow_steps}
 use Rattle.semantics.specs.CfgMachine.FlowStarts.{flow_begin}
-use Rattle.row_bounds.specs.Edges.OwnLists.{ReachesTypes}
+use Rattle.transfer_sound.specs.OwnLists.{ReachesTypes}
 use Rattle.transfer_sound.specs.Values.SoundSteps.{AreSound}
 use Rattle.transfer_sound.specs.InvariantMaps.CarriedMaps.{EntryStands}
 use Rattle.transfer_sound.specs.Induction.SoundEnds.{IsDoneIn}

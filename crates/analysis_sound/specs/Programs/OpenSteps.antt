@@ -18,8 +18,8 @@ use Rattle.value_domain.specs.declared.values.row_cells.Cell.{Cell}
 use Rattle.store_sound.specs.Concretization.Coverage.{EachRunIsCovered}
 use Rattle.store_sound.specs.Programs.Premises.{AreHeld}
 use Rattle.transfer_sound.specs.Values.SoundSteps.{AreSound}
-use Rattle.memory_calls_sound.specs.Allocations.AllocationCalls.{Allocates}
-use Rattle.memory_calls_sound.specs.Reallocations.ReallocationCalls.{Reallocates}
+use Rattle.struct_copies_sound.specs.AllocationCalls.{Allocates}
+use Rattle.struct_copies_sound.specs.ReallocationCalls.{Reallocates}
 use Rattle.library_sound.specs.Spelling.SpellSteps.{SpellsBytes}
 use Rattle.struct_copies_sound.specs.Structs.StructTables.{HasStructs}
 use Rattle.transfer_sound.specs.Induction.SoundEnds.{IsDoneIn}

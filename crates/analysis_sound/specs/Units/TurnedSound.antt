@@ -6,7 +6,7 @@ use Rattle.c_layout.specs.CheckedUnits.{UnitView}
 use Rattle.cfg.specs.WellFormed.{is_well_formed}
 use Rattle.cfg.specs.declared.programs.Flow.{Flow}
 use Rattle.lower_templates.specs.Views.ProgramViews.{flow_view}
-use Rattle.analysis.specs.Analyses.{IsAnalysis}
+use Rattle.analysis_determined.specs.Analyses.{IsAnalysis}
 use Rattle.loop_unrolling.specs.Turns.{split}
 use Rattle.entry_sound.specs.Tables.UnitStarts.{StartsAs}
 use Rattle.analysis_sound.specs.Units.SoundUnits.{FindsPairsOf}

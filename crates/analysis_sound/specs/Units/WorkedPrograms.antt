@@ -10,8 +10,8 @@ use Rattle.interval_domain.specs.Intervals.IntervalNumbers.{interval_numbers}
 use Rattle.value_domain.specs.declared.values.row_cells.Cell.{Cell}
 use Rattle.diagnose.specs.Operands.TypedRows.{is_typed_map}
 use Rattle.memory_model.specs.Effects.Worlds.{Violation}
-use Rattle.analysis.specs.Analyses.{IsAnalysis}
-use Rattle.analysis.specs.CheckedPrograms.{IsChecked}
+use Rattle.analysis_determined.specs.Analyses.{IsAnalysis}
+use Rattle.analysis_determined.specs.CheckedPrograms.{IsChecked}
 use Rattle.transfer_system.specs.System.FlowMachines.{has_start}
 use Rattle.transfer_system.specs.System.RegularPrograms.{is_regular}
 use Rattle.analysis_sound.specs.Analyses.SoundAnalyses.{IsViolatedIn}

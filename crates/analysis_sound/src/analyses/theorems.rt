@@ -3,7 +3,7 @@
 ghost use Rattle.std.specs.Prelude.{ℤ, List};
 ghost use Rattle.cc_base.specs.declared.diagnostics.Diag.{Diag};
 ghost use Rattle.cfg.specs.declared.programs.Flow.{Flow};
-ghost use Rattle.analysis.specs.Analyses.{IsAnalysis};
+ghost use Rattle.analysis_determined.specs.Analyses.{IsAnalysis};
 ghost use Rattle.analysis_sound.specs.Analyses.SoundAnalyses.{FindsEachPair};
 ghost use Rattle.analysis_sound.specs.Analyses.SoundParts.{CallsHaveSites, TextsLieOverCharacters, TestsAreProved, NoStepIsOpen};
 

@@ -3,11 +3,11 @@
 ghost use Rattle.std.specs.Prelude.{ℤ, List};
 ghost use Rattle.cc_base.specs.declared.diagnostics.Diag.{Diag};
 ghost use Rattle.cfg.specs.declared.programs.Flow.{Flow};
-ghost use Rattle.analysis.specs.Analyses.{IsAnalysis};
+ghost use Rattle.analysis_determined.specs.Analyses.{IsAnalysis};
 ghost use Rattle.analysis_sound.specs.Units.SoundUnits.{FindsPairsOfUnits, FindsPairsOfLowered};
 ghost use Rattle.c_layout.specs.CheckedUnits.{UnitView};
 ghost use Rattle.memory_model.specs.Effects.Worlds.{Violation};
-ghost use Rattle.row_bounds.specs.Entries.CutStarts.{type_list};
+ghost use Rattle.transfer_sound.specs.CutStarts.{type_list};
 ghost use Rattle.analysis_sound.specs.Units.CheckedUnits.{FindsPairsOfChecked, FindsTurnedPairsOfChecked};
 ghost use Rattle.analysis_sound.specs.Units.WorkedPrograms.{MeetsAllPremises, IsFoundIn};
 ghost use Rattle.analysis_sound.specs.Units.TurnedSound.{FindsTurnedPairs};

@@ -10,7 +10,7 @@ use Rattle.interval_domain.specs.Intervals.IntervalLattice.{interval_lattice}
 use Rattle.interval_domain.specs.Intervals.IntervalNumbers.{interval_numbers}
 use Rattle.transfer_system.specs.System.FlowMachines.{has_start}
 use Rattle.transfer_system.specs.System.RegularPrograms.{is_regular}
-use Rattle.system_monotone.proofs.systems.RegularSystems.{regular_monotone}
+use Rattle.analysis.proofs.RegularSystems.{regular_monotone}
 use Rattle.diagnose.specs.Operands.TypedRows.{is_typed_map}
 use Rattle.analysis.specs.Analyses.{row_lattice, machine_of}
 use Rattle.analysis.specs.CheckedPrograms.{IsChecked}

@@ -12,7 +12,7 @@ use Rattle.cfg.specs.declared.programs.Flow.{Flow}
 use Rattle.interval_domain.specs.declared.intervals.intervals.Interval.{Interval}
 use Rattle.value_domain.specs.declared.values.row_cells.Cell.{Cell}
 use Rattle.store_sound.proofs.programs.WellFormedPremises.{well_formed_good}
-use Rattle.system_monotone.proofs.systems.RegularPrograms.{regular_of}
+use Rattle.analysis_determined.proofs.RegularPrograms.{regular_of}
 use Rattle.certificate_text.specs.Lines.LineWords.{Bytes}
 use Rattle.certificate_check.specs.ClosedMaps.MapFaults.{IsFirstFault}
 use Rattle.certificate_check.specs.Reading.MapReading.{map_rows}

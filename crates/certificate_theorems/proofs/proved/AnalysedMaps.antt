@@ -24,10 +24,10 @@ use Rattle.row_bounds.proofs.edges.IntervalSystems.{regular_fit_nothing}
 use Rattle.row_bounds.proofs.edges.OwnEdges.{leaves_own}
 use Rattle.row_bounds.proofs.entries.RegularStarts.{regular_fits}
 use Rattle.transfer_system.specs.System.RegularPrograms.{is_regular}
-use Rattle.system_monotone.proofs.systems.RegularPrograms.{Regular, regular_of}
-use Rattle.system_monotone.proofs.systems.RegularSystems.{regular_rising}
-use Rattle.system_monotone.proofs.systems.WellFormed.{laid_out, all_named}
-use Rattle.analysis.specs.Analyses.{row_lattice, machine_of}
+use Rattle.analysis_determined.proofs.RegularPrograms.{Regular, regular_of}
+use Rattle.analysis_determined.proofs.RegularSystems.{regular_rising}
+use Rattle.analysis_determined.proofs.WellFormed.{laid_out, all_named}
+use Rattle.analysis_determined.specs.Analyses.{row_lattice, machine_of}
 use Rattle.certificate_check.specs.Reading.GreatestRows.{cert_numbers}
 use Rattle.certificate_check.specs.Verdicts.Verdicts.{cert_machine}
 use Rattle.certificate_theorems.specs.Proved.AnalysedMaps.{InductiveMapsAreClosed}

@@ -11,8 +11,8 @@ use Rattle.interval_domain.specs.Intervals.IntervalLattice.{interval_lattice}
 use Rattle.interval_domain.specs.Intervals.IntervalNumbers.{interval_numbers}
 use Rattle.transfer_system.specs.System.RegularPrograms.{has_scalars, has_initial_bytes, has_apart_members, is_near_list, is_regular}
 use Rattle.diagnose.specs.Operands.TypedRows.{is_typed_map}
-use Rattle.analysis.specs.Analyses.{admitted_pairs, IsAnalysis}
-use Rattle.analysis.specs.CheckedPrograms.{IsChecked}
+use Rattle.analysis_determined.specs.Analyses.{admitted_pairs, IsAnalysis}
+use Rattle.analysis_determined.specs.CheckedPrograms.{IsChecked}
 use Rattle.analysis_determined.specs.LeastMaps.LeastAnalyses.{AdmitsExactly}
 use Rattle.analysis_determined.proofs.least_maps.LeastAnalyses.{exact_map, one_answer}
 use Rattle.certificate_text.specs.Lines.LineWords.{Bytes}

@@ -14,8 +14,8 @@ use Rattle.value_domain.specs.declared.values.row_cells.Cell.{Cell}
 use Rattle.store_sound.specs.Programs.Premises.{HasPremises}
 use Rattle.store_sound.proofs.programs.WellFormedPremises.{meets_premises}
 use Rattle.transfer_system.specs.BoundedRows.IntervalEnds.{interval_ends}
-use Rattle.system_monotone.proofs.systems.RegularPrograms.{Regular, regular_of}
-use Rattle.system_monotone.proofs.systems.WellFormed.{laid_out}
+use Rattle.analysis_determined.proofs.RegularPrograms.{Regular, regular_of}
+use Rattle.analysis_determined.proofs.WellFormed.{laid_out}
 use Rattle.row_bounds.proofs.entries.RegularStarts.{regular_fits}
 use Rattle.transfer_sound.specs.Induction.Covering.{Begins, Carries, HasTypedRuns}
 use Rattle.transfer_sound.proofs.induction.Covering.{runs_covered, runs_typed_by_rows}

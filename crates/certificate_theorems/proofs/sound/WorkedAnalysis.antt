@@ -23,8 +23,8 @@ use Rattle.transfer_instructions.specs.Values.ResultTemps.{put_number}
 use Rattle.transfer_system.specs.System.FlowMachines.{start_of}
 use Rattle.row_bounds.specs.Entries.CutStarts.{type_list}
 use Rattle.diagnose.specs.Diagnostics.AdmittedRules.{pairs_of, instruction_pairs, block_pairs, map_pairs}
-use Rattle.system_monotone.proofs.diagnostics.LeastMaps.{regular_admits_least}
-use Rattle.analysis.specs.Analyses.{row_lattice, machine_of, admitted_pairs, IsAnalysis}
+use Rattle.analysis_determined.proofs.LeastMaps.{regular_admits_least}
+use Rattle.analysis_determined.specs.Analyses.{row_lattice, machine_of, admitted_pairs, IsAnalysis}
 use Rattle.certificate_theorems.specs.Sound.WorkedCertificates.{IsAcceptedBeyond}
 use Rattle.certificate_theorems.proofs.sound.WorkedCertificate.{text, row, start, program, unit, rows, starts, started, inductive, typed, regular, diagnostic, found, rows_are, verified, beyond, violation, violated}
 

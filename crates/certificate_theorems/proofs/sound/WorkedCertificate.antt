@@ -59,7 +59,7 @@ use Rattle.diagnose.specs.Diagnostics.AdmittedRules.{pairs_of, instruction_pairs
 use Rattle.diagnose.specs.Operands.TypedRows.{has_operands, are_typed, is_typed_block, is_typed_map}
 use Rattle.store_cells.specs.FirstZeroWrites.{set_zeros}
 use Rattle.store_cells.specs.RowPositions.{value_at}
-use Rattle.analysis.specs.Analyses.{row_lattice, machine_of, admitted_pairs}
+use Rattle.analysis_determined.specs.Analyses.{row_lattice, machine_of, admitted_pairs}
 use Rattle.analysis_sound.specs.Analyses.SoundAnalyses.{IsViolatedIn}
 use Rattle.entry_sound.specs.Tables.UnitStarts.{StartsAs}
 use Rattle.certificate_text.specs.Lines.LineWords.{Bytes, until, behind, first_byte, same_bytes}

@@ -5,7 +5,7 @@ use Rattle.cc_base.specs.InductiveMap.{IsInductive}
 use Rattle.cfg.specs.declared.programs.Flow.{Flow}
 use Rattle.interval_domain.specs.declared.intervals.intervals.Interval.{Interval}
 use Rattle.value_domain.specs.declared.values.row_cells.Cell.{Cell}
-use Rattle.analysis.specs.Analyses.{row_lattice, machine_of}
+use Rattle.analysis_determined.specs.Analyses.{row_lattice, machine_of}
 use Rattle.certificate_check.specs.Verdicts.Verdicts.{cert_cells, cert_machine}
 
 abbrev pub InductiveMapsAreClosed : Flow → List ℤ → Type 0

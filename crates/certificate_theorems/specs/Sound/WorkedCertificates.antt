@@ -7,7 +7,7 @@ use Rattle.c_layout.specs.CheckedUnits.{UnitView}
 use Rattle.cfg.specs.declared.programs.Flow.{Flow}
 use Rattle.interval_domain.specs.declared.intervals.intervals.Interval.{Interval}
 use Rattle.value_domain.specs.declared.values.row_cells.Cell.{Cell}
-use Rattle.analysis.specs.Analyses.{machine_of, IsAnalysis}
+use Rattle.analysis_determined.specs.Analyses.{machine_of, IsAnalysis}
 use Rattle.memory_model.specs.Effects.Worlds.{Violation}
 use Rattle.certificate_text.specs.Lines.LineWords.{Bytes}
 use Rattle.certificate_check.specs.Reading.MapReading.{map_rows}

@@ -11,13 +11,13 @@ use Rattle.c_layout.specs.StructViews.{structs_view}
 use Rattle.cfg.specs.declared.programs.Flow.{Flow}
 use Rattle.analysis.specs.Analyses.{IsAnalysis}
 use Rattle.entry_sound.specs.Checked.CheckedStarts.{IsUnitOf}
-use Rattle.run_exact.specs.Runs.SingleRuns.{HasTypedAccesses, IsSingleProgram}
+use Rattle.typed_lowering.specs.SingleRuns.{HasTypedAccesses, IsSingleProgram}
 use Rattle.unit_exact.specs.Units.SingleUnits.{RunViolates, FindsJustUnitRuns}
 use Rattle.typed_lowering.specs.PlainPrograms.PlainPrograms.{IsPlainFlow, PlainUnitsHavePlainPrograms}
 use Rattle.simulation_units.specs.Units.UnitRuns.{IsProgramOf}
 use Rattle.typed_lowering.specs.Units.PlainUnits.{IsPlainUnit}
 use Rattle.typed_lowering.specs.Units.TypedUnitLaws.{TypedUnitsHaveTypedAccesses, IsLoopedFlow, LoopedUnitsHaveTypedPrograms}
-use Rattle.typed_programs.specs.Types.StandingTypes.{AreLaidOut}
+use Rattle.typed_lowering.specs.StandingTypes.{AreLaidOut}
 use Rattle.analysis_sound.proofs.units.CheckedUnits.{analysed_structs, same_structs}
 use Rattle.unit_exact.specs.Unrolled.TurnedUnits.{TurnedUnitsAreToldExactly}
 use Rattle.unit_exact.specs.Unrolled.TurnedLoops.{TakesTurns, IsSingleUpTo, LoopedUnitsAreToldExactly}

@@ -11,7 +11,7 @@ use Rattle.semantics.specs.CfgMachine.FlowSteps.{flow_steps}
 use Rattle.semantics.specs.CfgMachine.FlowStarts.{flow_begin}
 use Rattle.analysis_determined.proofs.analysis_views.SameBlocks.{same_parts, steps_same}
 use Rattle.diagnose.specs.Diagnostics.AdmittedRules.{instructions_of}
-use Rattle.run_exact.specs.Runs.SingleRuns.{IsTypedStep, HasTypedAccesses}
+use Rattle.typed_lowering.specs.SingleRuns.{IsTypedStep, HasTypedAccesses}
 use Rattle.unit_exact.proofs.unrolled.AlikeOperations.{alike}
 use Rattle.unit_exact.proofs.unrolled.TypedCopies.{step_too}
 

@@ -12,7 +12,7 @@ use Rattle.typed_lowering.specs.PlainPrograms.PlainPrograms.{PlainUnitsHavePlain
 use Rattle.typed_lowering.specs.Conversions.TypedUnits.{is_typed_unit}
 use Rattle.typed_lowering.specs.Units.TypedUnitLaws.{TypedUnitsHaveTypedAccesses}
 use Rattle.entry_sound.specs.Checked.CheckedStarts.{IsUnitOf}
-use Rattle.run_exact.specs.Runs.SingleRuns.{IsSingleProgram, HasTypedAccesses}
+use Rattle.typed_lowering.specs.SingleRuns.{IsSingleProgram, HasTypedAccesses}
 use Rattle.unit_exact.specs.Units.SingleUnits.{FindsJustUnitRuns}
 use Rattle.cli_units.specs.Judging.{IsLowered}
 use Rattle.cli_theorems.proofs.certificates.Accepted.{program_of, same_view, found_by_text}

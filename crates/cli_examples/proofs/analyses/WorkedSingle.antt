@@ -10,7 +10,7 @@ use Rattle.semantics.specs.CfgMachine.FlowStates.{Standing}
 use Rattle.transfer_system.specs.System.FlowMachines.{is_head_at}
 use Rattle.diagnose.specs.Diagnostics.AdmittedRules.{instructions_of}
 use Rattle.transfer_sound.specs.Induction.SoundEnds.{IsDoneIn}
-use Rattle.run_exact.specs.Runs.SingleRuns.{IsPlainOperation, IsTypedStep, IsSingleProgram}
+use Rattle.typed_lowering.specs.SingleRuns.{IsPlainOperation, IsTypedStep, IsSingleProgram}
 use Rattle.cli_examples.specs.Units.WorkedPlaces.{at}
 use Rattle.cli_examples.specs.Units.WorkedTrees.{int, checked_unit}
 use Rattle.cli_examples.proofs.analyses.WorkedProgram.{program}

@@ -26,7 +26,7 @@ use Rattle.cli_answers.specs.Outcomes.{Took, PutOnce, Answers}
 use Rattle.cli_answers.specs.Verdicts.{report_status, IsVerdict, IsLater}
 use Rattle.cli_theorems.specs.Units.Told.{IsAcceptedCheck, ToldReport}
 use Rattle.cli_theorems.specs.Reports.OneReports.{OneReport, OneVerdict}
-use Rattle.typed_programs.specs.PlainUnits.PlainUnits.{is_plain_unit}
+use Rattle.typed_lowering.specs.PlainUnits.{is_plain_unit}
 use Rattle.typed_lowering.specs.Units.PlainUnits.{IsPlainUnit}
 use Rattle.typed_lowering.specs.Conversions.TypedUnits.{is_typed_unit}
 use Rattle.cli_examples.specs.Outcomes.WorkedAnswers.{IsExpandedFromHeld, IsNamedModel}

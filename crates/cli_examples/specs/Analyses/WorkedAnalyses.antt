@@ -14,7 +14,7 @@ use Rattle.lower.specs.Inlining.Lowerings.{IsLowering}
 use Rattle.interval_domain.specs.declared.intervals.intervals.Interval.{Interval}
 use Rattle.value_domain.specs.declared.values.row_cells.Cell.{Cell}
 use Rattle.analysis.specs.Analyses.{row_lattice, machine_of, IsAnalysis}
-use Rattle.run_exact.specs.Runs.SingleRuns.{IsSingleProgram}
+use Rattle.typed_lowering.specs.SingleRuns.{IsSingleProgram}
 use Rattle.cli_examples.specs.Units.WorkedPlaces.{division}
 use Rattle.cli_examples.specs.Units.WorkedTrees.{checked_unit}
 

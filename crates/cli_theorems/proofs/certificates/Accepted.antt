@@ -9,7 +9,7 @@ use Rattle.lower_templates.specs.Views.ProgramViews.{flow_view}
 use Rattle.analysis_determined.proofs.program_views.SameNumbers.{one_list_of_views}
 use Rattle.interval_domain.specs.declared.intervals.intervals.Interval.{Interval}
 use Rattle.value_domain.specs.declared.values.row_cells.Cell.{Cell}
-use Rattle.analysis.specs.Analyses.{admitted_pairs, IsAnalysis}
+use Rattle.analysis_determined.specs.Analyses.{admitted_pairs, IsAnalysis}
 use Rattle.analysis_determined.proofs.analysis_views.OneAnalysis.{one_admission, one_analysis}
 use Rattle.certificate_check.specs.Reading.MapReading.{map_rows}
 use Rattle.certificate_check.specs.declared.verdicts.verdicts.CertFault.{CertFault}

@@ -12,7 +12,7 @@ use Rattle.cfg.specs.declared.programs.Flow.{Flow}
 use Rattle.lower_templates.specs.Views.ProgramViews.{FlowView, flow_view}
 use Rattle.analysis_determined.proofs.program_views.SameNumbers.{one_list_of_views}
 use Rattle.loop_unrolling.specs.Turns.{split}
-use Rattle.analysis.specs.Analyses.{IsAnalysis}
+use Rattle.analysis_determined.specs.Analyses.{IsAnalysis}
 use Rattle.analysis_determined.proofs.least_maps.OrderedSets as ordered
 use Rattle.analysis_determined.proofs.analysis_views.OneAnalysis.{one_analysis}
 use Rattle.cli_units.specs.Judging.{SettingView, IsTurned, IsFound, Judgement, cells_from, IsJudged}

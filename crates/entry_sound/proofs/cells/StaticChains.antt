@@ -20,7 +20,7 @@ use Rattle.pointer_domain.specs.BaseSets.{no_base, bases_has}
 use Rattle.pointer_domain.specs.BaseFacts.{with_has_same}
 use Rattle.store_objects.specs.LiveBases.{most_bases, only_base}
 use Rattle.store_cells.specs.NearValues.{near_value}
-use Rattle.transfer_edges.specs.StartRows.{static_class, pointer_into, static_pointer, static_value}
+use Rattle.transfer_system.specs.StartRows.{static_class, pointer_into, static_pointer, static_value}
 use Rattle.memory_model.specs.Memory.Labels.{no_labels}
 use Rattle.memory_model.specs.Memory.ScalarSizes.{class_bytes}
 use Rattle.memory_model.specs.Memory.Bytes.{null, into}
@@ -38,8 +38,8 @@ use Rattle.store_sound.specs.Store.Scalars.{signed_in}
 use Rattle.store_sound.proofs.store.Frames.{IsAlike}
 use Rattle.store_sound.specs.Programs.Premises.{HasPremises}
 use Rattle.store_sound.proofs.programs.Sizes.{same_bytes}
-use Rattle.transfer_sound.proofs.values.NearScalars.{IsNearScalar, near_scalar_stands}
-use Rattle.transfer_sound.proofs.memory.ScalarClasses.{class_pair}
+use Rattle.library_sound.proofs.NearScalars.{IsNearScalar, near_scalar_stands}
+use Rattle.library_sound.proofs.ScalarClasses.{class_pair}
 use Rattle.store_sound.proofs.store.FreshValues.{type_near}
 use Rattle.entry_sound.specs.Cells.StaticObjects.{IsValueOf}
 

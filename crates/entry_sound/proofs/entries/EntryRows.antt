@@ -9,8 +9,8 @@ use Rattle.interval_domain.specs.Intervals.IntervalNumbers.{interval_numbers, in
 use Rattle.domain_theorems.specs.Intervals.Operations.{interval_sound}
 use Rattle.value_domain.specs.declared.values.row_cells.Cell.TheVariants.{Nothing}
 use Rattle.transfer_system.specs.System.FlowMachines.{start_of}
-use Rattle.row_bounds.proofs.entries.RegularStarts.{regular_fits}
-use Rattle.system_monotone.proofs.systems.RegularPrograms.{regular_of}
+use Rattle.library_sound.proofs.RegularStarts.{regular_fits}
+use Rattle.library_sound.proofs.RegularPrograms.{regular_of}
 use Rattle.store_sound.specs.Programs.Premises.{AreHeld}
 use Rattle.store_sound.proofs.programs.WellFormedPremises.{meets_premises}
 use Rattle.entry_sound.proofs.starts.StartedRows as started

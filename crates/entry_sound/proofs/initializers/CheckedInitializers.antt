@@ -37,8 +37,8 @@ use Rattle.store_monotone.proofs.tags.FoldedTags.{all_tags}
 use Rattle.store_monotone.proofs.tags.PartTags.{of_element}
 use Rattle.store_monotone.proofs.tags.TypeTags.{model_bytes, some_bytes}
 use Rattle.analysis_preconditions.specs.StructNesting.OrderedStructs.{are_ordered}
-use Rattle.transfer_edges.specs.StartRows.{static_class}
-use Rattle.transfer_sound.proofs.memory.ScalarClasses.{class_same}
+use Rattle.transfer_system.specs.StartRows.{static_class}
+use Rattle.library_sound.proofs.ScalarClasses.{class_same}
 use Rattle.entry_sound.specs.Tables.TypedInitializers.{IsTypedValue, type_tag, HasScalar, HasCharacters, IsTypedStore, AreTypedStores, HasTypedInitializers}
 use Rattle.entry_sound.specs.Initializers.CheckedInitializers.{CheckedInitializersAreTyped}
 use Rattle.entry_sound.proofs.initializers.TypedParts.{sized_is, complete_long, IsTagged, part_tagged}

@@ -19,7 +19,7 @@ use Rattle.memory_model.specs.Effects.ScalarBytes.{number_bytes, parts_from, sca
 use Rattle.memory_model.specs.Effects.UnitStarts.{base_instance, value_bytes, all_stored, typed_bytes}
 use Rattle.store_monotone.specs.Store.StoreLaws.{AreBytes}
 use Rattle.store_sound.proofs.store.Slices.{get_map}
-use Rattle.transfer_sound.proofs.enter.GrownSanity.{blank_long, blank_byte}
+use Rattle.library_sound.proofs.GrownSanity.{blank_long, blank_byte}
 use Rattle.entry_sound.specs.Memory.FirstStates.{input_bytes}
 
 no_element : {A : Type 0} (x : A) (k : ℕ) → slice_get [] k ≡ Some x → ⊥

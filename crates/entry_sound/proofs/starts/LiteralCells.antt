@@ -51,7 +51,7 @@ use Rattle.store_sound.proofs.programs.ShapedBases.{all_at}
 use Rattle.store_sound.specs.Regions.RegionWrites.{IsRegion, StandsBase}
 use Rattle.store_sound.proofs.regions.Layers.{value_turn, zero_turn, leaf_turn, part_turn, leaves_within, zeros_within}
 use Rattle.store_sound.proofs.regions.RegionArrays.{array_short, any_zero_stands, put_zero_stands}
-use Rattle.transfer_sound.proofs.clear.FullParts.{parts_full}
+use Rattle.library_sound.proofs.FullParts.{parts_full}
 use Rattle.library_sound.proofs.spelling.Texts.{content_is}
 use Rattle.library_sound.proofs.spelling.SpelledCells.{IsText, leaf_spelled}
 use Rattle.library_sound.proofs.spelling.SpelledZeros.{ends_inside, zero_spelled}

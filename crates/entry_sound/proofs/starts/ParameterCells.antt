@@ -24,7 +24,7 @@ use Rattle.store_cells.specs.CellReads.{whole_range}
 use Rattle.store_cells.specs.NearValues.{near_value}
 use Rattle.store_cells.specs.RowPositions.{leaf_position, value_in, value_at, put_value}
 use Rattle.store_cells.specs.ScalarTypes.{kind_of}
-use Rattle.transfer_edges.specs.StartRows.{put_parameter}
+use Rattle.transfer_system.specs.StartRows.{put_parameter}
 use Rattle.memory_model.specs.Memory.ScalarSizes.{is_pointer, class_bytes}
 use Rattle.memory_model.specs.Memory.Bytes.{Byte}
 use Rattle.memory_model.specs.Memory.Instances.{Memory, bytes_at, byte_at}
@@ -44,7 +44,7 @@ use Rattle.store_sound.proofs.chars.ByteValues.{number_within}
 use Rattle.store_sound.specs.Programs.Premises.{HasPremises}
 use Rattle.store_sound.proofs.programs.Sizes.{same_bytes}
 use Rattle.store_sound.specs.Regions.RegionWrites.{StandsBase}
-use Rattle.transfer_sound.proofs.values.NearScalars.{near_number_stands}
+use Rattle.library_sound.proofs.NearScalars.{near_number_stands}
 use Rattle.entry_sound.specs.Starts.Parameters.{IsParameterObject, ParametersStand}
 
 same_least : (a b : IntType) → a.bytes ≡ b.bytes → a.signed ≡ b.signed → least_of a ≡ least_of b

@@ -29,7 +29,7 @@ use Rattle.store_objects.specs.ObjectLives.{at_base, clear_object, clear}
 use Rattle.store_cells.specs.RowPositions.{leaf_position, zero_position, state_position, cell_at, put_value, put_state}
 use Rattle.store.specs.Spelling.{spell_object, spell}
 use Rattle.store_cells.specs.Walks.{walk, turns}
-use Rattle.transfer_edges.specs.StartRows.{no_value, empty_state, empty_base, empty_base_at, empty_bases, empty_row, store_at, start_stores, start_value, start_object, object_at, start_objects, put_parameter, start_parameter, parameter_at, start_parameters, started, start_row}
+use Rattle.transfer_system.specs.StartRows.{no_value, empty_state, empty_base, empty_base_at, empty_bases, empty_row, store_at, start_stores, start_value, start_object, object_at, start_objects, put_parameter, start_parameter, parameter_at, start_parameters, started, start_row}
 use Rattle.memory_model.specs.Memory.Instances.{Memory}
 use Rattle.memory_model.specs.Effects.NumberedTables.{empty_table}
 use Rattle.memory_model.specs.Effects.Touches.{is_allocated}
@@ -46,7 +46,7 @@ use Rattle.store_sound.proofs.store.StoreRows as rows
 use Rattle.store_sound.specs.Programs.Premises.{HasPremises}
 use Rattle.store_sound.specs.Regions.RegionWrites.{StandsBase}
 use Rattle.store_sound.proofs.regions.BaseRows.{same_base}
-use Rattle.transfer_sound.proofs.objects.BlankRows as blank
+use Rattle.library_sound.proofs.BlankRows as blank
 use Rattle.entry_sound.specs.Starts.Parameters.{IsParameterObject}
 use Rattle.entry_sound.specs.Starts.StartedRows.{HasStart, IsBegun, IsTaken, HasObject, HasParameter, IsBeginning, StartRowsStand, RunsBeginInStartRows}
 use Rattle.entry_sound.proofs.cells.ClearedCells.{clear_only}

@@ -31,7 +31,7 @@ use Rattle.store_cells.specs.RowPositions.{value_at}
 use Rattle.store.specs.Spelling.{written_count, character, spell_object, spell}
 use Rattle.store.specs.Stores.{store}
 use Rattle.store_cells.specs.Walks.{walk}
-use Rattle.transfer_edges.specs.StartRows.{static_class, pointer_into, static_value, store_static, start_store, store_at, start_stores}
+use Rattle.transfer_system.specs.StartRows.{static_class, pointer_into, static_value, store_static, start_store, store_at, start_stores}
 use Rattle.memory_model.specs.Memory.Labels.{no_labels}
 use Rattle.memory_model.specs.Memory.ScalarSizes.{same_class, class_bytes}
 use Rattle.memory_model.specs.Memory.Bytes.{MachinePointer, into, number, Byte}
@@ -66,11 +66,11 @@ use Rattle.store_sound.proofs.regions.BaseRows.{same_base, stands_base}
 use Rattle.store_sound.proofs.regions.ContentRegions.{IsWritten, contents_written, contents_sane, region_content}
 use Rattle.store_sound.specs.Programs.Premises.{HasPremises}
 use Rattle.store_sound.proofs.programs.ShapedBases.{all_at}
-use Rattle.transfer_sound.specs.Values.SoundSteps.{AreShort, IsReached}
-use Rattle.transfer_sound.proofs.values.NearScalars.{near_pointer_stands}
-use Rattle.transfer_sound.proofs.objects.BlankRows as blank
-use Rattle.transfer_sound.proofs.clear.Clearing.{cleared_stands}
-use Rattle.transfer_sound.proofs.clear.FullParts.{parts_full}
+use Rattle.library_sound.specs.SoundSteps.{AreShort, IsReached}
+use Rattle.library_sound.proofs.NearScalars.{near_pointer_stands}
+use Rattle.library_sound.proofs.BlankRows as blank
+use Rattle.library_sound.proofs.Clearing.{cleared_stands}
+use Rattle.library_sound.proofs.FullParts.{parts_full}
 use Rattle.library_sound.proofs.spelling.Texts.{contents, contents_long, content_is, byte_small}
 use Rattle.library_sound.proofs.spelling.SpelledCells.{IsText}
 use Rattle.library_sound.proofs.spelling.SpelledZeros.{ends_inside}

@@ -31,7 +31,7 @@ use Rattle.semantics.specs.CfgMachine.FlowStates.{Standing}
 use Rattle.semantics.specs.CfgMachine.FlowStarts.{Names}
 use Rattle.lower_objects.specs.Shapes.FirstZeros.{zeros_of}
 use Rattle.lower_objects.specs.Counts.SharedObjects.{literal_type}
-use Rattle.transfer_edges.specs.StartRows.{static_class, with_size, base_in}
+use Rattle.transfer_system.specs.StartRows.{static_class, with_size, base_in}
 use Rattle.memory_model.specs.Memory.Labels.{no_labels}
 use Rattle.memory_model.specs.Memory.Bytes.{number}
 use Rattle.memory_model.specs.Memory.Instances.{live, Memory, bytes_of, bytes_at, life_at}

@@ -54,8 +54,8 @@ use Rattle.store_sound.proofs.programs.ShapedBases.{all_at}
 use Rattle.store_sound.proofs.programs.Sizes.{same_bytes}
 use Rattle.transfer_system.specs.System.RegularPrograms.{is_byte, spells_bytes, begins_with_bytes, has_initial_bytes}
 use Rattle.store_cells.specs.ScalarTypes.{kind_of}
-use Rattle.transfer_sound.specs.Values.SoundSteps.{AreShort}
-use Rattle.transfer_edges.specs.StartRows.{static_class}
+use Rattle.library_sound.specs.SoundSteps.{AreShort}
+use Rattle.transfer_system.specs.StartRows.{static_class}
 use Rattle.lower_objects.specs.Shapes.FirstZeros.{zero_part, zeros_within, zeros_of}
 use Rattle.lower_objects.specs.Counts.SharedObjects.{literal_type}
 use Rattle.lower_tables.specs.Bases.BaseTables.{known}

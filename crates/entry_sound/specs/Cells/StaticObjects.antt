@@ -19,7 +19,7 @@ use Rattle.cfg.specs.WellFormed.{is_well_formed}
 use Rattle.cfg.specs.declared.programs.Flow.{Flow}
 use Rattle.value_domain.specs.declared.values.row_cells.Cell.{Cell}
 use Rattle.store_objects.specs.ObjectLives.{clear}
-use Rattle.transfer_edges.specs.StartRows.{base_in, static_class, start_stores}
+use Rattle.transfer_system.specs.StartRows.{base_in, static_class, start_stores}
 use Rattle.memory_model.specs.Memory.Labels.{no_labels}
 use Rattle.memory_model.specs.Memory.ScalarSizes.{class_bytes}
 use Rattle.memory_model.specs.Memory.Bytes.{number}
@@ -31,7 +31,7 @@ use Rattle.store_sound.specs.Concretization.ValueMeaning.{Naming}
 use Rattle.store_sound.specs.Concretization.SoundMemory.{IsMemoryOf, AreEntered}
 use Rattle.store_sound.specs.Programs.Premises.{HasPremises}
 use Rattle.store_sound.specs.Regions.RegionWrites.{StandsBase}
-use Rattle.transfer_sound.specs.Values.SoundSteps.{AreShort}
+use Rattle.library_sound.specs.SoundSteps.{AreShort}
 use Rattle.library_sound.specs.Spelling.SpellSteps.{SpellsBytes}
 
 module _ (u : UnitView) (flow : Flow) (naming : Naming) (memory : Memory) where

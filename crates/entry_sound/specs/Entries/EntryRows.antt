@@ -6,9 +6,9 @@ use Rattle.interval_domain.specs.Intervals.Spans.{Stands}
 use Rattle.interval_domain.specs.Intervals.IntervalLattice.{interval_lattice}
 use Rattle.interval_domain.specs.Intervals.IntervalNumbers.{interval_numbers}
 use Rattle.transfer_system.specs.System.FlowMachines.{has_start}
-use Rattle.row_bounds.specs.Edges.OwnLists.{ReachesTypes}
+use Rattle.library_sound.specs.OwnLists.{ReachesTypes}
 use Rattle.transfer_system.specs.System.RegularPrograms.{is_regular}
-use Rattle.transfer_sound.specs.InvariantMaps.CarriedMaps.{EntryStands}
+use Rattle.library_sound.specs.CarriedMaps.{EntryStands}
 use Rattle.entry_sound.specs.Tables.UnitStarts.{StartsAs}
 
 -- of a regular program that has a start row and begins with what is in the unit's tables

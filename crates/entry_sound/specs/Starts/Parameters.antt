@@ -10,7 +10,7 @@ use Rattle.c_layout.specs.declared.shapes.BaseKind.TheVariants.{Automatic}
 use Rattle.cfg.specs.ModelKinds.{is_int_type}
 use Rattle.cfg.specs.declared.programs.Flow.{Flow}
 use Rattle.value_domain.specs.declared.values.row_cells.Cell.{Cell}
-use Rattle.transfer_edges.specs.StartRows.{put_parameter}
+use Rattle.transfer_system.specs.StartRows.{put_parameter}
 use Rattle.memory_model.specs.Memory.Labels.{input_labels}
 use Rattle.memory_model.specs.Memory.Bytes.{number, Byte}
 use Rattle.memory_model.specs.Memory.Instances.{Memory, live, bytes_at, life_at}

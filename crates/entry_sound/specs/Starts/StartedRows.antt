@@ -12,7 +12,7 @@ use Rattle.cfg.specs.declared.programs.InitialValue.{InitialValue}
 use Rattle.cfg.specs.declared.programs.InitialValue.TheVariants as initial
 use Rattle.cfg.specs.declared.programs.ParameterInput.{ParameterInput}
 use Rattle.value_domain.specs.declared.values.row_cells.Cell.{Cell}
-use Rattle.transfer_edges.specs.StartRows.{start_row}
+use Rattle.transfer_system.specs.StartRows.{start_row}
 use Rattle.memory_model.specs.Memory.Labels.{no_labels}
 use Rattle.memory_model.specs.Memory.Bytes.{number}
 use Rattle.memory_model.specs.Memory.Instances.{Memory, bytes_at}
@@ -26,7 +26,7 @@ use Rattle.store_sound.specs.Concretization.RowMeaning.{StandsFor}
 use Rattle.store_sound.specs.Concretization.SoundMemory.{IsMemoryOf, AreEntered}
 use Rattle.store_sound.specs.Concretization.ValueMeaning.{Naming}
 use Rattle.store_sound.specs.Programs.Premises.{HasPremises}
-use Rattle.transfer_sound.specs.Values.SoundSteps.{AreShort, StandsBehind}
+use Rattle.library_sound.specs.SoundSteps.{AreShort, StandsBehind}
 use Rattle.entry_sound.specs.Starts.Literals.{IsLiteralObject}
 use Rattle.entry_sound.specs.Starts.Parameters.{IsParameterObject}
 use Rattle.entry_sound.specs.Cells.StaticObjects.{AreStoresOf, IsStaticObject}

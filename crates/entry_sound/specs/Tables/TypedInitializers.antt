@@ -10,7 +10,7 @@ use Rattle.c_layout.specs.declared.leaf_lists.Class.{Class}
 use Rattle.c_layout.specs.declared.leaf_lists.Class.TheVariants.{Char}
 use Rattle.c_layout.specs.declared.checked_tree.checked_units.StaticValue.{StaticValue}
 use Rattle.c_layout.specs.declared.checked_tree.checked_units.StaticValue.TheVariants.{Number, Null, Address}
-use Rattle.transfer_edges.specs.StartRows.{static_class}
+use Rattle.transfer_system.specs.StartRows.{static_class}
 use Rattle.memory_model.specs.Memory.ScalarSizes.{class_bytes}
 use Rattle.memory_model.specs.Memory.Bytes.{Tag}
 use Rattle.memory_model.specs.Memory.Tags.{tag_of, tag_at}

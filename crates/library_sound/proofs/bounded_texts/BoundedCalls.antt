@@ -47,7 +47,7 @@ use Rattle.transfer_library.specs.declared.memory_calls.Target.{Target}
 use Rattle.transfer_library_writes.specs.declared.source_bytes.Characters.{Characters}
 use Rattle.transfer_library_writes.specs.declared.text_writes.TextWrite.{TextWrite}
 use Rattle.transfer_library_writes.specs.declared.text_writes.ZeroRule.TheVariants as zero_rule
-use Rattle.transfer_instructions.specs.Instructions.CallSteps.{call_of}
+use Rattle.transfer_sound.specs.CallSteps.{call_of}
 use Rattle.memory_model.specs.Memory.Labels.{Labels, no_labels, is_unlabelled}
 use Rattle.memory_model.specs.Memory.Bytes.{MachinePointer, into, Content, indeterminate, number, part, Byte}
 use Rattle.memory_model.specs.Memory.Instances.{Memory, live, bytes_at, byte_at, life_at}

@@ -39,9 +39,9 @@ use Rattle.transfer_library.specs.Planning.{plan_call}
 use Rattle.transfer_library_plans.specs.Plans.{planned, trail_of, harmless}
 use Rattle.transfer_library_plans.specs.declared.call_plans.Effect.TheVariants as effect
 use Rattle.transfer_library_plans.specs.declared.call_plans.Plan.{Plan}
-use Rattle.transfer_instructions.specs.Instructions.CallSteps.{call_of, call_step}
-use Rattle.transfer_instructions.specs.Instructions.StepViolations.{operation_violations}
-use Rattle.transfer_instructions.specs.Instructions.Steps.{operate}
+use Rattle.transfer_sound.specs.CallSteps.{call_of, call_step}
+use Rattle.transfer_sound.specs.StepViolations.{operation_violations}
+use Rattle.transfer_sound.specs.Steps.{operate}
 use Rattle.memory_model.specs.Memory.Labels.{Labels, input_labels, no_labels}
 use Rattle.memory_model.specs.Memory.Scalars.{Scalar, integer, pointer}
 use Rattle.memory_model.specs.Effects.CharacterCalls as machine

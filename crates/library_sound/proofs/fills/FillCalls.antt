@@ -37,7 +37,7 @@ use Rattle.transfer_library_plans.specs.declared.call_plans.Plan.{Plan}
 use Rattle.transfer_library_plans.specs.declared.call_plans.Trail.{Trail}
 use Rattle.transfer_library_writes.specs.declared.fill_writes.FillWrite.{FillWrite}
 use Rattle.transfer_library.specs.declared.memory_calls.Target.{Target}
-use Rattle.transfer_instructions.specs.Instructions.CallSteps.{call_of}
+use Rattle.transfer_sound.specs.CallSteps.{call_of}
 use Rattle.memory_model.specs.Memory.Labels.{Labels, is_unlabelled}
 use Rattle.memory_model.specs.Memory.Bytes.{MachinePointer, into, Content, number, Byte}
 use Rattle.memory_model.specs.Memory.Instances.{Memory, live, bytes_at, byte_at, life_at}

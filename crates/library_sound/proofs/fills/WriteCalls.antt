@@ -25,7 +25,7 @@ use Rattle.transfer_library_plans.specs.Calls.{Call}
 use Rattle.transfer_library.specs.Effects.{put_result, apply}
 use Rattle.transfer_library_plans.specs.Outputs.{argument_at}
 use Rattle.transfer_library_plans.specs.declared.call_plans.Plan.{Plan}
-use Rattle.transfer_instructions.specs.Instructions.CallSteps.{call_of}
+use Rattle.transfer_sound.specs.CallSteps.{call_of}
 use Rattle.memory_model.specs.Memory.Labels.{Labels, is_unlabelled}
 use Rattle.memory_model.specs.Memory.Bytes.{MachinePointer, into}
 use Rattle.memory_model.specs.Memory.Instances.{Memory, live, bytes_at, life_at}

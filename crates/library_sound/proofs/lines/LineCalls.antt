@@ -43,7 +43,7 @@ use Rattle.transfer_library_plans.specs.declared.call_plans.Trail.{Trail}
 use Rattle.transfer_library.specs.declared.memory_calls.Target.{Target}
 use Rattle.transfer_library_writes.specs.declared.source_bytes.Characters.{Characters}
 use Rattle.transfer_library_writes.specs.declared.text_writes.TextWrite.{TextWrite}
-use Rattle.transfer_instructions.specs.Instructions.CallSteps.{line_call, goes_on}
+use Rattle.transfer_sound.specs.CallSteps.{line_call, goes_on}
 use Rattle.memory_model.specs.Memory.Labels.{Labels, no_labels, input_labels, is_unlabelled}
 use Rattle.memory_model.specs.Memory.Bytes.{MachinePointer, null, into, Content, number, Byte}
 use Rattle.memory_model.specs.Memory.Instances.{Memory, live, bytes_at, byte_at, life_at}

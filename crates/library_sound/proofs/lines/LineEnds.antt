@@ -22,11 +22,11 @@ use Rattle.store_cells.specs.ScalarTypes.{kind_of}
 use Rattle.store_cells.specs.ByteWrites.{null_pointer}
 use Rattle.transfer_edges.specs.Edges.{last_instruction, line_call_of, put_null, no_line_edge, line_edge, follow, follow_if, edge}
 use Rattle.transfer_edges.specs.Edges as edges
-use Rattle.transfer_instructions.specs.Instructions.CallSteps.{planned_line, goes_on, write_line}
+use Rattle.transfer_sound.specs.CallSteps.{planned_line, goes_on, write_line}
 use Rattle.transfer_library.specs.StringCalls.{plan_fgets}
 use Rattle.transfer_library_plans.specs.declared.call_plans.Plan.{Plan}
-use Rattle.transfer_instructions.specs.Instructions.StepViolations.{operation_violations}
-use Rattle.transfer_instructions.specs.Instructions.Steps.{operate}
+use Rattle.transfer_sound.specs.StepViolations.{operation_violations}
+use Rattle.transfer_sound.specs.Steps.{operate}
 use Rattle.transfer_library.specs.Effects.{put_result, apply}
 use Rattle.memory_model.specs.Memory.Labels.{Labels}
 use Rattle.memory_model.specs.Memory.Bytes.{MachinePointer, null}

@@ -21,8 +21,8 @@ use Rattle.store.specs.StoreLengths.{spell_keeps}
 use Rattle.store_cells.specs.ScalarTypes.{kind_of}
 use Rattle.store.specs.Spelling.{written_count, character, spell_object, spell}
 use Rattle.transfer_checks.specs.ViolationSets.{no_violations}
-use Rattle.transfer_instructions.specs.Instructions.Steps.{operate}
-use Rattle.transfer_instructions.specs.Instructions.StepViolations.{operation_violations}
+use Rattle.transfer_sound.specs.Steps.{operate}
+use Rattle.transfer_sound.specs.StepViolations.{operation_violations}
 use Rattle.memory_model.specs.Memory.Labels.{no_labels}
 use Rattle.memory_model.specs.Memory.Bytes.{Byte}
 use Rattle.memory_model.specs.Memory.Instances.{Memory, Instance, bytes_of, bytes_at, byte_at, live, ended, life_at}

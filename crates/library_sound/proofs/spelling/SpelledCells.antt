@@ -19,7 +19,7 @@ use Rattle.store_cells.specs.ClassNumbers.{is_pointer}
 use Rattle.store.specs.LeafSelection.{has_place_in, is_selected}
 use Rattle.store_cells.specs.RowPositions.{capped, value_at, put_value, join_value, write_value}
 use Rattle.store.specs.Spelling.{character, character_number, written_window, begins_at, is_one_place, is_spelled, one_character, characters, spell_cell, spell_leaf_at}
-use Rattle.store_monotone.specs.Store.StoreLaws.{AreBytes}
+use Rattle.transfer_sound.specs.StoreLaws.{AreBytes}
 use Rattle.memory_model.specs.Memory.Labels.{no_labels}
 use Rattle.memory_model.specs.Memory.ScalarSizes.{class_bytes}
 use Rattle.memory_model.specs.Memory.Bytes.{Content, number, Byte}

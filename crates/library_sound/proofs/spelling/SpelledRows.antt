@@ -16,7 +16,7 @@ use Rattle.value_domain.specs.declared.values.row_cells.Cell.TheVariants.{Value,
 use Rattle.store_cells.specs.RowPositions.{leaf_position, zero_position, value_at, zero_at}
 use Rattle.store.specs.Spelling.{written_count, is_one_place, is_spelled, one_character, characters, spell_cell, spell_leaf_at, spell_leaf, spell_leaves, first_zero_of, spell_part, spell_zero, spell_object}
 use Rattle.store_cells.specs.Walks.{walk}
-use Rattle.store_monotone.specs.Store.StoreLaws.{AreBytes}
+use Rattle.transfer_sound.specs.StoreLaws.{AreBytes}
 use Rattle.memory_model.specs.Memory.Instances.{Memory, bytes_at}
 use Rattle.store_sound.specs.Concretization.SoundMemory.{IsMemoryOf}
 use Rattle.store_sound.specs.Concretization.ValueMeaning.{Naming, StandsZero}

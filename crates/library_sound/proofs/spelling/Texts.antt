@@ -17,7 +17,7 @@ use Rattle.store_cells.specs.NearValues.{near_number}
 use Rattle.store_cells.specs.RowPositions.{capped}
 use Rattle.store.specs.Spelling.{written_count, character, character_number, begins_at, text_length, hull_more, hull, one_character, characters, first_zero_of}
 use Rattle.store.specs.Spelling as spelling
-use Rattle.store_monotone.specs.Store.StoreLaws.{AreBytes}
+use Rattle.transfer_sound.specs.StoreLaws.{AreBytes}
 use Rattle.memory_model.specs.Memory.Labels.{no_labels}
 use Rattle.memory_model.specs.Memory.Bytes.{Content, number, Byte}
 use Rattle.memory_model.specs.Memory.Numbers.{Labelled, number_of}

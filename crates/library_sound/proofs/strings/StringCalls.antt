@@ -36,9 +36,9 @@ use Rattle.transfer_library_plans.specs.Plans.{planned, trail_of, checked}
 use Rattle.transfer_library_plans.specs.declared.call_plans.Effect.TheVariants as effect
 use Rattle.transfer_library_plans.specs.declared.call_plans.Plan.{Plan}
 use Rattle.transfer_library_plans.specs.declared.call_plans.Trail.{Trail}
-use Rattle.transfer_instructions.specs.Instructions.CallSteps.{call_of, call_step}
-use Rattle.transfer_instructions.specs.Instructions.StepViolations.{operation_violations}
-use Rattle.transfer_instructions.specs.Instructions.Steps.{operate}
+use Rattle.transfer_sound.specs.CallSteps.{call_of, call_step}
+use Rattle.transfer_sound.specs.StepViolations.{operation_violations}
+use Rattle.transfer_sound.specs.Steps.{operate}
 use Rattle.memory_model.specs.Memory.Labels.{no_labels}
 use Rattle.memory_model.specs.Memory.Bytes.{MachinePointer, into}
 use Rattle.memory_model.specs.Memory.Instances.{live, bytes_at, life_at}

@@ -7,7 +7,7 @@ use Rattle.transfer_checks.specs.ViolationSets.{violations_union, violates}
 use Rattle.transfer_checks.specs.declared.violation_sets.Violations.{Violations}
 use Rattle.transfer_library_plans.specs.Plans.{checked}
 use Rattle.transfer_library_plans.specs.declared.call_plans.Trail.{Trail}
-use Rattle.transfer_monotone.proofs.values.ViolationOrder.{same_below, union_left}
+use Rattle.transfer_sound.proofs.ViolationOrder.{same_below, union_left}
 
 told_right : (u v : Violations) (r : Rule) → violates v r ≡ true → violates (violations_union u v) r ≡ true
 told_right u v Accfree e = or_right u.accfree v.accfree e

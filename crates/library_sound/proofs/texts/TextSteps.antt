@@ -14,9 +14,9 @@ use Rattle.cfg.specs.declared.machine_instructions.Operation.TheVariants as op
 use Rattle.cfg.specs.declared.programs.Flow.{Flow}
 use Rattle.value_domain.specs.declared.values.row_cells.Cell.{Cell}
 use Rattle.transfer_library.specs.Planning.{plan_call}
-use Rattle.transfer_instructions.specs.Instructions.CallSteps.{call_of, call_step}
-use Rattle.transfer_instructions.specs.Instructions.StepViolations.{operation_violations}
-use Rattle.transfer_instructions.specs.Instructions.Steps.{operate}
+use Rattle.transfer_sound.specs.CallSteps.{call_of, call_step}
+use Rattle.transfer_sound.specs.StepViolations.{operation_violations}
+use Rattle.transfer_sound.specs.Steps.{operate}
 use Rattle.memory_model.specs.Memory.Scalars.{Scalar, integer, pointer}
 use Rattle.memory_model.specs.Effects.LibraryCalls.{library}
 use Rattle.memory_model.specs.Effects.Worlds.{stops, Stuck}

@@ -10,7 +10,7 @@ use Rattle.cfg.specs.WellFormed.{is_well_formed}
 use Rattle.cfg.specs.declared.machine_instructions.Operation.{Operation}
 use Rattle.cfg.specs.declared.machine_instructions.Operation.TheVariants as op
 use Rattle.cfg.specs.declared.programs.Flow.{Flow}
-use Rattle.store_monotone.specs.Store.StoreLaws.{AreBytes}
+use Rattle.transfer_sound.specs.StoreLaws.{AreBytes}
 use Rattle.memory_model.specs.Memory.Tags.{tag_of, tag_at}
 use Rattle.store_sound.specs.Programs.Premises.{HasPremises}
 use Rattle.transfer_sound.specs.Values.SoundSteps.{AreSound}

@@ -55,13 +55,13 @@ use Rattle.store_sound.specs.Concretization.Coverage.{state_of}
 use Rattle.store_cells.specs.AccessWindows.{last_offset}
 use Rattle.store_sound.proofs.store.TouchedRest.{near_stands}
 use Rattle.store_sound.specs.Programs.Premises.{HasPremises}
-use Rattle.transfer_sound.specs.Values.SoundSteps.{AreShort, IsReached, StandsBehind, IsStoodFor}
-use Rattle.transfer_sound.proofs.values.Admitted.{AreAdmitted, none_admitted, one_admitted, both_admitted}
-use Rattle.transfer_sound.proofs.values.PutTemps.{IsResult, put_stands, put_long}
-use Rattle.transfer_sound.proofs.values.Replies.{stop_good}
+use Rattle.library_sound.specs.SoundSteps.{AreShort, IsReached, StandsBehind, IsStoodFor}
+use Rattle.library_sound.proofs.Admitted.{AreAdmitted, none_admitted, one_admitted, both_admitted}
+use Rattle.library_sound.proofs.PutTemps.{IsResult, put_stands, put_long}
+use Rattle.library_sound.proofs.Replies.{stop_good}
 use Rattle.library_sound.proofs.calls.Calls.{DrawnEnd, gave, ran_out, drawn_end, clean, GoodPlan, plan_stops}
 use Rattle.library_sound.proofs.strings.Trails.{still_told}
-use Rattle.transfer_sound.proofs.enter.GrownMemory.{grows}
+use Rattle.library_sound.proofs.GrownMemory.{grows}
 use Rattle.library_sound.proofs.fills.WriteCalls.{argument_stands, value_of}
 use Rattle.memory_calls_sound.proofs.allocations.FreshCells.{untyped_long}
 use Rattle.memory_calls_sound.proofs.allocations.Products.{IsAsked, asked_some, asked_has, asked_small, plain_asked, products_asked}

@@ -24,10 +24,10 @@ use Rattle.memory_model.specs.Effects.Worlds.{stops, Stuck}
 use Rattle.semantics.specs.CfgMachine.FlowStates.{Standing, values_of}
 use Rattle.store_sound.specs.Concretization.ValueMeaning.{Naming}
 use Rattle.store_sound.specs.Programs.Premises.{HasPremises}
-use Rattle.transfer_sound.specs.Values.SoundSteps.{IsReached, StepIsSound}
-use Rattle.transfer_sound.proofs.values.Replies.{if_some_good}
+use Rattle.library_sound.specs.SoundSteps.{IsReached, StepIsSound}
+use Rattle.library_sound.proofs.Replies.{if_some_good}
 use Rattle.library_sound.proofs.calls.Calls.{clean}
-use Rattle.transfer_sound.specs.Values.OperandTypes.{HasSize, HasSizes, HasOperands}
+use Rattle.library_sound.specs.OperandTypes.{HasSize, HasSizes, HasOperands}
 use Rattle.memory_calls_sound.specs.Allocations.AllocationCalls.{Allocates, IsAllocationCall}
 use Rattle.library_sound.proofs.fills.WriteCalls.{Good, plain_stop, argument_there}
 use Rattle.memory_calls_sound.proofs.allocations.AllocationCalls.{malloc_good, calloc_good}

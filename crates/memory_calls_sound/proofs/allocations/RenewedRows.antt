@@ -38,8 +38,8 @@ use Rattle.store_sound.specs.Concretization.ValueMeaning.{Naming, StandsInto, St
 use Rattle.store_sound.specs.Concretization.RowMeaning.{MachineState, array_of, array_bytes, IsLiveOf, StandsCell, StandsLeaf, StandsClass, StandsFor}
 use Rattle.store_sound.proofs.store.TouchedRest.{near_stands}
 use Rattle.store_sound.specs.Programs.Premises.{HasPremises}
-use Rattle.transfer_sound.proofs.values.PutTemps.{IsResult}
-use Rattle.transfer_sound.proofs.enter.GrownMemory.{grows, naming_too, names_too}
+use Rattle.library_sound.proofs.PutTemps.{IsResult}
+use Rattle.library_sound.proofs.GrownMemory.{grows, naming_too, names_too}
 use Rattle.memory_calls_sound.proofs.allocations.FreshCells.{untyped_long, untyped_byte, blank_cell, zero_cell, blank_zero, zeros_zero}
 use Rattle.memory_calls_sound.proofs.allocations.FreshRows.{fresh_only, fresh_leaf_is, fresh_class_is, fresh_zero_is, fresh_state_is}
 use Rattle.memory_calls_sound.proofs.allocations.GrownStates.{StandsFresh, grown_stands, own_at, own_bytes, own_life}

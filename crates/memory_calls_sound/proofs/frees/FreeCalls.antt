@@ -52,11 +52,11 @@ use Rattle.store_sound.proofs.store.Sets.{is_single}
 use Rattle.store_sound.proofs.store.Slices.{get_there}
 use Rattle.store_sound.proofs.store.StoreLeaves.{not_older}
 use Rattle.store_sound.specs.Programs.Premises.{HasPremises}
-use Rattle.transfer_sound.specs.Values.SoundSteps.{IsReached, StandsBehind, IsStoodFor, StepIsSound}
-use Rattle.transfer_sound.proofs.values.Admitted.{one_admitted, both_admitted}
-use Rattle.transfer_sound.proofs.values.Replies.{if_some_good}
+use Rattle.library_sound.specs.SoundSteps.{IsReached, StandsBehind, IsStoodFor, StepIsSound}
+use Rattle.library_sound.proofs.Admitted.{one_admitted, both_admitted}
+use Rattle.library_sound.proofs.Replies.{if_some_good}
 use Rattle.library_sound.proofs.calls.Calls.{first_argument, clean, GoodPlan, plan_stops}
-use Rattle.transfer_sound.proofs.memory.LoadSteps.{union_right}
+use Rattle.library_sound.proofs.LoadSteps.{union_right}
 use Rattle.memory_calls_sound.specs.Frees.FreeCalls.{Frees, IsFreeCall}
 use Rattle.memory_calls_sound.proofs.frees.ReleasedMemory.{IsReleased, none_released, one_released, others_live, own_freed}
 use Rattle.memory_calls_sound.proofs.frees.FreedRows.{IsFreeing, freed_stands, freed_short}

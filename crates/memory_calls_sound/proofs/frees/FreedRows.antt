@@ -32,8 +32,8 @@ use Rattle.store_sound.specs.Concretization.RowMeaning.{IsLiveOf, StandsCell, St
 use Rattle.store_sound.proofs.store.Slices.{get_there}
 use Rattle.store_sound.proofs.store.StoreRows.{leaf_is, class_is, zero_is}
 use Rattle.store_sound.specs.Programs.Premises.{HasPremises}
-use Rattle.transfer_sound.specs.Values.SoundSteps.{AreShort, IsReached}
-use Rattle.transfer_sound.proofs.values.NearScalars.{IsNearNumber, near_offset, near_number_stands}
+use Rattle.library_sound.specs.SoundSteps.{AreShort, IsReached}
+use Rattle.library_sound.proofs.NearScalars.{IsNearNumber, near_offset, near_number_stands}
 use Rattle.memory_calls_sound.proofs.frees.ReleasedMemory.{IsFreed, IsReleased, live_of_base, matched_was, scalar_released, named_released, released_sane, scalar_stays, content_stays}
 use Rattle.memory_calls_sound.proofs.frees.FreedCells.{free_keeps_cell, free_frees}
 

@@ -55,9 +55,9 @@ use Rattle.store_sound.specs.Programs.Premises.{HasPremises}
 use Rattle.store_sound.specs.Regions.RegionWrites.{IsRegion}
 use Rattle.store_sound.proofs.regions.BaseRows.{none_stands}
 use Rattle.store_sound.proofs.regions.Regions.{alike_region}
-use Rattle.transfer_sound.specs.Values.SoundSteps.{IsReached}
-use Rattle.transfer_sound.proofs.values.Admitted.{AreAdmitted, both_admitted}
-use Rattle.transfer_sound.proofs.values.PutTemps.{IsResult}
+use Rattle.library_sound.specs.SoundSteps.{IsReached}
+use Rattle.library_sound.proofs.Admitted.{AreAdmitted, both_admitted}
+use Rattle.library_sound.proofs.PutTemps.{IsResult}
 use Rattle.library_sound.proofs.calls.Calls.{clean}
 use Rattle.library_sound.proofs.strings.GivenPointers.{reach_of}
 use Rattle.library_sound.proofs.strings.Trails.{still_told, told_here, goes_further}

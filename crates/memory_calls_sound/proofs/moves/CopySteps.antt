@@ -22,10 +22,10 @@ use Rattle.memory_model.specs.Effects.Worlds.{stops, Stuck}
 use Rattle.semantics.specs.CfgMachine.FlowStates.{Standing, values_of}
 use Rattle.store_sound.specs.Concretization.ValueMeaning.{Naming}
 use Rattle.store_sound.specs.Programs.Premises.{HasPremises}
-use Rattle.transfer_sound.specs.Values.SoundSteps.{IsReached, StepIsSound}
-use Rattle.transfer_sound.proofs.values.Replies.{if_some_good}
+use Rattle.library_sound.specs.SoundSteps.{IsReached, StepIsSound}
+use Rattle.library_sound.proofs.Replies.{if_some_good}
 use Rattle.library_sound.proofs.calls.Calls.{clean}
-use Rattle.transfer_sound.specs.Values.OperandTypes.{TakesSize, HasOperands}
+use Rattle.library_sound.specs.OperandTypes.{TakesSize, HasOperands}
 use Rattle.memory_calls_sound.specs.Moves.CopyCalls.{CopiesBytes, IsCopyCall}
 use Rattle.library_sound.proofs.fills.WriteCalls.{Good, plain_stop, three_sized}
 use Rattle.memory_calls_sound.proofs.moves.CopyCalls.{copy_call_good}

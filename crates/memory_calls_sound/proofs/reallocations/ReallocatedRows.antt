@@ -56,9 +56,9 @@ use Rattle.store_sound.proofs.store.StoreZeros.{zero_small, offset_near}
 use Rattle.store_sound.proofs.store.TouchedRest.{near_stands}
 use Rattle.store_sound.specs.Programs.Premises.{HasPremises}
 use Rattle.store_sound.proofs.regions.RegionArrays.{any_zero_stands}
-use Rattle.transfer_sound.specs.Values.SoundSteps.{IsReached}
-use Rattle.transfer_sound.proofs.values.PutTemps.{IsResult}
-use Rattle.transfer_sound.proofs.enter.GrownMemory.{grows, naming_too, names_too, content_grows}
+use Rattle.library_sound.specs.SoundSteps.{IsReached}
+use Rattle.library_sound.proofs.PutTemps.{IsResult}
+use Rattle.library_sound.proofs.GrownMemory.{grows, naming_too, names_too, content_grows}
 use Rattle.memory_calls_sound.proofs.frees.FreedCells.{free_keeps_cell, free_frees}
 use Rattle.memory_calls_sound.proofs.frees.FreedRows.{IsFreeing, freed_stands}
 use Rattle.memory_calls_sound.proofs.frees.ReleasedMemory.{byte_was, content_stays}

@@ -45,12 +45,12 @@ use Rattle.store_sound.specs.Concretization.ValueMeaning.{Naming, StandsScalar, 
 use Rattle.store_cells.specs.AccessWindows.{last_offset}
 use Rattle.store_sound.proofs.store.TouchedRest.{near_stands}
 use Rattle.store_sound.specs.Programs.Premises.{HasPremises}
-use Rattle.transfer_sound.specs.Values.SoundSteps.{AreShort, IsReached, StepIsSound}
-use Rattle.transfer_sound.proofs.values.Admitted.{AreAdmitted, none_admitted, one_admitted, both_admitted}
-use Rattle.transfer_sound.proofs.values.Replies.{if_some_good}
+use Rattle.library_sound.specs.SoundSteps.{AreShort, IsReached, StepIsSound}
+use Rattle.library_sound.proofs.Admitted.{AreAdmitted, none_admitted, one_admitted, both_admitted}
+use Rattle.library_sound.proofs.Replies.{if_some_good}
 use Rattle.library_sound.proofs.calls.Calls.{DrawnEnd, gave, ran_out, drawn_end, clean, GoodPlan, plan_stops}
 use Rattle.library_sound.proofs.strings.Trails.{still_told, told_here, goes_further}
-use Rattle.transfer_sound.proofs.enter.GrownMemory.{grows}
+use Rattle.library_sound.proofs.GrownMemory.{grows}
 use Rattle.library_sound.proofs.fills.WriteCalls.{argument_stands, value_of, argument_in}
 use Rattle.memory_calls_sound.proofs.allocations.Products.{IsAsked, asked_some, asked_has, asked_small, plain_asked}
 use Rattle.memory_calls_sound.proofs.allocations.Sites.{IsSiteOf, site_is}
@@ -86,7 +86,7 @@ use Rattle.store_cells.specs.Walks.{walk}
 use Rattle.pointer_domain.specs.declared.base_sets.Bases.{Bases}
 use Rattle.value_domain.specs.declared.values.row_cells.Cell.TheVariants.{State}
 use Rattle.transfer_library_plans.specs.declared.call_plans.Trail.{Trail}
-use Rattle.transfer_sound.specs.Values.OperandTypes.{HasSizes, HasOperands}
+use Rattle.library_sound.specs.OperandTypes.{HasSizes, HasOperands}
 use Rattle.memory_calls_sound.proofs.allocations.AllocationCalls.{given_good, most_is, labels_told, by_sign}
 use Rattle.memory_calls_sound.proofs.allocations.AllocationSteps.{sized_at}
 use Rattle.memory_calls_sound.proofs.allocations.RenamedNames.{new_base, new_name, renames, base_moves, base_stays, renamed_has}

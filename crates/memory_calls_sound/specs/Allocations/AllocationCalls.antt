@@ -10,7 +10,7 @@ use Rattle.cfg.specs.declared.machine_instructions.Operation.{Operation}
 use Rattle.cfg.specs.declared.machine_instructions.Operation.TheVariants as op
 use Rattle.cfg.specs.declared.programs.Flow.{Flow}
 use Rattle.store_sound.specs.Programs.Premises.{HasPremises}
-use Rattle.transfer_sound.specs.Values.SoundSteps.{AreSound}
+use Rattle.library_sound.specs.SoundSteps.{AreSound}
 
 abbrev pub Allocates : LibFn → Type 0
 Allocates f.Malloc = Unit {0}

@@ -8,7 +8,7 @@ use Rattle.cfg.specs.declared.machine_instructions.Operation.{Operation}
 use Rattle.cfg.specs.declared.machine_instructions.Operation.TheVariants as op
 use Rattle.cfg.specs.declared.programs.Flow.{Flow}
 use Rattle.store_sound.specs.Programs.Premises.{HasPremises}
-use Rattle.transfer_sound.specs.Values.SoundSteps.{AreSound}
+use Rattle.library_sound.specs.SoundSteps.{AreSound}
 
 abbrev pub Frees : LibFn → Type 0
 Frees f.Free = Unit {0}

@@ -7,7 +7,7 @@ use Rattle.cfg.specs.declared.basic_blocks.BasicBlock.{BasicBlock}
 use Rattle.cfg.specs.declared.machine_instructions.Instruction.{Instruction}
 use Rattle.cfg.specs.WellFormed.{names_of, fits_operation}
 use Rattle.value_domain.specs.declared.values.row_cells.Cell.{Cell}
-use Rattle.transfer_instructions.specs.Instructions.Steps.{operate}
+use Rattle.transfer_system.specs.Steps.{operate}
 use Rattle.transfer_system.specs.System.BlockPasses.{instructions_in, instructions_of, rows_behind, block_end, edge_behind, edge_end}
 use Rattle.row_bounds.specs.Stores.Floors.{IsLeftFrom, LeavesFrom}
 use Rattle.row_bounds.proofs.stores.Ranges.{FloorLaws}

@@ -21,11 +21,11 @@ use Rattle.transfer_system.specs.BoundedRows.OwnLaws.{own_cells, fit_own}
 use Rattle.transfer_system.specs.BoundedRows.FittedRows.{row_fit, reached_fit}
 use Rattle.transfer_system.specs.System.BlockPasses.{edge_end}
 use Rattle.transfer_system.specs.System.FlowMachines.{edge_at, through, flow_machine}
-use Rattle.transfer_monotone.specs.Values.LaidOut.{IsLaidOut}
-use Rattle.transfer_monotone.proofs.values.TempPlaces.{row_length}
-use Rattle.transfer_monotone.specs.Edges.ProgramLaws.{IsNamed, AreRising}
+use Rattle.system_monotone.specs.LaidOut.{IsLaidOut}
+use Rattle.system_monotone.proofs.TempPlaces.{row_length}
+use Rattle.system_monotone.specs.ProgramLaws.{IsNamed, AreRising}
 use Rattle.transfer_system.specs.BoundedRows.NearLists.{IsNearList}
-use Rattle.transfer_monotone.proofs.edges.FittedOrder.{row_top}
+use Rattle.system_monotone.proofs.FittedOrder.{row_top}
 use Rattle.system_monotone.specs.Systems.ProgramRows.{IsProgramRow, AreCut}
 use Rattle.system_monotone.proofs.systems.ProgramRows.{leaves_program, fit_kept}
 use Rattle.row_bounds.specs.Stores.Floors.{AreFrom, IsLeftFrom}

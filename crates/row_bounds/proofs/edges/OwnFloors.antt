@@ -29,7 +29,7 @@ use Rattle.transfer_system.specs.BoundedRows.Ends.{any_below, any_above}
 use Rattle.transfer_system.specs.BoundedRows.EndLaws.{EndLaws}
 use Rattle.transfer_system.specs.BoundedRows.OwnRows.{is_consistent, is_own_pointer, is_own_cell, are_own_cells}
 use Rattle.transfer_system.specs.BoundedRows.NearLists.{is_near_number, IsNearList}
-use Rattle.transfer_monotone.proofs.edges.FittedOrder.{top_cell, top_cells}
+use Rattle.system_monotone.proofs.FittedOrder.{top_cell, top_cells}
 use Rattle.system_monotone.specs.Systems.ProgramRows.{IsCutValue, IsCutCell, AreCut}
 use Rattle.row_bounds.specs.Stores.Floors.{least_number, IsFrom, IsValueFrom, IsCellFrom, AreFrom}
 use Rattle.row_bounds.proofs.stores.Ranges.{FloorLaws, smaller_from}

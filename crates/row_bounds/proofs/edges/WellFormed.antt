@@ -13,7 +13,7 @@ use Rattle.transfer_system.specs.BoundedRows.EndLaws.{EndLaws}
 use Rattle.transfer_system.specs.BoundedRows.OwnRows.{program_bases, is_own_row}
 use Rattle.transfer_system.specs.System.BlockPasses.{edge_end}
 use Rattle.transfer_system.specs.System.FlowMachines.{edge_at, through, flow_machine}
-use Rattle.transfer_monotone.specs.Edges.ProgramLaws.{AreRising}
+use Rattle.system_monotone.specs.ProgramLaws.{AreRising}
 use Rattle.transfer_system.specs.BoundedRows.NearLists.{IsNearList}
 use Rattle.system_monotone.specs.Systems.Texts.{HasScalars}
 use Rattle.system_monotone.specs.Systems.CopiedStructs.{CopiesSpread}

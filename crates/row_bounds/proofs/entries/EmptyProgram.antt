@@ -19,8 +19,8 @@ use Rattle.store_monotone.specs.Store.TopCells.{top_value, top_zero, top_state}
 use Rattle.store_monotone.specs.Store.TopRows.{top_base, top_bases, top_row}
 use Rattle.store_monotone.specs.Store.ConsistentRows.{IsConsistentCell, AreConsistent}
 use Rattle.store_monotone.proofs.store.Consistent.{even_bare}
-use Rattle.transfer_edges.specs.StartRows.{empty_row}
-use Rattle.transfer_monotone.specs.Edges.FilledRows.{IsFilled, AreFilled}
+use Rattle.transfer_system.specs.StartRows.{empty_row}
+use Rattle.system_monotone.specs.FilledRows.{IsFilled, AreFilled}
 use Rattle.row_bounds.proofs.entries.EmptyRows.{least_base, least_bases, least_row, empty_is}
 
 -- a row below another one, of consistent pointer parts and something in each cell

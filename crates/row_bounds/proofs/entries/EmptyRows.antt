@@ -16,7 +16,7 @@ use Rattle.value_domain.specs.Values.AllocStates.{state_lattice}
 use Rattle.store_cells.specs.Walks.{walk, turns}
 use Rattle.store_cells.specs.RowPositions.{zero_position, state_position}
 use Rattle.store_cells.specs.FirstZeroWrites.{set_zeros}
-use Rattle.transfer_edges.specs.StartRows.{no_value, empty_state, empty_base, empty_base_at, empty_bases, empty_row}
+use Rattle.transfer_system.specs.StartRows.{no_value, empty_state, empty_base, empty_base_at, empty_bases, empty_row}
 
 module _ {I : Type 0} where
   -- ---- cells behind others

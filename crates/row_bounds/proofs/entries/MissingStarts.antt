@@ -14,7 +14,7 @@ use Rattle.interval_domain.specs.Intervals.Spans.{between_or_empty}
 use Rattle.store_cells.specs.FirstZeroWrites.{set_zeros}
 use Rattle.store_objects.specs.ObjectLives.{clear_leaves, clear_object, clear}
 use Rattle.store.specs.Stores.{can_store, store_access, store}
-use Rattle.transfer_edges.specs.StartRows.{empty_state, empty_base, empty_bases, empty_row, store_static, start_store, start_stores, start_value, start_object, start_objects, start_parameters, start_row}
+use Rattle.transfer_system.specs.StartRows.{empty_state, empty_base, empty_bases, empty_row, store_static, start_store, start_stores, start_value, start_object, start_objects, start_parameters, start_row}
 use Rattle.row_bounds.specs.Entries.CutStarts.{IsWithoutStart}
 use Rattle.row_bounds.proofs.entries.BuiltPrograms.{one, stopping}
 

@@ -21,7 +21,7 @@ use Rattle.value_domain.specs.declared.values.row_cells.Cell.{Cell}
 use Rattle.value_domain.specs.declared.values.row_cells.Cell.TheVariants.{Nothing}
 use Rattle.value_domain.specs.Values.Cells.{cell_lattice, cell_order}
 use Rattle.store_monotone.specs.Store.TopRows.{top_row}
-use Rattle.transfer_edges.specs.StartRows.{empty_row, start_objects, start_row}
+use Rattle.transfer_system.specs.StartRows.{empty_row, start_objects, start_row}
 use Rattle.transfer_system.specs.BoundedRows.CellKinds.{all_kinds}
 use Rattle.transfer_system.specs.BoundedRows.EndLaws.{EndLaws}
 use Rattle.transfer_system.specs.BoundedRows.FittedRows.{row_fit}
@@ -29,10 +29,10 @@ use Rattle.transfer_system.specs.BoundedRows.OwnRows.{program_bases, reach_of, i
 use Rattle.transfer_system.specs.BoundedRows.OwnLaws.{fit_own}
 use Rattle.transfer_system.specs.declared.bounded_rows.own_cells.Reach.{Reach}
 use Rattle.transfer_system.specs.System.FlowMachines.{has_start, known_start, start_of}
-use Rattle.transfer_monotone.specs.Values.LaidOut.{IsLaidOut}
-use Rattle.transfer_monotone.proofs.values.TempPlaces.{row_length}
+use Rattle.system_monotone.specs.LaidOut.{IsLaidOut}
+use Rattle.system_monotone.proofs.TempPlaces.{row_length}
 use Rattle.transfer_system.specs.BoundedRows.NearLists.{IsNearList}
-use Rattle.transfer_monotone.proofs.edges.FittedOrder.{row_top}
+use Rattle.system_monotone.proofs.FittedOrder.{row_top}
 use Rattle.system_monotone.specs.Systems.ProgramRows.{IsProgramRow, AreCut}
 use Rattle.system_monotone.proofs.systems.ProgramRows.{fit_kept}
 use Rattle.system_monotone.proofs.systems.WellFormed.{well_made, laid_out}

@@ -32,14 +32,14 @@ use Rattle.store_monotone.specs.Store.TopCells.{top_value, top_zero, top_state}
 use Rattle.store_monotone.specs.Store.TopRows.{top_base, top_bases, top_row}
 use Rattle.store_monotone.proofs.store.CellReads.{labels_top}
 use Rattle.store_monotone.proofs.store.Consistent.{even_bare}
-use Rattle.transfer_edges.specs.StartRows.{put_parameter, start_parameter, parameter_at, start_parameters, started}
-use Rattle.transfer_monotone.specs.Values.LaidOut.{IsLaidOut}
-use Rattle.transfer_monotone.specs.Values.RisingRows.{ValuesRise}
-use Rattle.transfer_monotone.proofs.values.IntegerSteps.{near_ends}
-use Rattle.transfer_monotone.proofs.values.RisingCells.{put_rises}
-use Rattle.transfer_monotone.proofs.values.Touches.{range_near}
-use Rattle.transfer_monotone.proofs.edges.FilledSteps.{fill_set}
-use Rattle.transfer_monotone.proofs.edges.MemorySteps.{row_near}
+use Rattle.transfer_system.specs.StartRows.{put_parameter, start_parameter, parameter_at, start_parameters, started}
+use Rattle.system_monotone.specs.LaidOut.{IsLaidOut}
+use Rattle.system_monotone.specs.RisingRows.{ValuesRise}
+use Rattle.system_monotone.proofs.IntegerSteps.{near_ends}
+use Rattle.system_monotone.proofs.RisingCells.{put_rises}
+use Rattle.system_monotone.proofs.Touches.{range_near}
+use Rattle.system_monotone.proofs.FilledSteps.{fill_set}
+use Rattle.system_monotone.proofs.MemorySteps.{row_near}
 use Rattle.row_bounds.proofs.entries.StaticValues.{flag_true}
 use Rattle.row_bounds.proofs.entries.StartSteps.{IsKept, IsLeftKept}
 

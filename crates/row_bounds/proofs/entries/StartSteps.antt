@@ -33,18 +33,18 @@ use Rattle.store_monotone.specs.Store.TopRows.{top_row}
 use Rattle.store_monotone.proofs.store.ConsistentLives.{clear_even}
 use Rattle.store_monotone.proofs.store.OwnValues.{each_get}
 use Rattle.store_monotone.proofs.store.Together.{clears, stores, stores_consistent}
-use Rattle.transfer_edges.specs.StartRows.{static_class, pointer_into, static_value, store_static, start_store, store_behind, store_at, start_stores, start_value, start_object, object_behind, object_at, start_objects}
-use Rattle.transfer_monotone.specs.Values.LaidOut.{IsLaidOut}
-use Rattle.transfer_monotone.specs.Values.RisingRows.{LeftRise, ValuesRise}
-use Rattle.transfer_monotone.specs.Values.StepLaws.{FlowRows}
-use Rattle.transfer_monotone.proofs.values.OwnBases.{words_less}
-use Rattle.transfer_monotone.proofs.values.PointerSteps.{extents}
-use Rattle.transfer_monotone.proofs.values.RisingCells.{own_bases}
-use Rattle.transfer_monotone.proofs.values.Results.{value_small}
-use Rattle.transfer_monotone.specs.Edges.FilledRows.{AreFilled, IsLeftFilled}
-use Rattle.transfer_monotone.proofs.edges.FilledSteps.{store_fills, clear_fills, spell_fills}
-use Rattle.transfer_monotone.proofs.edges.MemorySteps.{left_of, row_near}
-use Rattle.transfer_monotone.proofs.edges.Operations.{spell_rises}
+use Rattle.transfer_system.specs.StartRows.{static_class, pointer_into, static_value, store_static, start_store, store_behind, store_at, start_stores, start_value, start_object, object_behind, object_at, start_objects}
+use Rattle.system_monotone.specs.LaidOut.{IsLaidOut}
+use Rattle.system_monotone.specs.RisingRows.{LeftRise, ValuesRise}
+use Rattle.system_monotone.specs.StepLaws.{FlowRows}
+use Rattle.system_monotone.proofs.OwnBases.{words_less}
+use Rattle.system_monotone.proofs.PointerSteps.{extents}
+use Rattle.system_monotone.proofs.RisingCells.{own_bases}
+use Rattle.system_monotone.proofs.Results.{value_small}
+use Rattle.system_monotone.specs.FilledRows.{AreFilled, IsLeftFilled}
+use Rattle.system_monotone.proofs.FilledSteps.{store_fills, clear_fills, spell_fills}
+use Rattle.system_monotone.proofs.MemorySteps.{left_of, row_near}
+use Rattle.system_monotone.proofs.Operations.{spell_rises}
 use Rattle.transfer_system.specs.System.RegularPrograms.{is_byte}
 use Rattle.transfer_system.specs.System.RegularPrograms.{spells_bytes, begins_with_bytes}
 use Rattle.row_bounds.proofs.entries.StaticValues.{static_own}

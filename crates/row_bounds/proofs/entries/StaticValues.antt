@@ -37,13 +37,13 @@ use Rattle.store_monotone.specs.Store.TopCells.{top_number, top_value}
 use Rattle.store_monotone.proofs.store.AddedRanges.{below_of_bounds}
 use Rattle.store_monotone.proofs.store.Consistent.{even_bare, from_some}
 use Rattle.store_monotone.proofs.store.NearCells.{near_pointer_is, near_value_is}
-use Rattle.transfer_edges.specs.StartRows.{same_object, with_size, base_in, pointer_into, static_pointer, static_value}
-use Rattle.transfer_monotone.specs.Values.LaidOut.{IsLaidOut}
-use Rattle.transfer_monotone.specs.Values.RisingRows.{PointersRise, ValuesRise}
-use Rattle.transfer_monotone.proofs.values.IntegerSteps.{one_near}
-use Rattle.transfer_monotone.proofs.values.PointerSteps.{one_some}
-use Rattle.transfer_monotone.proofs.values.Results.{number_rises, pointer_rises}
-use Rattle.transfer_monotone.proofs.values.Touches.{range_near}
+use Rattle.transfer_system.specs.StartRows.{same_object, with_size, base_in, pointer_into, static_pointer, static_value}
+use Rattle.system_monotone.specs.LaidOut.{IsLaidOut}
+use Rattle.system_monotone.specs.RisingRows.{PointersRise, ValuesRise}
+use Rattle.system_monotone.proofs.IntegerSteps.{one_near}
+use Rattle.system_monotone.proofs.PointerSteps.{one_some}
+use Rattle.system_monotone.proofs.Results.{number_rises, pointer_rises}
+use Rattle.system_monotone.proofs.Touches.{range_near}
 use Rattle.system_monotone.proofs.systems.WellFormed.{all_at}
 
 -- ---- ranges

@@ -11,7 +11,7 @@ use Rattle.cfg.specs.declared.programs.InitialValue.TheVariants as initial
 use Rattle.interval_domain.specs.Intervals.Spans.{between_or_empty}
 use Rattle.store_cells.specs.FirstZeroWrites.{set_zeros}
 use Rattle.store.specs.Spelling.{one_character, spell_cell, spell_leaf_at, spell_leaves, spell_zero, spell_object, spell}
-use Rattle.transfer_edges.specs.StartRows.{empty_state, empty_base, empty_bases, empty_row, start_value, start_object, start_objects, start_parameters, start_row}
+use Rattle.transfer_system.specs.StartRows.{empty_state, empty_base, empty_bases, empty_row, start_value, start_object, start_objects, start_parameters, start_row}
 use Rattle.transfer_system.specs.BoundedRows.OwnRows.{bases_below}
 use Rattle.row_bounds.specs.Edges.OwnLists.{ReachesTypes}
 use Rattle.row_bounds.specs.Entries.CutStarts.{type_list, IsCutAtStart}

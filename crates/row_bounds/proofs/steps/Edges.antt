@@ -24,8 +24,8 @@ use Rattle.value_domain.specs.Values.LabelSets.{no_labels}
 use Rattle.value_domain.specs.Values.ValueTables.{number_value, pointer_value}
 use Rattle.store_cells.specs.ByteWrites.{null_pointer}
 use Rattle.store_cells.specs.RowPositions.{put_value, value_at}
-use Rattle.transfer_edges.specs.Refinements.{object_position, mirrored, is_same_object, value_of_object, side_value, fits, refined, met_number, met, has_number, labelled_number, with_number, named_by, tested_pointer, tested_value, put_at, put_side, refine_one, refine_two, refine_sides, refine_values, refine_integers, refine_pointer_at, refine_pointer, refine_named, refine_in, refine, put_case, refine_value, refine_case_at, refine_case}
-use Rattle.transfer_edges.specs.Edges.{deciding_temp, switched, is_other_than, line_call, put_kept, refine_if, kept_behind, behind_test, branch_edge, put_null, no_line_edge, refine_named_case, refine_object, case_edge, line_edge, follow, follow_if, edge}
+use Rattle.transfer_system.specs.Refinements.{object_position, mirrored, is_same_object, value_of_object, side_value, fits, refined, met_number, met, has_number, labelled_number, with_number, named_by, tested_pointer, tested_value, put_at, put_side, refine_one, refine_two, refine_sides, refine_values, refine_integers, refine_pointer_at, refine_pointer, refine_named, refine_in, refine, put_case, refine_value, refine_case_at, refine_case}
+use Rattle.transfer_system.specs.Edges.{deciding_temp, switched, is_other_than, line_call, put_kept, refine_if, kept_behind, behind_test, branch_edge, put_null, no_line_edge, refine_named_case, refine_object, case_edge, line_edge, follow, follow_if, edge}
 use Rattle.row_bounds.specs.Stores.Floors.{IsFrom, IsPointerFrom, IsValueFrom, AreFrom, IsLeftFrom, KeepsFrom, LeavesFrom}
 use Rattle.row_bounds.proofs.stores.Ranges.{FloorLaws, met_keeps, least_from, range_from, refined_from, low_from}
 use Rattle.row_bounds.proofs.stores.Values.{no_pointer_from, least_value_from, near_value_from, number_from, pointer_from, at_from}

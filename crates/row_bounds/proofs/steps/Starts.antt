@@ -33,8 +33,8 @@ use Rattle.store_cells.specs.NearValues.{near_value}
 use Rattle.store_cells.specs.RowPositions.{leaf_position, put_value}
 use Rattle.store_cells.specs.ScalarTypes.{kind_of}
 use Rattle.store_cells.specs.Walks.{walk}
-use Rattle.transfer_instructions.specs.Values.Scalars.{class_of_rank, class_of_kind}
-use Rattle.transfer_edges.specs.StartRows.{base_in, static_class, no_value, empty_state, empty_base, empty_base_at, empty_bases, empty_row, pointer_into, static_pointer, static_value, store_static, start_store, store_behind, store_at, start_stores, start_value, start_object, object_behind, object_at, start_objects, put_parameter, start_parameter, parameter_at, start_parameters, started, start_row}
+use Rattle.transfer_system.specs.Scalars.{class_of_rank, class_of_kind}
+use Rattle.transfer_system.specs.StartRows.{base_in, static_class, no_value, empty_state, empty_base, empty_base_at, empty_bases, empty_row, pointer_into, static_pointer, static_value, store_static, start_store, store_behind, store_at, start_stores, start_value, start_object, object_behind, object_at, start_objects, put_parameter, start_parameter, parameter_at, start_parameters, started, start_row}
 use Rattle.row_bounds.specs.Stores.Floors.{IsPointerFrom, IsValueFrom, AreFrom, IsLeftFrom, KeepsFrom, LeavesFrom}
 use Rattle.row_bounds.proofs.stores.Ranges.{FloorLaws, one_from, convert_from}
 use Rattle.row_bounds.proofs.stores.Values.{class_size, no_pointer_from, near_pointer_from, least_value_from, near_value_from, pointer_from, stored_from, whole_range_from}

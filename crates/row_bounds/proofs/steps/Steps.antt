@@ -26,13 +26,13 @@ use Rattle.value_domain.specs.Values.ValueTables.{number_value, pointer_value, t
 use Rattle.store_cells.specs.ByteWrites.{null_pointer}
 use Rattle.store_cells.specs.ScalarTypes.{kind_of}
 use Rattle.transfer_checks.specs.Temporaries.{temp_position, temp_value, amount_value, put_temp}
-use Rattle.transfer_instructions.specs.Values.ResultTemps.{put_number, put_truth, put_pointer}
-use Rattle.transfer_instructions.specs.Values.Scalars.{class_of}
-use Rattle.transfer_instructions.specs.Values.IntegerSteps.{constant_step, binary_step, unary_step, compare_step, not_step, put_converted, convert_value, convert_step}
-use Rattle.transfer_instructions.specs.Values.PointerSteps.{is_short, address_of, address_in, address_step, touch_part, narrow_touched, narrow_step, signed_amount, put_moved, shift_by, shift_step, difference_of, difference_step, relation_step}
-use Rattle.transfer_instructions.specs.Instructions.MemorySteps.{struct_size, touch_scalar, put_read, put_loaded, load_step, move_temp, moved_behind, store_to, store_step, touch_struct, copy_touched, kept_target, copy_between, copy_step}
-use Rattle.transfer_instructions.specs.Instructions.CallSteps.{call_of, line_call, call_step, line_goes_on, write_line}
-use Rattle.transfer_instructions.specs.Instructions.Steps.{operate}
+use Rattle.transfer_system.specs.ResultTemps.{put_number, put_truth, put_pointer}
+use Rattle.transfer_system.specs.Scalars.{class_of}
+use Rattle.transfer_system.specs.IntegerSteps.{constant_step, binary_step, unary_step, compare_step, not_step, put_converted, convert_value, convert_step}
+use Rattle.transfer_system.specs.PointerSteps.{is_short, address_of, address_in, address_step, touch_part, narrow_touched, narrow_step, signed_amount, put_moved, shift_by, shift_step, difference_of, difference_step, relation_step}
+use Rattle.transfer_system.specs.MemorySteps.{struct_size, touch_scalar, put_read, put_loaded, load_step, move_temp, moved_behind, store_to, store_step, touch_struct, copy_touched, kept_target, copy_between, copy_step}
+use Rattle.transfer_system.specs.CallSteps.{call_of, line_call, call_step, line_goes_on, write_line}
+use Rattle.transfer_system.specs.Steps.{operate}
 use Rattle.row_bounds.specs.Stores.Floors.{least_number, IsPointerFrom, IsValueFrom, IsReadFrom, AreFrom, IsLeftFrom, KeepsFrom, LeavesFrom}
 use Rattle.row_bounds.proofs.stores.Ranges.{FloorLaws, type_least, met_from, least_from, between_from, range_from, arith_from, unary_from, convert_from, low_from}
 use Rattle.row_bounds.proofs.stores.Values.{class_size, no_pointer_from, number_from, pointer_from, at_from, zero_from}

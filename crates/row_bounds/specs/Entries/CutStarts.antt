@@ -6,7 +6,7 @@ use Rattle.cfg.specs.declared.programs.Flow.{Flow}
 use Rattle.interval_domain.specs.Intervals.IntervalLattice.{interval_lattice}
 use Rattle.interval_domain.specs.Intervals.IntervalNumbers.{interval_numbers}
 use Rattle.value_domain.specs.declared.values.row_cells.Cell.TheVariants.{Nothing}
-use Rattle.transfer_edges.specs.StartRows.{start_row}
+use Rattle.transfer_system.specs.StartRows.{start_row}
 use Rattle.transfer_system.specs.BoundedRows.OwnRows.{is_own_row}
 use Rattle.transfer_system.specs.System.FlowMachines.{has_start, known_start}
 use Rattle.transfer_system.specs.System.RegularPrograms.{has_scalars, has_apart_members, is_near_list, is_regular}

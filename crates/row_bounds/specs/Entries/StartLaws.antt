@@ -5,7 +5,7 @@ use Rattle.cc_base.specs.IntegerDomains.{IntegersOf}
 use Rattle.cfg.specs.declared.programs.Flow.{Flow}
 use Rattle.value_domain.specs.declared.values.row_cells.Cell.{Cell}
 use Rattle.value_domain.specs.declared.values.row_cells.Cell.TheVariants.{Nothing}
-use Rattle.transfer_edges.specs.StartRows.{start_row}
+use Rattle.transfer_system.specs.StartRows.{start_row}
 use Rattle.transfer_system.specs.BoundedRows.OwnRows.{is_own_row}
 use Rattle.transfer_system.specs.System.FlowMachines.{has_start, start_of}
 

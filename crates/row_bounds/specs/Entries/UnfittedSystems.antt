@@ -6,7 +6,7 @@ use Rattle.cc_base.specs.Machine.{Machine}
 use Rattle.cfg.specs.declared.programs.Flow.{Flow}
 use Rattle.value_domain.specs.declared.values.row_cells.Cell.{Cell}
 use Rattle.value_domain.specs.declared.values.row_cells.Cell.TheVariants.{Nothing}
-use Rattle.transfer_edges.specs.StartRows.{start_row}
+use Rattle.transfer_system.specs.StartRows.{start_row}
 use Rattle.transfer_system.specs.System.FlowMachines.{known_start}
 use Rattle.row_bounds.specs.Edges.PlainSystems.{plain_machine}
 

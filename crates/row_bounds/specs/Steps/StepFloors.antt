@@ -7,9 +7,9 @@ use Rattle.cfg.specs.WellFormed.{names_of, fits_operation}
 use Rattle.cfg.specs.declared.machine_instructions.Operation.{Operation}
 use Rattle.cfg.specs.declared.programs.Flow.{Flow}
 use Rattle.value_domain.specs.declared.values.row_cells.Cell.{Cell}
-use Rattle.transfer_instructions.specs.Instructions.Steps.{operate}
-use Rattle.transfer_edges.specs.Edges.{edge}
-use Rattle.transfer_edges.specs.StartRows.{start_row}
+use Rattle.transfer_system.specs.Steps.{operate}
+use Rattle.transfer_system.specs.Edges.{edge}
+use Rattle.transfer_system.specs.StartRows.{start_row}
 use Rattle.row_bounds.specs.Stores.Floors.{IsLeftFrom, LeavesFrom}
 use Rattle.row_bounds.specs.Steps.FittingPrograms.{IsFitting}
 

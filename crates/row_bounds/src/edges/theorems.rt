@@ -18,8 +18,8 @@ ghost use Rattle.transfer_system.specs.BoundedRows.OwnRows.{program_bases, is_ow
 ghost use Rattle.transfer_system.specs.BoundedRows.FittedRows.{row_fit};
 ghost use Rattle.transfer_system.specs.System.BlockPasses.{edge_end};
 ghost use Rattle.transfer_system.specs.System.FlowMachines.{edge_at, through, flow_machine};
-ghost use Rattle.transfer_monotone.specs.Values.LaidOut.{IsLaidOut};
-ghost use Rattle.transfer_monotone.specs.Edges.ProgramLaws.{IsNamed, AreRising};
+ghost use Rattle.system_monotone.specs.LaidOut.{IsLaidOut};
+ghost use Rattle.system_monotone.specs.ProgramLaws.{IsNamed, AreRising};
 ghost use Rattle.transfer_system.specs.BoundedRows.NearLists.{IsNearList};
 ghost use Rattle.system_monotone.specs.Systems.Texts.{HasScalars};
 ghost use Rattle.system_monotone.specs.Systems.CopiedStructs.{CopiesSpread};

@@ -61,7 +61,7 @@ use Rattle.transfer_sound.proofs.values.NearScalars.{IsNearScalar, near_offset, 
 use Rattle.transfer_sound.proofs.values.TypeRanges.{type_near}
 use Rattle.struct_copies_sound.proofs.leaves.Structs.{owned_at}
 use Rattle.transfer_sound.proofs.objects.BlankRows as blank
-use Rattle.library_sound.proofs.spelling.Texts.{contents}
+use Rattle.struct_copies_sound.proofs.Texts.{contents}
 use Rattle.entry_sound.specs.Cells.StaticObjects.{IsValueOf, IsStoreOf, AreStoresOf, IsStaticObject}
 use Rattle.entry_sound.proofs.cells.ClearedCells.{clear_only}
 use Rattle.entry_sound.proofs.cells.StaticChains.{kind_of_value, scalar_of, kind_is, class_is, bytes_are}

@@ -61,12 +61,12 @@ use Rattle.store_sound.specs.Regions.RegionWrites.{IsRegion}
 use Rattle.store_sound.proofs.regions.Regions.{alike_region}
 use Rattle.store_structs.specs.StructCopies as structs
 use Rattle.store_structs.specs.StructCopies.{copy_found, copy_route}
-use Rattle.transfer_sound.specs.Values.SoundSteps.{IsReached, IsStoodFor, StepIsSound}
-use Rattle.transfer_sound.proofs.values.Admitted.{AreAdmitted, none_admitted, one_admitted, both_admitted, same_admitted}
-use Rattle.transfer_sound.proofs.values.PutTemps.{IsResult}
-use Rattle.transfer_sound.proofs.values.Replies.{stop_good, if_some_good, result_good}
-use Rattle.transfer_sound.proofs.memory.LoadSteps.{union_left, union_right}
-use Rattle.transfer_sound.proofs.memory.MachineReplies.{TouchEnd, went, stopped, touch_end}
+use Rattle.memory_calls_sound.specs.SoundSteps.{IsReached, IsStoodFor, StepIsSound}
+use Rattle.memory_calls_sound.proofs.Admitted.{AreAdmitted, none_admitted, one_admitted, both_admitted, same_admitted}
+use Rattle.memory_calls_sound.proofs.PutTemps.{IsResult}
+use Rattle.memory_calls_sound.proofs.Replies.{stop_good, if_some_good, result_good}
+use Rattle.memory_calls_sound.proofs.LoadSteps.{union_left, union_right}
+use Rattle.memory_calls_sound.proofs.MachineReplies.{TouchEnd, went, stopped, touch_end}
 use Rattle.struct_copies_sound.proofs.memory.CopiedMemory.{copied_byte, copy_region}
 use Rattle.struct_copies_sound.proofs.memory.CopyGoes.{CopyGoes, copy_goes, copies_keep}
 use Rattle.struct_copies_sound.proofs.leaves.Copies.{Copied, Came, IsSide, route}

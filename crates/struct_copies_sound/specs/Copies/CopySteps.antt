@@ -6,7 +6,7 @@ use Rattle.cfg.specs.declared.machine_instructions.Operation.{Operation}
 use Rattle.cfg.specs.declared.machine_instructions.Operation.TheVariants as op
 use Rattle.cfg.specs.declared.programs.Flow.{Flow}
 use Rattle.store_sound.specs.Programs.Premises.{HasPremises}
-use Rattle.transfer_sound.specs.Values.SoundSteps.{AreSound}
+use Rattle.memory_calls_sound.specs.SoundSteps.{AreSound}
 use Rattle.struct_copies_sound.specs.Structs.StructTables.{HasStructs}
 
 abbrev pub IsCopy : Operation → Type 0

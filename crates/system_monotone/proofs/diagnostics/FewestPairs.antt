@@ -19,7 +19,7 @@ use Rattle.domain_theorems.proofs.values.Flags.{Sets}
 use Rattle.store_monotone.specs.Store.TopRows.{top_row}
 use Rattle.transfer_checks.specs.declared.violation_sets.Violations.{Violations}
 use Rattle.transfer_checks.specs.ViolationSets.{violates}
-use Rattle.transfer_instructions.specs.Instructions.StepViolations.{operation_violations}
+use Rattle.transfer_system.specs.StepViolations.{operation_violations}
 use Rattle.transfer_system.specs.BoundedRows.EndLaws.{EndLaws}
 use Rattle.transfer_system.specs.BoundedRows.OwnRows.{program_bases}
 use Rattle.transfer_system.specs.System.FlowMachines.{flow_machine}

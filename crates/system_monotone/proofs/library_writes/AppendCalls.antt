@@ -34,7 +34,7 @@ use Rattle.transfer_library_plans.specs.Outputs.{argument_at, scan_at, scanned_t
 use Rattle.transfer_library.specs.MemoryCalls.{room_trail, target_of}
 use Rattle.transfer_library.specs.StringCalls.{one_more, append_start, append_window, appended, append_effect, source_characters, two_given, strcat_need, plan_strcat}
 use Rattle.transfer_library.specs.Planning.{plan_call}
-use Rattle.transfer_instructions.specs.Instructions.CallSteps.{call_of, call_step}
+use Rattle.transfer_system.specs.CallSteps.{call_of, call_step}
 use Rattle.transfer_monotone.specs.Edges.CallLaws.{CallRises}
 use Rattle.transfer_monotone.specs.Values.LaidOut.{IsLaidOut}
 use Rattle.transfer_monotone.specs.Values.StepLaws.{FlowRows}

@@ -31,7 +31,7 @@ use Rattle.transfer_library_plans.specs.Plans.{planned}
 use Rattle.transfer_library.specs.MemoryCalls.{lower_of, is_one_byte, room_trail, target_of}
 use Rattle.transfer_library_plans.specs.Arguments.{room_violations, literal_violations}
 use Rattle.transfer_library.specs.Effects.{apply}
-use Rattle.transfer_instructions.specs.Instructions.CallSteps.{call_of, goes_on}
+use Rattle.transfer_system.specs.CallSteps.{call_of, goes_on}
 use Rattle.transfer_monotone.specs.Values.RisingRows.{LeftRise, PointersRise}
 use Rattle.transfer_monotone.specs.Values.LaidOut.{IsLaidOut}
 use Rattle.transfer_monotone.proofs.values.Results.{smaller_own}

@@ -41,7 +41,7 @@ use Rattle.transfer_library.specs.MemoryCalls.{lower_of, room_trail, target_of, 
 use Rattle.transfer_library_plans.specs.Outputs.{argument_at}
 use Rattle.transfer_library.specs.Planning.{plan_call}
 use Rattle.transfer_library_plans.specs.Plans.{trail_of}
-use Rattle.transfer_instructions.specs.Instructions.CallSteps.{call_of}
+use Rattle.transfer_system.specs.CallSteps.{call_of}
 use Rattle.transfer_monotone.specs.Edges.CallLaws.{CallRises}
 use Rattle.transfer_monotone.specs.Edges.FilledRows.{IsLeftFilled}
 use Rattle.transfer_monotone.proofs.edges.MemorySteps.{row_near}

@@ -47,7 +47,7 @@ use Rattle.transfer_library.specs.MemoryCalls.{sure_window, lower_of, is_zero_ra
 use Rattle.transfer_library.specs.Effects.{apply}
 use Rattle.transfer_library_writes.specs.FillWrites.{write_fill}
 use Rattle.transfer_library.specs.Planning.{plan_call}
-use Rattle.transfer_instructions.specs.Instructions.CallSteps.{call_of, call_step}
+use Rattle.transfer_system.specs.CallSteps.{call_of, call_step}
 use Rattle.transfer_monotone.proofs.edges.MemorySteps.{row_near}
 use Rattle.transfer_monotone.specs.Edges.CallLaws.{CallRises}
 use Rattle.transfer_monotone.specs.Edges.FilledRows.{LeavesFilled}

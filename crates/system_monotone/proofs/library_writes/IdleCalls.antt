@@ -19,7 +19,7 @@ use Rattle.transfer_library_plans.specs.declared.call_plans.Effect.TheVariants a
 use Rattle.transfer_library.specs.declared.memory_calls.Target.{Target}
 use Rattle.transfer_library.specs.MemoryCalls.{lower_of, nothing_written}
 use Rattle.transfer_library.specs.Effects.{put_result, apply}
-use Rattle.transfer_instructions.specs.Instructions.CallSteps.{goes_on}
+use Rattle.transfer_system.specs.CallSteps.{goes_on}
 use Rattle.transfer_monotone.specs.Values.RisingRows.{LeftRise, PointersRise}
 use Rattle.transfer_monotone.specs.Values.LaidOut.{IsLaidOut}
 use Rattle.transfer_monotone.specs.Values.StepLaws.{FlowRows}

@@ -32,7 +32,7 @@ use Rattle.transfer_library_plans.specs.Arguments.{argument_value}
 use Rattle.transfer_library_plans.specs.Outputs.{argument_at, given_trail}
 use Rattle.transfer_library.specs.MemoryCalls.{room_trail, target_of}
 use Rattle.transfer_library.specs.StringCalls.{input_characters, line_count, line_trail, line_rule, plan_fgets}
-use Rattle.transfer_instructions.specs.Instructions.CallSteps.{line_call, write_line}
+use Rattle.transfer_system.specs.CallSteps.{line_call, write_line}
 use Rattle.transfer_monotone.specs.Edges.CallLaws.{LineRises}
 use Rattle.transfer_monotone.specs.Values.RisingRows.{ValuesRise}
 use Rattle.transfer_monotone.specs.Values.LaidOut.{IsLaidOut}

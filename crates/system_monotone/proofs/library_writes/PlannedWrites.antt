@@ -14,7 +14,7 @@ use Rattle.transfer_library_plans.specs.declared.call_plans.Trail.{Trail}
 use Rattle.transfer_library_plans.specs.Plans.{planned}
 use Rattle.transfer_library.specs.Effects.{apply}
 use Rattle.transfer_library.specs.Planning.{plan_call}
-use Rattle.transfer_instructions.specs.Instructions.CallSteps.{call_of, call_step}
+use Rattle.transfer_system.specs.CallSteps.{call_of, call_step}
 use Rattle.transfer_monotone.specs.Edges.CallLaws.{CallRises}
 use Rattle.transfer_monotone.specs.Edges.FilledRows.{LeavesFilled}
 use Rattle.transfer_monotone.specs.Values.RisingRows.{LeftRise}

@@ -20,7 +20,7 @@ use Rattle.transfer_checks.specs.LibraryArguments.{touched_window, within_bases}
 use Rattle.transfer_library_plans.specs.Calls.{Call}
 use Rattle.transfer_library_plans.specs.Outputs.{argument_at, scan_at}
 use Rattle.transfer_library.specs.StringCalls.{source_characters, two_given}
-use Rattle.transfer_instructions.specs.Instructions.CallSteps.{call_of}
+use Rattle.transfer_system.specs.CallSteps.{call_of}
 use Rattle.transfer_monotone.proofs.edges.MemorySteps.{row_near}
 use Rattle.transfer_monotone.specs.Values.RisingRows.{PointersRise}
 use Rattle.transfer_monotone.specs.Values.LaidOut.{IsLaidOut}

@@ -30,7 +30,7 @@ use Rattle.transfer_library.specs.MemoryCalls.{lower_of, nothing_written}
 use Rattle.transfer_library.specs.StringCalls.{text_effect}
 use Rattle.transfer_library.specs.Effects.{apply}
 use Rattle.transfer_library_writes.specs.TextWrites.{write_text}
-use Rattle.transfer_instructions.specs.Instructions.CallSteps.{call_of, goes_on}
+use Rattle.transfer_system.specs.CallSteps.{call_of, goes_on}
 use Rattle.transfer_monotone.proofs.edges.MemorySteps.{row_near}
 use Rattle.transfer_monotone.specs.Values.RisingRows.{LeftRise, PointersRise}
 use Rattle.transfer_monotone.specs.Values.LaidOut.{IsLaidOut}

@@ -35,7 +35,7 @@ use Rattle.transfer_library_plans.specs.Outputs.{argument_at, scan_at, scanned_t
 use Rattle.transfer_library.specs.MemoryCalls.{both_given, room_trail, target_of}
 use Rattle.transfer_library.specs.StringCalls.{one_more, one_less, source_characters, two_given, reads_no_string, strncpy_trail, plan_strcpy, plan_strncpy}
 use Rattle.transfer_library.specs.Planning.{plan_call}
-use Rattle.transfer_instructions.specs.Instructions.CallSteps.{call_of, call_step}
+use Rattle.transfer_system.specs.CallSteps.{call_of, call_step}
 use Rattle.transfer_monotone.proofs.edges.MemorySteps.{row_near}
 use Rattle.transfer_monotone.specs.Edges.CallLaws.{CallRises}
 use Rattle.transfer_monotone.specs.Values.RisingRows.{ValuesRise}

@@ -27,7 +27,7 @@ use Rattle.transfer_library.specs.MemoryCalls.{lower_of, nothing_written}
 use Rattle.transfer_library.specs.StringCalls.{text_effect}
 use Rattle.transfer_library.specs.Effects.{apply}
 use Rattle.transfer_library_writes.specs.TextWrites.{write_leaf, write_leaf_of, write_leaves, write_stray, write_class, write_class_cells, write_zero, write_zeros, write_heap_part, write_base, write_base_if, write_into, write_in, write_text}
-use Rattle.transfer_instructions.specs.Instructions.CallSteps.{call_of}
+use Rattle.transfer_system.specs.CallSteps.{call_of}
 use Rattle.transfer_monotone.specs.Edges.FilledRows.{IsLeftFilled, Fills, LeavesFilled}
 use Rattle.transfer_monotone.proofs.edges.FilledSteps.{fill_set, fill_if, fill_walk, fill_turns, fill_join}
 use Rattle.transfer_monotone.specs.Values.LaidOut.{IsLaidOut}

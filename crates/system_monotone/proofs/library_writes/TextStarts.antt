@@ -23,7 +23,7 @@ use Rattle.transfer_library_writes.specs.declared.text_writes.ZeroRule.TheVarian
 use Rattle.transfer_library.specs.MemoryCalls.{lower_of, is_one_byte, room_trail, target_of}
 use Rattle.transfer_library.specs.StringCalls.{text_effect, text_from_start}
 use Rattle.transfer_library.specs.Effects.{apply}
-use Rattle.transfer_instructions.specs.Instructions.CallSteps.{call_of, goes_on}
+use Rattle.transfer_system.specs.CallSteps.{call_of, goes_on}
 use Rattle.transfer_monotone.specs.Edges.FilledRows.{LeavesFilled}
 use Rattle.transfer_monotone.specs.Values.RisingRows.{LeftRise, PointersRise}
 use Rattle.transfer_monotone.specs.Values.LaidOut.{IsLaidOut}

@@ -33,7 +33,7 @@ use Rattle.transfer_library_plans.specs.declared.call_plans.Trail.{Trail}
 use Rattle.transfer_library.specs.declared.memory_calls.Target.{Target}
 use Rattle.transfer_library_plans.specs.Arguments.{room_violations, literal_violations}
 use Rattle.transfer_library.specs.MemoryCalls.{room_trail, target_of}
-use Rattle.transfer_instructions.specs.Instructions.CallSteps.{call_of}
+use Rattle.transfer_system.specs.CallSteps.{call_of}
 use Rattle.transfer_monotone.specs.Values.RisingRows.{PointersRise}
 use Rattle.transfer_monotone.specs.Values.LaidOut.{IsLaidOut}
 use Rattle.transfer_monotone.proofs.values.LiveParts.{writable_own, writable_empty, literal_more}

@@ -25,7 +25,7 @@ use Rattle.store_struct_leaves.specs.LeafCopies.{any_place, write_leaf_at, write
 use Rattle.store_structs.specs.LeafNumbers.{struct_leaf}
 use Rattle.store_structs.specs.PaddingWrites.{Padded, has_padding, pad_leaf_at, pad_leaf, pad_leaves, pad_class, pad_classes, pad_part_at, pad_part, pad_zeros, pad_cells, write_padding}
 use Rattle.store_structs.specs.StructCopies.{Route, route_for, leaf_access, exact_copy, most_at_once, batch_first, batch_count, padded_of, write_target, copy_written, copy_read, read_source, copy_step, copy_leaves, copy_batch, copy_all, finish_base, finish_if, finish_at, finish_all, finish, finish_reached, copy_route, copy_between, copy_found, copy_struct}
-use Rattle.transfer_instructions.specs.Instructions.MemorySteps.{copy_touched}
+use Rattle.transfer_system.specs.MemorySteps.{copy_touched}
 use Rattle.transfer_monotone.specs.Edges.FilledRows.{AreFilled, IsLeftFilled, Fills, LeavesFilled}
 use Rattle.transfer_monotone.proofs.edges.FilledSteps.{fill_set, fill_if, fill_walk, fill_turns, fill_join, fill_write}
 

@@ -47,7 +47,7 @@ use Rattle.store_structs.specs.StructCopies.{Route, route_for, is_declared_in, f
 use Rattle.store_monotone.specs.Structs.LargerSpans.{SpanWithin, ReachesMore}
 use Rattle.store_monotone.specs.Structs.SpreadStructs.{IsSpread}
 use Rattle.store_monotone.proofs.structs.ShapedSpans.{shaped_reaches}
-use Rattle.transfer_instructions.specs.Instructions.MemorySteps.{copy_touched}
+use Rattle.transfer_system.specs.MemorySteps.{copy_touched}
 use Rattle.transfer_monotone.specs.Edges.CallLaws.{CopyRises}
 use Rattle.transfer_monotone.specs.Values.LaidOut.{IsLaidOut}
 use Rattle.transfer_monotone.specs.Values.RisingRows.{PointersRise, ValuesRise, RowsRise, LeftRise}

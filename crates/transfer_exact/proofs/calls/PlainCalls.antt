@@ -60,7 +60,7 @@ use Rattle.store_sound.specs.Concretization.Coverage.{state_of}
 use Rattle.store_sound.specs.Programs.Premises.{HasPremises}
 use Rattle.transfer_sound.specs.Values.SoundSteps.{IsReached}
 use Rattle.transfer_sound.proofs.values.NearScalars.{IsNearNumber}
-use Rattle.library_sound.proofs.calls.Calls.{first_argument}
+use Rattle.struct_copies_sound.proofs.Calls.{first_argument}
 use Rattle.transfer_exact.specs.Values.SingleNumbers.{IsOne}
 use Rattle.transfer_exact.specs.Values.ExactNumbers.{ExactLaws}
 use Rattle.transfer_exact.specs.Values.SingleValues.{TellsNumber, TellsScalar}

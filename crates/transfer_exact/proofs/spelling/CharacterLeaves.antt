@@ -22,7 +22,7 @@ use Rattle.memory_model.specs.Memory.Tags.{tag_of}
 use Rattle.store_sound.specs.Concretization.Matching.{Matched}
 use Rattle.store_sound.specs.Concretization.RowMeaning.{MachineState}
 use Rattle.transfer_sound.proofs.values.NearScalars.{IsNearNumber}
-use Rattle.library_sound.proofs.spelling.Texts.{byte_small, one_number}
+use Rattle.struct_copies_sound.proofs.Texts.{byte_small, one_number}
 use Rattle.transfer_exact.specs.Values.SingleRows.{TellsLeaf}
 use Rattle.transfer_exact.proofs.values.NearTells.{near_one}
 

@@ -34,9 +34,9 @@ use Rattle.store_sound.proofs.store.StoreRows.{Fits}
 use Rattle.store_sound.specs.Programs.Premises.{HasPremises}
 use Rattle.store_sound.proofs.regions.ContentRegions.{IsWritten, contents_written}
 use Rattle.struct_copies_sound.proofs.leaves.Structs.{owned_at}
-use Rattle.library_sound.specs.Spelling.SpellSteps.{SpellsBytes}
-use Rattle.library_sound.proofs.spelling.Texts.{contents, contents_long, content_is}
-use Rattle.library_sound.proofs.spelling.SpelledZeros.{ends_inside}
+use Rattle.struct_copies_sound.specs.SpellSteps.{SpellsBytes}
+use Rattle.struct_copies_sound.proofs.Texts.{contents, contents_long, content_is}
+use Rattle.struct_copies_sound.proofs.SpelledZeros.{ends_inside}
 use Rattle.transfer_exact.specs.Values.SingleRows.{IsPlainProgram, TellsLeaf}
 use Rattle.transfer_exact.proofs.places.HeldReads.{inside}
 use Rattle.transfer_exact.proofs.places.OneLeaf.{owned}

@@ -35,7 +35,7 @@ use Rattle.store_sound.proofs.store.Slices.{get_there, get_map}
 use Rattle.store_sound.proofs.store.StoreRows.{Fits}
 use Rattle.store_sound.specs.Programs.Premises.{HasPremises}
 use Rattle.struct_copies_sound.proofs.leaves.Structs.{owned_at}
-use Rattle.library_sound.proofs.spelling.Texts.{content_is}
+use Rattle.struct_copies_sound.proofs.Texts.{content_is}
 use Rattle.entry_sound.specs.Starts.Literals.{IsLiteralObject}
 use Rattle.transfer_exact.specs.Values.SingleRows.{IsPlainProgram, TellsLeaf}
 use Rattle.transfer_exact.proofs.places.OneLeaf.{owned, place_is}

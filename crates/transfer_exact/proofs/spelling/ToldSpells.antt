@@ -38,8 +38,8 @@ use Rattle.store_sound.specs.Programs.Premises.{HasPremises}
 use Rattle.store_sound.proofs.regions.ContentRegions.{IsWritten}
 use Rattle.transfer_sound.specs.Values.SoundSteps.{IsReached}
 use Rattle.transfer_sound.proofs.objects.WholeObjects.{some_kind}
-use Rattle.library_sound.specs.Spelling.SpellSteps.{SpellsBytes}
-use Rattle.library_sound.proofs.spelling.Texts.{contents}
+use Rattle.struct_copies_sound.specs.SpellSteps.{SpellsBytes}
+use Rattle.struct_copies_sound.proofs.Texts.{contents}
 use Rattle.transfer_exact.specs.Values.SingleRows.{IsPlainProgram, TellsLeaf, TellsState}
 use Rattle.transfer_exact.specs.Values.SingleSteps.{IsDefined, TellsBehind, StepIsTold}
 use Rattle.transfer_exact.proofs.values.Told.{if_some_told}

@@ -15,7 +15,7 @@ use Rattle.semantics.specs.CfgMachine.FlowStarts.{flow_begin}
 use Rattle.store_sound.specs.Concretization.Coverage.{state_of}
 use Rattle.store_sound.specs.Programs.Premises.{HasPremises}
 use Rattle.struct_copies_sound.specs.Structs.StructTables.{HasStructs}
-use Rattle.library_sound.specs.Spelling.SpellSteps.{SpellsCharacters}
+use Rattle.struct_copies_sound.specs.SpellSteps.{SpellsCharacters}
 use Rattle.entry_sound.specs.Starts.StartedRows.{HasBeginnings}
 use Rattle.transfer_exact.specs.Values.SingleRows.{IsPlainProgram, TellsState}
 use Rattle.transfer_exact.specs.Store.StoreLaws.{AreToldAt}

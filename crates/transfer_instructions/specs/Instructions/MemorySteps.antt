@@ -16,7 +16,7 @@ use Rattle.value_domain.specs.declared.values.row_cells.Cell.{Cell}
 use Rattle.value_domain.specs.Values.ValueTables.{number_value, pointer_value}
 use Rattle.store_cells.specs.ScalarTypes.{class_bytes}
 use Rattle.store_cells.specs.ClassNumbers.{is_pointer}
-use Rattle.store_objects.specs.LiveBases.{any_freed}
+use Rattle.store.specs.LiveBases.{any_freed}
 use Rattle.store.specs.Loads.{load}
 use Rattle.store.specs.Stores.{store}
 use Rattle.store_structs.specs.StructCopies.{copy_struct}

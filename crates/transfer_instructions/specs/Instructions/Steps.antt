@@ -8,7 +8,7 @@ use Rattle.cfg.specs.declared.machine_instructions.Instruction.{Instruction}
 use Rattle.cfg.specs.declared.machine_instructions.Operation.{Operation}
 use Rattle.cfg.specs.declared.machine_instructions.Operation.TheVariants as op
 use Rattle.value_domain.specs.declared.values.row_cells.Cell.{Cell}
-use Rattle.store_objects.specs.ObjectLives.{forget, leave, clear}
+use Rattle.store.specs.ObjectLives.{forget, leave, clear}
 use Rattle.store.specs.Spelling.{spell}
 use Rattle.transfer_instructions.specs.Values.IntegerSteps.{constant_step, binary_step, unary_step, compare_step, not_step, convert_step}
 use Rattle.transfer_instructions.specs.Values.PointerSteps.{address_step, narrow_step, shift_step, difference_step, relation_step}

@@ -20,7 +20,7 @@ use Rattle.value_domain.specs.Values.LabelSets.{no_labels}
 use Rattle.value_domain.specs.Values.ValueTables.{number_value}
 use Rattle.store_cells.specs.NearValues.{near_number}
 use Rattle.store_cells.specs.ScalarTypes.{kind_of}
-use Rattle.store_objects.specs.LiveBases.{only_base, single_bases}
+use Rattle.store.specs.LiveBases.{only_base, single_bases}
 use Rattle.transfer_checks.specs.declared.touches.Touched.{Touched}
 use Rattle.transfer_checks.specs.declared.pointer_checks.Compared.{Compared}
 use Rattle.transfer_checks.specs.declared.violation_sets.Violations.{Violations}

@@ -30,15 +30,15 @@ use Rattle.value_domain.specs.declared.values.row_cells.Cell.TheVariants.{Value}
 use Rattle.value_domain.specs.Values.ValueTables.{number_value, pointer_value, truth_value}
 use Rattle.store_cells.specs.RowPositions.{value_at, put_value}
 use Rattle.transfer_checks.specs.Temporaries.{temp_position, put_temp}
-use Rattle.transfer_instructions.specs.Values.ResultTemps.{put_number, put_truth, put_pointer}
-use Rattle.transfer_instructions.specs.Values.Scalars.{class_of}
-use Rattle.transfer_instructions.specs.Values.IntegerSteps.{constant_step, binary_step, unary_step, compare_step, not_step, put_converted, convert_value, convert_step}
-use Rattle.transfer_instructions.specs.Values.PointerSteps.{is_short, address_in, address_step, narrow_touched, narrow_step, put_moved, shift_by, shift_step, difference_step, relation_step}
-use Rattle.transfer_instructions.specs.Instructions.MemorySteps.{put_read, put_loaded, load_step, move_temp, moved_behind, store_to, store_step, kept_target, copy_between, copy_step}
-use Rattle.transfer_instructions.specs.Instructions.CallSteps.{line_goes_on}
-use Rattle.transfer_instructions.specs.Instructions.Steps.{operate}
-use Rattle.transfer_edges.specs.Refinements.{object_position, mirrored, is_same_object, side_value, refined, met, has_number, labelled_number, with_number, named_by, put_at, put_side, refine_one, refine_two, refine_sides, refine_values, refine_integers, refine_pointer_at, refine_pointer, refine_named, refine_in, refine, put_case, refine_value, refine_case_at, refine_case}
-use Rattle.transfer_edges.specs.Edges.{deciding_temp, switched, is_other_than, line_call, put_kept, refine_if, kept_behind, behind_test, branch_edge, put_null, refine_named_case, refine_object, case_edge, no_line_edge, line_edge, follow, follow_if, edge}
+use Rattle.transfer_system.specs.ResultTemps.{put_number, put_truth, put_pointer}
+use Rattle.transfer_system.specs.Scalars.{class_of}
+use Rattle.transfer_system.specs.IntegerSteps.{constant_step, binary_step, unary_step, compare_step, not_step, put_converted, convert_value, convert_step}
+use Rattle.transfer_system.specs.PointerSteps.{is_short, address_in, address_step, narrow_touched, narrow_step, put_moved, shift_by, shift_step, difference_step, relation_step}
+use Rattle.transfer_system.specs.MemorySteps.{put_read, put_loaded, load_step, move_temp, moved_behind, store_to, store_step, kept_target, copy_between, copy_step}
+use Rattle.transfer_system.specs.CallSteps.{line_goes_on}
+use Rattle.transfer_system.specs.Steps.{operate}
+use Rattle.transfer_system.specs.Refinements.{object_position, mirrored, is_same_object, side_value, refined, met, has_number, labelled_number, with_number, named_by, put_at, put_side, refine_one, refine_two, refine_sides, refine_values, refine_integers, refine_pointer_at, refine_pointer, refine_named, refine_in, refine, put_case, refine_value, refine_case_at, refine_case}
+use Rattle.transfer_system.specs.Edges.{deciding_temp, switched, is_other_than, line_call, put_kept, refine_if, kept_behind, behind_test, branch_edge, put_null, refine_named_case, refine_object, case_edge, no_line_edge, line_edge, follow, follow_if, edge}
 use Rattle.transfer_system.specs.System.BlockPasses.{rows_behind, block_end, instructions_in, instructions_of}
 use Rattle.transfer_monotone.specs.Edges.FilledRows.{AreFilled, IsLeftFilled, Fills, LeavesFilled}
 use Rattle.transfer_monotone.specs.Edges.ProgramLaws.{IsRising, IsRisingEdge, AreRising}

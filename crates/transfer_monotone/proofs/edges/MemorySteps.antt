@@ -29,8 +29,8 @@ use Rattle.transfer_checks.specs.declared.touches.Touched.{Touched}
 use Rattle.transfer_checks.specs.ViolationSets.{violations_union}
 use Rattle.transfer_checks.specs.Touches.{touch}
 use Rattle.transfer_checks.specs.Temporaries.{temp_value}
-use Rattle.transfer_instructions.specs.Values.Scalars.{class_of, minds_blank}
-use Rattle.transfer_instructions.specs.Instructions.MemorySteps.{struct_size, touch_scalar, loaded, is_blank, is_freed, blank_or_freed, read_violations, load_violations, put_read, put_loaded, load_step, move_temp, moved_behind, store_to, store_step, touch_struct, both_touched, copy_violations, copy_touched, kept_target, copy_between, copy_step}
+use Rattle.transfer_system.specs.Scalars.{class_of, minds_blank}
+use Rattle.transfer_system.specs.MemorySteps.{struct_size, touch_scalar, loaded, is_blank, is_freed, blank_or_freed, read_violations, load_violations, put_read, put_loaded, load_step, move_temp, moved_behind, store_to, store_step, touch_struct, both_touched, copy_violations, copy_touched, kept_target, copy_between, copy_step}
 use Rattle.transfer_monotone.specs.Values.RisingRows.{LeftRise, PointersRise, ValuesRise}
 use Rattle.transfer_monotone.specs.Values.LaidOut.{IsLaidOut}
 use Rattle.transfer_monotone.specs.Values.ViolationsBelow.{ViolationsBelow}

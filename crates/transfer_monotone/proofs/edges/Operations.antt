@@ -27,9 +27,9 @@ use Rattle.store_monotone.proofs.store.OwnValues.{each_get}
 use Rattle.store_monotone.proofs.store.Together.{forgets, clears, leaves, spells, spells_consistent}
 use Rattle.store_monotone.proofs.store.ConsistentLives.{forget_even, clear_even, leave_even}
 use Rattle.transfer_checks.specs.ViolationSets.{no_violations}
-use Rattle.transfer_instructions.specs.Instructions.CallSteps.{line_goes_on}
-use Rattle.transfer_instructions.specs.Instructions.Steps.{operate, operate_if, step_in, step}
-use Rattle.transfer_instructions.specs.Instructions.StepViolations.{relation_violations, operation_violations, violations_of, violations_in, violations_at}
+use Rattle.transfer_system.specs.CallSteps.{line_goes_on}
+use Rattle.transfer_system.specs.Steps.{operate, operate_if, step_in, step}
+use Rattle.transfer_system.specs.StepViolations.{relation_violations, operation_violations, violations_of, violations_in, violations_at}
 use Rattle.transfer_monotone.specs.Values.LaidOut.{IsLaidOut}
 use Rattle.transfer_monotone.specs.Values.StepLaws.{Rises, Violates, IntegerStepsRise, PointerStepsRise}
 use Rattle.transfer_monotone.proofs.values.RisingCells.{small_own, left_if}

@@ -36,7 +36,7 @@ use Rattle.store_monotone.specs.Store.Placements.{IsPlaced}
 use Rattle.store_monotone.proofs.store.CellReads.{labels_top}
 use Rattle.store_monotone.proofs.store.NearCells.{near_value_is}
 use Rattle.store_monotone.proofs.store.OwnValues.{each_get}
-use Rattle.transfer_edges.specs.Refinements.{position_of, object_position, mirrored, refined_labels, common_labels, is_same_object, named_by, number_side, value_of_object, side_value, fits, refined_number, refined, met_number, met, put_at, put_side, has_number, refine_one, refine_two, refine_sides, refine_values, refine_integers, only_null, not_null, tested_pointer, tested_value, refine_pointer_at, refine_pointer, refine_named, refine_in, refine, labelled_number, with_number, put_case, refine_value, refine_case_at, refine_case}
+use Rattle.transfer_system.specs.Refinements.{position_of, object_position, mirrored, refined_labels, common_labels, is_same_object, named_by, number_side, value_of_object, side_value, fits, refined_number, refined, met_number, met, put_at, put_side, has_number, refine_one, refine_two, refine_sides, refine_values, refine_integers, only_null, not_null, tested_pointer, tested_value, refine_pointer_at, refine_pointer, refine_named, refine_in, refine, labelled_number, with_number, put_case, refine_value, refine_case_at, refine_case}
 use Rattle.transfer_monotone.specs.Values.RisingRows.{LeftRise, PointersRise, ValuesRise}
 use Rattle.transfer_monotone.specs.Values.LaidOut.{IsLaidOut}
 use Rattle.transfer_monotone.specs.Values.StepLaws.{FlowRows, Rises}

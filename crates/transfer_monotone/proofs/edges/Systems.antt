@@ -14,7 +14,7 @@ use Rattle.cfg.specs.WellFormed.{names_of, fits_operation}
 use Rattle.value_domain.specs.declared.values.row_cells.Cell.{Cell}
 use Rattle.value_domain.specs.Values.Cells.{cell_lattice}
 use Rattle.store_monotone.specs.Store.TopRows.{top_row}
-use Rattle.transfer_instructions.specs.Instructions.Steps.{operate}
+use Rattle.transfer_system.specs.Steps.{operate}
 use Rattle.transfer_system.specs.BoundedRows.CellKinds.{all_kinds}
 use Rattle.transfer_system.specs.BoundedRows.EndLaws.{EndLaws}
 use Rattle.transfer_system.specs.BoundedRows.OwnRows.{program_bases, reach_of, is_own_row}

@@ -23,8 +23,8 @@ use Rattle.store_monotone.proofs.store.OwnValues.{one_within}
 use Rattle.transfer_checks.specs.IntegerChecks.{is_no_character}
 use Rattle.transfer_library_plans.specs.Arguments.{argument_value}
 use Rattle.transfer_library_plans.specs.Characters.{is_lower, is_upper, has_class, meets, sum_of, difference_of, tested_number, raised, lowered, answer, plan_in, plan_character}
-use Rattle.transfer_library.specs.Planning.{plan_call}
-use Rattle.transfer_instructions.specs.Instructions.CallSteps.{call_of}
+use Rattle.transfer_system.specs.Planning.{plan_call}
+use Rattle.transfer_system.specs.CallSteps.{call_of}
 use Rattle.transfer_monotone.specs.Values.RisingRows.{ValuesRise}
 use Rattle.transfer_monotone.specs.Values.LaidOut.{IsLaidOut}
 use Rattle.transfer_monotone.proofs.values.Results.{num_rises, labels_rise, number_rises}

@@ -27,9 +27,9 @@ use Rattle.transfer_checks.specs.AllocationChecks.{is_too_small, allocation_viol
 use Rattle.transfer_library_plans.specs.Allocations.{from_zero, product_of, products_of, products, sized_trail, instance_size, plan_calloc}
 use Rattle.transfer_library_plans.specs.Arguments.{argument_value}
 use Rattle.transfer_library_plans.specs.declared.call_plans.Effect.TheVariants as effect
-use Rattle.transfer_library.specs.Effects.{apply}
-use Rattle.transfer_library.specs.Planning.{plan_call}
-use Rattle.transfer_instructions.specs.Instructions.CallSteps.{call_of, call_step}
+use Rattle.transfer_system.specs.Effects.{apply}
+use Rattle.transfer_system.specs.Planning.{plan_call}
+use Rattle.transfer_system.specs.CallSteps.{call_of, call_step}
 use Rattle.transfer_monotone.specs.Values.RisingRows.{LeftRise, ValuesRise}
 use Rattle.transfer_monotone.specs.Values.LaidOut.{IsLaidOut}
 use Rattle.transfer_monotone.specs.Values.ViolationsBelow.{ViolationsBelow}

@@ -40,9 +40,9 @@ use Rattle.transfer_library_plans.specs.Allocations.{instance_size, released, pl
 use Rattle.transfer_library_plans.specs.Arguments.{argument_value}
 use Rattle.transfer_library_plans.specs.declared.call_plans.Trail.{Trail}
 use Rattle.transfer_library_plans.specs.declared.call_plans.Effect.TheVariants as effect
-use Rattle.transfer_library.specs.Effects.{apply}
-use Rattle.transfer_library.specs.Planning.{plan_call}
-use Rattle.transfer_instructions.specs.Instructions.CallSteps.{call_of, call_step}
+use Rattle.transfer_system.specs.Effects.{apply}
+use Rattle.transfer_system.specs.Planning.{plan_call}
+use Rattle.transfer_system.specs.CallSteps.{call_of, call_step}
 use Rattle.transfer_monotone.specs.Values.RisingRows.{LeftRise, PointersRise}
 use Rattle.transfer_monotone.specs.Values.LaidOut.{IsLaidOut}
 use Rattle.transfer_monotone.specs.Values.ViolationsBelow.{ViolationsBelow}

@@ -30,9 +30,9 @@ use Rattle.transfer_library_plans.specs.declared.call_plans.Plan.{Plan}
 use Rattle.transfer_library_plans.specs.Plans.{harmless}
 use Rattle.transfer_library_plans.specs.Arguments.{value_of_argument, argument_value}
 use Rattle.transfer_library_plans.specs.Outputs.{putchar_of}
-use Rattle.transfer_library.specs.Effects.{put_result, apply}
-use Rattle.transfer_library.specs.Planning.{plan_call}
-use Rattle.transfer_instructions.specs.Instructions.CallSteps.{call_of, call_step}
+use Rattle.transfer_system.specs.Effects.{put_result, apply}
+use Rattle.transfer_system.specs.Planning.{plan_call}
+use Rattle.transfer_system.specs.CallSteps.{call_of, call_step}
 use Rattle.transfer_monotone.specs.Values.RisingRows.{LeftRise, ValuesRise}
 use Rattle.transfer_monotone.specs.Values.LaidOut.{IsLaidOut}
 use Rattle.transfer_monotone.specs.Values.ViolationsBelow.{ViolationsBelow}

@@ -34,8 +34,8 @@ use Rattle.transfer_library_plans.specs.Plans.{trail_of, checked, planned}
 use Rattle.transfer_library_plans.specs.Calls.{Call}
 use Rattle.transfer_library_plans.specs.Arguments.{argument_value}
 use Rattle.transfer_library_plans.specs.Outputs.{argument_at, scan_at, given_trail, scan_violations, scanned_trail, has_number, printed_trail_at, text_trail_at, pointer_trails, scan_trails, printf_trail, length_of, strcmp_trail, plan_puts, plan_printf, plan_strlen, plan_strcmp}
-use Rattle.transfer_library.specs.Planning.{plan_call}
-use Rattle.transfer_instructions.specs.Instructions.CallSteps.{call_of}
+use Rattle.transfer_system.specs.Planning.{plan_call}
+use Rattle.transfer_system.specs.CallSteps.{call_of}
 use Rattle.transfer_monotone.specs.Edges.CallLaws.{CallRises}
 use Rattle.transfer_monotone.specs.Values.RisingRows.{ValuesRise}
 use Rattle.transfer_monotone.specs.Values.LaidOut.{IsLaidOut}

@@ -36,8 +36,8 @@ use Rattle.store_monotone.proofs.store.AddedRanges.{below_of_bounds}
 use Rattle.store_monotone.proofs.store.NearCells.{near_value_is}
 use Rattle.store_monotone.proofs.store.OwnValues.{one_within}
 use Rattle.transfer_checks.specs.Temporaries.{temp_value, amount_value}
-use Rattle.transfer_instructions.specs.Values.ResultTemps.{negated}
-use Rattle.transfer_instructions.specs.Values.IntegerSteps.{constant_step, binary_step, unary_step, compare_step, not_step, put_converted, converted_pointer, convert_value, convert_step}
+use Rattle.transfer_system.specs.ResultTemps.{negated}
+use Rattle.transfer_system.specs.IntegerSteps.{constant_step, binary_step, unary_step, compare_step, not_step, put_converted, converted_pointer, convert_value, convert_step}
 use Rattle.transfer_monotone.specs.Values.RisingRows.{LeftRise, PointersRise, ValuesRise}
 use Rattle.transfer_monotone.specs.Values.LaidOut.{IsLaidOut}
 use Rattle.transfer_monotone.specs.Values.StepLaws.{FlowRows, Rises, IntegerStepsRise}

@@ -50,7 +50,7 @@ use Rattle.store_monotone.proofs.store.StorePlaces.{any_monotone}
 use Rattle.transfer_checks.specs.PointerChecks.{moves_outside, shift_violations, are_alike, check_same_instance}
 use Rattle.transfer_checks.specs.ViolationSets.{no_violations}
 use Rattle.transfer_checks.specs.Temporaries.{temp_value, amount_value}
-use Rattle.transfer_instructions.specs.Values.PointerSteps.{is_short, address_of, address_in, address_step, touch_part, narrow_violations, narrow_touched, narrow_step, backwards_by, signed_amount, shift_checks, put_moved, shift_by, shift_step, comparison_violations, equality_violations, has_difference, difference_of, difference_between, difference_step, equality, ordered, relation, relation_step}
+use Rattle.transfer_system.specs.PointerSteps.{is_short, address_of, address_in, address_step, touch_part, narrow_violations, narrow_touched, narrow_step, backwards_by, signed_amount, shift_checks, put_moved, shift_by, shift_step, comparison_violations, equality_violations, has_difference, difference_of, difference_between, difference_step, equality, ordered, relation, relation_step}
 use Rattle.transfer_monotone.specs.Values.RisingRows.{LeftRise, PointersRise}
 use Rattle.transfer_monotone.specs.Values.LaidOut.{IsLaidOut}
 use Rattle.transfer_monotone.specs.Values.ViolationsBelow.{ViolationsBelow}

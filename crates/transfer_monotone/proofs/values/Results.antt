@@ -31,7 +31,7 @@ use Rattle.store_monotone.proofs.store.CellReads.{labels_top}
 use Rattle.store_monotone.proofs.store.OwnValues.{one_within}
 use Rattle.store_monotone.proofs.store.StorePlaces.{any_monotone, bounds_some}
 use Rattle.transfer_checks.specs.Temporaries.{temp_position, temp_value, put_temp}
-use Rattle.transfer_instructions.specs.Values.ResultTemps.{put_number, put_truth, put_pointer}
+use Rattle.transfer_system.specs.ResultTemps.{put_number, put_truth, put_pointer}
 use Rattle.transfer_monotone.specs.Values.RisingRows.{RowsRise, LeftRise, PointersRise, ValuesRise}
 use Rattle.transfer_monotone.specs.Values.LaidOut.{IsLaidOut}
 use Rattle.transfer_monotone.proofs.values.TempPlaces.{temp_place}

@@ -5,7 +5,7 @@ use Rattle.cc_base.specs.IntegerDomains.{IntegersOf}
 use Rattle.cfg.specs.declared.programs.Flow.{Flow}
 use Rattle.cfg.specs.declared.machine_instructions.Scalar.{Scalar}
 use Rattle.pointer_domain.specs.declared.base_sets.Bases.{Bases}
-use Rattle.transfer_instructions.specs.Instructions.MemorySteps.{load_violations, load_step, store_violations, store_step, copy_violations}
+use Rattle.transfer_system.specs.MemorySteps.{load_violations, load_step, store_violations, store_step, copy_violations}
 use Rattle.transfer_monotone.specs.Values.StepLaws.{Rises, Violates}
 
 module _ {I : Type 0} (l : LatticeOf I) (n : IntegersOf I) (all : Bases) (flow : Flow) where

@@ -17,9 +17,9 @@ use Rattle.cfg.specs.declared.machine_instructions.Operation.TheVariants as op
 use Rattle.cfg.specs.WellFormed.{names_of, fits_operation, fits_edge}
 use Rattle.pointer_domain.specs.declared.base_sets.Bases.{Bases}
 use Rattle.store_monotone.specs.Store.StoreLaws.{AreBytes}
-use Rattle.transfer_instructions.specs.Instructions.Steps.{step}
-use Rattle.transfer_instructions.specs.Instructions.StepViolations.{violations_at}
-use Rattle.transfer_edges.specs.Edges.{edge}
+use Rattle.transfer_system.specs.Steps.{step}
+use Rattle.transfer_system.specs.StepViolations.{violations_at}
+use Rattle.transfer_system.specs.Edges.{edge}
 use Rattle.transfer_monotone.specs.Values.StepLaws.{Rises, Violates}
 use Rattle.transfer_monotone.specs.Edges.CallLaws.{CallRises, LineRises, CopyRises}
 

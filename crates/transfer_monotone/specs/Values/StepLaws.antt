@@ -14,8 +14,8 @@ use Rattle.value_domain.specs.declared.values.row_cells.Cell.{Cell}
 use Rattle.store_monotone.specs.Store.TopRows.{top_row}
 use Rattle.pointer_domain.specs.declared.base_sets.Bases.{Bases}
 use Rattle.transfer_checks.specs.declared.violation_sets.Violations.{Violations}
-use Rattle.transfer_instructions.specs.Values.IntegerSteps.{constant_step, binary_step, binary_checks, unary_step, unary_checks, compare_step, not_step, convert_step}
-use Rattle.transfer_instructions.specs.Values.PointerSteps.{address_step, narrow_step, narrow_violations, shift_step, shift_checks, comparison_violations, equality_violations, difference_step, relation_step}
+use Rattle.transfer_system.specs.IntegerSteps.{constant_step, binary_step, binary_checks, unary_step, unary_checks, compare_step, not_step, convert_step}
+use Rattle.transfer_system.specs.PointerSteps.{address_step, narrow_step, narrow_violations, shift_step, shift_checks, comparison_violations, equality_violations, difference_step, relation_step}
 use Rattle.transfer_monotone.specs.Values.RisingRows.{RowsRise, LeftRise}
 use Rattle.transfer_monotone.specs.Values.ViolationsBelow.{ViolationsBelow}
 

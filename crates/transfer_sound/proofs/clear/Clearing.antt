@@ -30,8 +30,8 @@ use Rattle.store_objects.specs.ObjectLengths.{clear_keeps}
 use Rattle.store_cells.specs.RowPositions.{leaf_position, zero_position, cell_at, value_in, value_at, zero_at}
 use Rattle.store_cells.specs.Walks.{walk}
 use Rattle.transfer_checks.specs.ViolationSets.{no_violations}
-use Rattle.transfer_instructions.specs.Instructions.Steps.{operate}
-use Rattle.transfer_instructions.specs.Instructions.StepViolations.{operation_violations}
+use Rattle.transfer_system.specs.Steps.{operate}
+use Rattle.transfer_system.specs.StepViolations.{operation_violations}
 use Rattle.memory_model.specs.Memory.Labels.{no_labels}
 use Rattle.memory_model.specs.Memory.Bytes.{Content, indeterminate, number, part, Byte}
 use Rattle.memory_model.specs.Memory.Instances.{Memory, bytes_of, bytes_at, byte_at}

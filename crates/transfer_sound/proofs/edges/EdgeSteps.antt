@@ -26,11 +26,11 @@ use Rattle.value_domain.specs.Values.ValueTables.{number_value, value_truth}
 use Rattle.value_domain.specs.declared.values.values.Value.{Value}
 use Rattle.value_domain.specs.declared.values.row_cells.Cell.{Cell}
 use Rattle.domain_theorems.proofs.values.Numbers.{RangeHas, bounds_have}
-use Rattle.transfer_edges.specs.Edges.{last_instruction, deciding_of, deciding_temp, truth_can_be, includes, has_label, is_other_than, can_be, put_kept, refine_if, kept_behind, behind_test, branch_edge, switched, refine_named_case, refine_object, case_edge, follow, follow_if, edge}
+use Rattle.transfer_system.specs.Edges.{last_instruction, deciding_of, deciding_temp, truth_can_be, includes, has_label, is_other_than, can_be, put_kept, refine_if, kept_behind, behind_test, branch_edge, switched, refine_named_case, refine_object, case_edge, follow, follow_if, edge}
 use Rattle.transfer_checks.specs.Temporaries.{temp_value, put_temp}
 use Rattle.transfer_checks.specs.ViolationSets.{no_violations}
-use Rattle.transfer_instructions.specs.Instructions.Steps.{operate}
-use Rattle.transfer_instructions.specs.Instructions.StepViolations.{operation_violations}
+use Rattle.transfer_system.specs.Steps.{operate}
+use Rattle.transfer_system.specs.StepViolations.{operation_violations}
 use Rattle.memory_model.specs.Memory.Labels.{Labels, no_labels}
 use Rattle.memory_model.specs.Memory.Scalars.{Scalar, integer, pointer, is_false}
 use Rattle.memory_model.specs.Effects.Worlds.{World, Reply, goes, stops, behind, world_of}

@@ -9,7 +9,7 @@ use Rattle.cfg.specs.declared.flow_edges.EdgeKind.{EdgeKind}
 use Rattle.cfg.specs.declared.flow_edges.EdgeKind.TheVariants as kind
 use Rattle.cfg.specs.declared.machine_instructions.Instruction.{Instruction}
 use Rattle.cfg.specs.declared.programs.Flow.{Flow}
-use Rattle.transfer_edges.specs.Edges.{last_of}
+use Rattle.transfer_system.specs.Edges.{last_of}
 use Rattle.lower_templates.specs.Views.ProgramViews.{EdgeView, edge, block, flow_view}
 use Rattle.semantics.specs.CfgMachine.FlowEdges.{is_taken, edge_taken, edges_of}
 use Rattle.semantics.specs.CfgMachine.FlowSteps.{block_or, block_of}

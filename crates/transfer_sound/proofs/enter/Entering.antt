@@ -33,8 +33,8 @@ use Rattle.store_cells.specs.RowPositions.{leaf_position, class_position, zero_p
 use Rattle.store_cells.specs.ScalarTypes.{kind_of}
 use Rattle.transfer_checks.specs.Temporaries.{temp_position, temp_value}
 use Rattle.transfer_checks.specs.ViolationSets.{no_violations}
-use Rattle.transfer_instructions.specs.Instructions.Steps.{operate}
-use Rattle.transfer_instructions.specs.Instructions.StepViolations.{operation_violations}
+use Rattle.transfer_system.specs.Steps.{operate}
+use Rattle.transfer_system.specs.StepViolations.{operation_violations}
 use Rattle.memory_model.specs.Memory.Bytes.{indeterminate, Byte}
 use Rattle.memory_model.specs.Memory.Instances.{Memory, Instance, Life, automatic, allocated, live, ended, freed, bytes_at, byte_at, life_at}
 use Rattle.memory_model.specs.Memory.Scalars.{Scalar}

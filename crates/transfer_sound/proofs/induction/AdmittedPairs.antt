@@ -16,8 +16,8 @@ use Rattle.cfg.specs.declared.programs.Flow.{Flow}
 use Rattle.value_domain.specs.declared.values.row_cells.Cell.{Cell}
 use Rattle.transfer_checks.specs.ViolationSets.{violates}
 use Rattle.transfer_checks.specs.declared.violation_sets.Violations.{Violations}
-use Rattle.transfer_instructions.specs.Instructions.StepViolations.{operation_violations}
-use Rattle.diagnose.specs.Diagnostics.AdmittedRules.{run_rules, with_pair, pairs_among, pairs_of, instructions_of, pairs_at, row_behind, pairs_from, instruction_pairs, block_pairs, entry_pairs, rows_pairs, map_pairs}
+use Rattle.transfer_system.specs.StepViolations.{operation_violations}
+use Rattle.row_bounds.specs.AdmittedRules.{run_rules, with_pair, pairs_among, pairs_of, instructions_of, pairs_at, row_behind, pairs_from, instruction_pairs, block_pairs, entry_pairs, rows_pairs, map_pairs}
 use Rattle.transfer_sound.specs.Induction.Covering.{rows_behind, row_before, Admits}
 
 -- ---- lists

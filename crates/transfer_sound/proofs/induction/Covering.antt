@@ -14,9 +14,9 @@ use Rattle.cfg.specs.WellFormed.{names_of, On, leads, fits_operation, is_well_fo
 use Rattle.cfg.specs.declared.machine_instructions.Instruction.{Instruction}
 use Rattle.cfg.specs.declared.programs.Flow.{Flow}
 use Rattle.value_domain.specs.declared.values.row_cells.Cell.{Cell}
-use Rattle.transfer_edges.specs.Edges.{last_of, last_instruction}
-use Rattle.transfer_instructions.specs.Instructions.Steps.{operate}
-use Rattle.diagnose.specs.Diagnostics.AdmittedRules.{instructions_in, instructions_of, row_behind}
+use Rattle.transfer_system.specs.Edges.{last_of, last_instruction}
+use Rattle.transfer_system.specs.Steps.{operate}
+use Rattle.row_bounds.specs.AdmittedRules.{instructions_in, instructions_of, row_behind}
 use Rattle.memory_model.specs.Effects.Worlds.{World, Reply, goes, stops, world_of, Violation}
 use Rattle.lower_templates.specs.Worklist.Acts.{act, Step}
 use Rattle.lower_templates.specs.Views.ProgramViews.{FlowView, flow_view}

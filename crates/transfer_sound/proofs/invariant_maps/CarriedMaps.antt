@@ -17,10 +17,10 @@ use Rattle.transfer_system.specs.BoundedRows.EndLaws.{EndLaws}
 use Rattle.transfer_system.specs.BoundedRows.OwnRows.{program_bases, is_own_row}
 use Rattle.transfer_system.specs.System.BlockPasses.{edge_end}
 use Rattle.transfer_system.specs.System.FlowMachines.{edge_at, start_of, through, flow_machine}
-use Rattle.transfer_monotone.specs.Values.LaidOut.{IsLaidOut}
-use Rattle.transfer_monotone.specs.Edges.ProgramLaws.{IsNamed, AreRising}
+use Rattle.row_bounds.specs.LaidOut.{IsLaidOut}
+use Rattle.row_bounds.specs.ProgramLaws.{IsNamed, AreRising}
 use Rattle.transfer_system.specs.BoundedRows.NearLists.{IsNearList}
-use Rattle.transfer_monotone.proofs.edges.Systems.{own_rise}
+use Rattle.row_bounds.proofs.Systems.{own_rise}
 use Rattle.row_bounds.specs.Edges.OwnLists.{ReachesTypes}
 use Rattle.row_bounds.proofs.edges.OwnEdges.{fit_nothing}
 use Rattle.transfer_sound.specs.Induction.Covering.{Begins, Carries}

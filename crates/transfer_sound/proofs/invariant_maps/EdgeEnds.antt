@@ -14,11 +14,11 @@ use Rattle.value_domain.specs.Values.Cells.{cell_lattice}
 use Rattle.store_sound.specs.Concretization.Coverage.{state_of}
 use Rattle.store_sound.specs.Concretization.RowMeaning.{StandsFor}
 use Rattle.semantics.specs.CfgMachine.FlowStates.{Standing}
-use Rattle.transfer_edges.specs.Edges.{edge}
+use Rattle.transfer_system.specs.Edges.{edge}
 use Rattle.transfer_system.specs.System.BlockPasses.{block_end, edge_behind, edge_end}
 use Rattle.transfer_system.specs.System.BlockPasses as passes
 use Rattle.transfer_system.specs.System.FlowMachines.{edge_at}
-use Rattle.diagnose.specs.Diagnostics.AdmittedRules as rules
+use Rattle.row_bounds.specs.AdmittedRules as rules
 use Rattle.transfer_sound.specs.Values.SoundSteps.{StandsBehind}
 use Rattle.transfer_sound.specs.Induction.Covering.{rows_behind, Carries}
 use Rattle.transfer_sound.specs.InvariantMaps.CarriedMaps.{AreUnmixed}

@@ -5,7 +5,7 @@ use Rattle.cc_base.specs.declared.int_types.IntType.{IntType}
 use Rattle.c_layout.specs.Leaves as layout
 use Rattle.cfg.specs.declared.machine_instructions.Scalar.TheVariants as of
 use Rattle.cfg.specs.declared.machine_instructions.Scalar as declared
-use Rattle.transfer_instructions.specs.Values.Scalars.{class_of_rank, class_of_kind, class_of}
+use Rattle.transfer_system.specs.Scalars.{class_of_rank, class_of_kind, class_of}
 use Rattle.memory_model.specs.Effects.Accesses.{class_in}
 use Rattle.store_sound.specs.Store.Scalars.{signed_in}
 

@@ -26,10 +26,10 @@ use Rattle.transfer_checks.specs.Touches.{touch}
 use Rattle.transfer_checks.specs.ViolationSets.{violates}
 use Rattle.transfer_checks.specs.declared.touches.Touched.{Touched}
 use Rattle.transfer_checks.specs.declared.violation_sets.Violations.{Violations}
-use Rattle.transfer_instructions.specs.Values.Scalars.{class_of}
-use Rattle.transfer_instructions.specs.Instructions.MemorySteps.{move_temp, moved_behind, store_to, store_step}
-use Rattle.transfer_instructions.specs.Instructions.Steps.{operate}
-use Rattle.transfer_instructions.specs.Instructions.StepViolations.{operation_violations}
+use Rattle.transfer_system.specs.Scalars.{class_of}
+use Rattle.transfer_system.specs.MemorySteps.{move_temp, moved_behind, store_to, store_step}
+use Rattle.transfer_system.specs.Steps.{operate}
+use Rattle.transfer_system.specs.StepViolations.{operation_violations}
 use Rattle.memory_model.specs.Memory.ScalarSizes as machine
 use Rattle.memory_model.specs.Memory.Bytes.{MachinePointer}
 use Rattle.memory_model.specs.Memory.Instances.{Memory, bytes_at}

@@ -22,8 +22,8 @@ use Rattle.store_objects.specs.ObjectLives.{blank_object, at_base, forget}
 use Rattle.store_objects.specs.ObjectLengths.{forget_keeps}
 use Rattle.store_cells.specs.RowPositions.{leaf_position, zero_position, cell_at, value_at, zero_at}
 use Rattle.transfer_checks.specs.ViolationSets.{no_violations}
-use Rattle.transfer_instructions.specs.Instructions.Steps.{operate}
-use Rattle.transfer_instructions.specs.Instructions.StepViolations.{operation_violations}
+use Rattle.transfer_system.specs.Steps.{operate}
+use Rattle.transfer_system.specs.StepViolations.{operation_violations}
 use Rattle.memory_model.specs.Memory.Bytes.{indeterminate, Byte}
 use Rattle.memory_model.specs.Memory.Instances.{Memory, bytes_at, byte_at}
 use Rattle.memory_model.specs.Effects.ObjectEffects.{all_of, forgotten}

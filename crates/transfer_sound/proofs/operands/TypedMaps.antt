@@ -8,8 +8,8 @@ use Rattle.cc_base.specs.IntegerDomains.{IntegersOf, BoundLaws}
 use Rattle.cfg.specs.declared.machine_instructions.Instruction.{Instruction}
 use Rattle.cfg.specs.declared.programs.Flow.{Flow}
 use Rattle.value_domain.specs.declared.values.row_cells.Cell.{Cell}
-use Rattle.diagnose.specs.Diagnostics.AdmittedRules.{instructions_of, row_behind}
-use Rattle.diagnose.specs.Operands.TypedRows.{has_operands, is_typed_at, are_typed_from, are_typed, is_typed_block, is_typed_entry, are_typed_rows, is_typed_map}
+use Rattle.row_bounds.specs.AdmittedRules.{instructions_of, row_behind}
+use Rattle.row_bounds.specs.TypedRows.{has_operands, is_typed_at, are_typed_from, are_typed, is_typed_block, is_typed_entry, are_typed_rows, is_typed_map}
 use Rattle.store_sound.specs.Concretization.Coverage.{state_of}
 use Rattle.transfer_sound.specs.Induction.Covering.{rows_behind, row_before, TypesOperands}
 use Rattle.transfer_sound.proofs.induction.AdmittedPairs.{none_behind}

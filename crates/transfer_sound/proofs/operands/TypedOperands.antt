@@ -23,7 +23,7 @@ use Rattle.value_domain.specs.declared.values.row_cells.Cell.{Cell}
 use Rattle.value_domain.specs.declared.values.values.Value.{Value}
 use Rattle.domain_theorems.proofs.values.BaseChanges.{has_none}
 use Rattle.transfer_checks.specs.Temporaries.{temp_value}
-use Rattle.diagnose.specs.Operands.TypedRows.{is_natural, is_within, is_of_kind, is_size_in, has_third_size, takes_size, has_right, has_operands}
+use Rattle.row_bounds.specs.TypedRows.{is_natural, is_within, is_of_kind, is_size_in, has_third_size, takes_size, has_right, has_operands}
 use Rattle.memory_model.specs.Memory.Bytes.{MachinePointer, null, into}
 use Rattle.memory_model.specs.Memory.Instances.{Memory, Life, live, ended, freed, life_at}
 use Rattle.memory_model.specs.Memory.Scalars.{Scalar, integer, pointer}

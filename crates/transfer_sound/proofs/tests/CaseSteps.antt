@@ -23,7 +23,7 @@ use Rattle.domain_theorems.proofs.values.Numbers.{met_has, bounds_have, of_range
 use Rattle.store_cells.specs.ClassNumbers.{is_pointer}
 use Rattle.store_cells.specs.RowPositions.{leaf_position, value_at, put_value}
 use Rattle.store_cells.specs.ScalarTypes.{kind_of}
-use Rattle.transfer_edges.specs.Refinements.{position_of, value_of_object, side_value, labelled_number, with_number, put_case, refine_value, refine_case_at, refine_case}
+use Rattle.transfer_system.specs.Refinements.{position_of, value_of_object, side_value, labelled_number, with_number, put_case, refine_value, refine_case_at, refine_case}
 use Rattle.transfer_checks.specs.ViolationSets.{no_violations}
 use Rattle.memory_model.specs.Memory.Labels.{Labels, no_labels}
 use Rattle.memory_model.specs.Memory.ScalarSizes.{class_bytes}

@@ -24,7 +24,7 @@ use Rattle.value_domain.specs.declared.values.row_cells.Cell.TheVariants.{Nothin
 use Rattle.store_cells.specs.ClassNumbers.{is_pointer}
 use Rattle.store_cells.specs.NearValues.{near_pointer, near_value}
 use Rattle.store_cells.specs.RowPositions.{leaf_position, zero_position, cell_at, value_in, value_at, zero_at, put_value}
-use Rattle.transfer_edges.specs.Refinements.{position_of, named_by, not_null, tested_value, refine_pointer_at, refine_pointer, refine_named, refine_in, refine}
+use Rattle.transfer_system.specs.Refinements.{position_of, named_by, not_null, tested_value, refine_pointer_at, refine_pointer, refine_named, refine_in, refine}
 use Rattle.transfer_checks.specs.ViolationSets.{no_violations}
 use Rattle.memory_model.specs.Memory.ScalarSizes.{class_bytes}
 use Rattle.memory_model.specs.Memory.Bytes.{MachinePointer, null, into, Content, indeterminate, number, part, Byte}

@@ -8,7 +8,7 @@ use Rattle.cfg.specs.declared.flow_edges.Side.TheVariants as side
 use Rattle.cfg.specs.declared.flow_edges.Test.{Test}
 use Rattle.cfg.specs.declared.programs.Flow.{Flow}
 use Rattle.value_domain.specs.declared.values.row_cells.Cell.{Cell}
-use Rattle.transfer_edges.specs.Refinements.{refine_named, refine_in, refine}
+use Rattle.transfer_system.specs.Refinements.{refine_named, refine_in, refine}
 use Rattle.transfer_checks.specs.ViolationSets.{no_violations}
 use Rattle.memory_model.specs.Effects.Tests as machine
 use Rattle.memory_model.specs.Effects.Tests.{TestedSide, SideTest, object, constant, nothing, test_holds, passing}

@@ -13,7 +13,7 @@ use Rattle.value_domain.specs.Values.LabelSets as set
 use Rattle.value_domain.specs.declared.values.label_sets.Labels as sets
 use Rattle.domain_theorems.proofs.values.Flags.{same_flag}
 use Rattle.domain_theorems.proofs.values.LabelRules.{dropped_monotone}
-use Rattle.transfer_edges.specs.Refinements.{refined_labels}
+use Rattle.transfer_system.specs.Refinements.{refined_labels}
 use Rattle.memory_model.specs.Memory.Labels.{Labels, is_unlabelled, dropped_labels}
 use Rattle.memory_model.specs.Memory.Bytes.{Content, indeterminate, number, part, Byte}
 use Rattle.memory_model.specs.Memory.Instances.{Memory, Instance, bytes_at, bytes_of, byte_at}

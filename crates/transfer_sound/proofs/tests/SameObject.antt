@@ -27,7 +27,7 @@ use Rattle.value_domain.specs.declared.values.row_cells.Cell.{Cell}
 use Rattle.domain_theorems.proofs.values.Numbers.{met_has, bounds_have, of_range_stands}
 use Rattle.store_cells.specs.RowPositions.{leaf_position, value_at, put_value}
 use Rattle.store_cells.specs.ScalarTypes.{kind_of}
-use Rattle.transfer_edges.specs.Refinements.{position_of, mirrored, is_same_object, common_labels, value_of_object, side_value, refined, put_at, put_side, met_number, met, refine_one, refine_sides, refine_values, refine_integers, refine_in}
+use Rattle.transfer_system.specs.Refinements.{position_of, mirrored, is_same_object, common_labels, value_of_object, side_value, refined, put_at, put_side, met_number, met, refine_one, refine_sides, refine_values, refine_integers, refine_in}
 use Rattle.transfer_checks.specs.ViolationSets.{no_violations}
 use Rattle.memory_model.specs.Memory.Labels.{Labels, is_unlabelled}
 use Rattle.memory_model.specs.Memory.Instances.{Memory, live, bytes_at, bytes_of, life_at}

@@ -20,7 +20,7 @@ use Rattle.value_domain.specs.declared.values.values.Value as values
 use Rattle.value_domain.specs.declared.values.row_cells.Cell.{Cell}
 use Rattle.store_cells.specs.RowPositions.{leaf_position, put_value}
 use Rattle.store_cells.specs.ScalarTypes.{kind_of}
-use Rattle.transfer_edges.specs.Refinements.{position_of, mirrored, is_same_object, value_of_object, side_value, refined, put_at, put_side, has_number, met, refine_one, refine_two, refine_sides, refine_values, refine_integers, refine_in}
+use Rattle.transfer_system.specs.Refinements.{position_of, mirrored, is_same_object, value_of_object, side_value, refined, put_at, put_side, has_number, met, refine_one, refine_two, refine_sides, refine_values, refine_integers, refine_in}
 use Rattle.transfer_checks.specs.ViolationSets.{no_violations}
 use Rattle.memory_model.specs.Memory.Labels.{Labels, is_unlabelled}
 use Rattle.memory_model.specs.Memory.Instances.{Memory, bytes_at}

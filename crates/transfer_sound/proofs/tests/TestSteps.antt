@@ -27,7 +27,7 @@ use Rattle.value_domain.specs.declared.values.row_cells.Cell.{Cell}
 use Rattle.domain_theorems.proofs.values.ValueStands.{value_meaning}
 use Rattle.store_cells.specs.NearValues.{near_value}
 use Rattle.store_cells.specs.RowPositions.{leaf_position, value_in, value_at, put_value}
-use Rattle.transfer_edges.specs.Refinements.{position_of, mirrored, value_of_object, side_value, fits, refined}
+use Rattle.transfer_system.specs.Refinements.{position_of, mirrored, value_of_object, side_value, fits, refined}
 use Rattle.memory_model.specs.Memory.Labels.{Labels, is_unlabelled}
 use Rattle.memory_model.specs.Memory.Instances.{Memory, live, life_at, bytes_of, bytes_at, byte_at}
 use Rattle.memory_model.specs.Memory.Scalars.{Scalar, integer, pointer}

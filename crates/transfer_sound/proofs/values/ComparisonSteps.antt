@@ -42,10 +42,10 @@ use Rattle.transfer_checks.specs.PointerChecks.{are_alike, check_same_instance}
 use Rattle.transfer_checks.specs.Temporaries.{temp_value, put_temp}
 use Rattle.transfer_checks.specs.ViolationSets.{no_violations}
 use Rattle.transfer_checks.specs.declared.violation_sets.Violations.{Violations}
-use Rattle.transfer_instructions.specs.Values.PointerSteps.{has_difference, difference_of, difference_between, difference_step, equality, ordered, relation, relation_step}
-use Rattle.transfer_instructions.specs.Values.ResultTemps.{negated, put_truth}
-use Rattle.transfer_instructions.specs.Instructions.Steps.{operate}
-use Rattle.transfer_instructions.specs.Instructions.StepViolations.{relation_violations, operation_violations}
+use Rattle.transfer_system.specs.PointerSteps.{has_difference, difference_of, difference_between, difference_step, equality, ordered, relation, relation_step}
+use Rattle.transfer_system.specs.ResultTemps.{negated, put_truth}
+use Rattle.transfer_system.specs.Steps.{operate}
+use Rattle.transfer_system.specs.StepViolations.{relation_violations, operation_violations}
 use Rattle.memory_model.specs.Memory.Labels.{no_labels}
 use Rattle.memory_model.specs.Memory.Bytes.{MachinePointer, null, into}
 use Rattle.memory_model.specs.Memory.Instances.{Memory, Life, live, ended, freed, bytes_at, life_at}

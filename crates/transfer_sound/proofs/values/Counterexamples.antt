@@ -9,7 +9,7 @@ use Rattle.cc_base.specs.declared.int_types.IntType.{IntType}
 use Rattle.cc_base.specs.declared.integer_operators.IntOp.TheVariants.{Rem}
 use Rattle.cfg.specs.declared.programs.Flow.{Flow}
 use Rattle.pointer_domain.specs.declared.pointer_sets.Pointers.{Pointers}
-use Rattle.transfer_instructions.specs.Values.PointerSteps.{has_difference}
+use Rattle.transfer_system.specs.PointerSteps.{has_difference}
 use Rattle.memory_model.specs.Memory.Labels.{no_labels}
 use Rattle.memory_model.specs.Memory.Bytes.{indeterminate, into}
 use Rattle.memory_model.specs.Memory.Instances.{automatic, live}

@@ -31,10 +31,10 @@ use Rattle.transfer_checks.specs.PointerChecks.{shift_violations}
 use Rattle.transfer_checks.specs.Temporaries.{temp_value, amount_value}
 use Rattle.transfer_checks.specs.Touches.{leaves_bounds_at}
 use Rattle.transfer_checks.specs.declared.violation_sets.Violations.{Violations}
-use Rattle.transfer_instructions.specs.Values.PointerSteps.{is_short, signed_amount, put_moved, shift_by, shift_step}
-use Rattle.transfer_instructions.specs.Values.ResultTemps.{put_pointer}
-use Rattle.transfer_instructions.specs.Instructions.Steps.{operate}
-use Rattle.transfer_instructions.specs.Instructions.StepViolations.{operation_violations}
+use Rattle.transfer_system.specs.PointerSteps.{is_short, signed_amount, put_moved, shift_by, shift_step}
+use Rattle.transfer_system.specs.ResultTemps.{put_pointer}
+use Rattle.transfer_system.specs.Steps.{operate}
+use Rattle.transfer_system.specs.StepViolations.{operation_violations}
 use Rattle.memory_model.specs.Memory.Labels.{Labels, is_unlabelled}
 use Rattle.memory_model.specs.Memory.Bytes.{MachinePointer, null, into}
 use Rattle.memory_model.specs.Memory.Instances.{Life, live, ended, freed, life_at}

@@ -26,10 +26,10 @@ use Rattle.transfer_checks.specs.Temporaries.{temp_value}
 use Rattle.transfer_checks.specs.Touches.{touch, touch_violations}
 use Rattle.transfer_checks.specs.ViolationSets.{no_violations}
 use Rattle.transfer_checks.specs.declared.violation_sets.Violations.{Violations}
-use Rattle.transfer_instructions.specs.Values.PointerSteps.{is_short, address_of, address_in, address_step, narrow_touched, narrow_step}
-use Rattle.transfer_instructions.specs.Values.ResultTemps.{put_pointer}
-use Rattle.transfer_instructions.specs.Instructions.Steps.{operate}
-use Rattle.transfer_instructions.specs.Instructions.StepViolations.{operation_violations}
+use Rattle.transfer_system.specs.PointerSteps.{is_short, address_of, address_in, address_step, narrow_touched, narrow_step}
+use Rattle.transfer_system.specs.ResultTemps.{put_pointer}
+use Rattle.transfer_system.specs.Steps.{operate}
+use Rattle.transfer_system.specs.StepViolations.{operation_violations}
 use Rattle.memory_model.specs.Memory.Bytes.{MachinePointer, null, into}
 use Rattle.memory_model.specs.Memory.Instances.{Life, live, ended, freed, bytes_at, bytes_of, life_at}
 use Rattle.memory_model.specs.Memory.Scalars.{pointer}

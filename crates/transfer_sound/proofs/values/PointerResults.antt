@@ -11,7 +11,7 @@ use Rattle.value_domain.specs.Values.ValueTables.{pointer_value}
 use Rattle.domain_theorems.specs.Values.Meaning.{IsInto}
 use Rattle.transfer_checks.specs.declared.violation_sets.Violations.{Violations}
 use Rattle.transfer_checks.specs.ViolationSets.{violates}
-use Rattle.transfer_instructions.specs.Values.ResultTemps.{put_pointer}
+use Rattle.transfer_system.specs.ResultTemps.{put_pointer}
 use Rattle.memory_model.specs.Memory.Bytes.{MachinePointer}
 use Rattle.memory_model.specs.Memory.Instances.{Memory, Life, live, ended, freed}
 use Rattle.memory_model.specs.Memory.Scalars.{pointer}

@@ -10,7 +10,7 @@ use Rattle.cfg.specs.declared.machine_instructions.Operation.{Operation}
 use Rattle.cfg.specs.declared.machine_instructions.Operation.TheVariants as op
 use Rattle.cfg.specs.declared.programs.Flow.{Flow}
 use Rattle.value_domain.specs.declared.values.row_cells.Cell.{Cell}
-use Rattle.transfer_instructions.specs.Instructions.OperationGroups.{is_on_pointers}
+use Rattle.transfer_system.specs.OperationGroups.{is_on_pointers}
 use Rattle.semantics.specs.CfgMachine.FlowStates.{Standing}
 use Rattle.store_sound.specs.Concretization.ValueMeaning.{Naming}
 use Rattle.store_sound.specs.Programs.Premises.{HasPremises}

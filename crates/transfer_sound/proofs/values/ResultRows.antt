@@ -19,7 +19,7 @@ use Rattle.domain_theorems.proofs.values.EqualityStands.{has_some}
 use Rattle.domain_theorems.proofs.values.Flags.{or_left, or_right}
 use Rattle.domain_theorems.proofs.values.Numbers.{of_range_stands}
 use Rattle.transfer_checks.specs.Temporaries.{put_temp}
-use Rattle.transfer_instructions.specs.Values.ResultTemps.{put_number, put_truth, put_pointer}
+use Rattle.transfer_system.specs.ResultTemps.{put_number, put_truth, put_pointer}
 use Rattle.memory_model.specs.Memory.Bytes.{MachinePointer, null, into}
 use Rattle.memory_model.specs.Memory.Instances.{Memory, Life, live, ended, freed, life_at}
 use Rattle.memory_model.specs.Effects.IntegerEffects.{truth}

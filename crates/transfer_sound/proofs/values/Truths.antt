@@ -15,7 +15,7 @@ use Rattle.value_domain.specs.Values.ValueTables.{value_truth}
 use Rattle.domain_theorems.proofs.values.EqualityStands.{has_some}
 use Rattle.domain_theorems.proofs.values.Flags.{or_left, or_right, holds_of}
 use Rattle.domain_theorems.proofs.values.ValueStands.{value_meaning}
-use Rattle.transfer_instructions.specs.Values.ResultTemps.{negated}
+use Rattle.transfer_system.specs.ResultTemps.{negated}
 use Rattle.memory_model.specs.Memory.Bytes.{null, into}
 use Rattle.memory_model.specs.Memory.Instances.{Memory, Life, live, ended, freed, life_at}
 use Rattle.memory_model.specs.Memory.Scalars.{Scalar, integer, pointer, is_false}

@@ -41,11 +41,11 @@ use Rattle.transfer_checks.specs.IntegerChecks.{unary_violations, binary_violati
 use Rattle.transfer_checks.specs.Temporaries.{temp_value, amount_value, put_temp}
 use Rattle.transfer_checks.specs.ViolationSets.{no_violations}
 use Rattle.transfer_checks.specs.declared.violation_sets.Violations.{Violations}
-use Rattle.transfer_instructions.specs.Values.IntegerSteps.{constant_step, binary_step, unary_step, compare_step, not_step, put_converted, converted_pointer, convert_value, convert_step}
-use Rattle.transfer_instructions.specs.Values.ResultTemps.{negated, put_number, put_pointer}
-use Rattle.transfer_instructions.specs.Instructions.OperationGroups.{is_on_values}
-use Rattle.transfer_instructions.specs.Instructions.Steps.{operate}
-use Rattle.transfer_instructions.specs.Instructions.StepViolations.{operation_violations}
+use Rattle.transfer_system.specs.IntegerSteps.{constant_step, binary_step, unary_step, compare_step, not_step, put_converted, converted_pointer, convert_value, convert_step}
+use Rattle.transfer_system.specs.ResultTemps.{negated, put_number, put_pointer}
+use Rattle.transfer_system.specs.OperationGroups.{is_on_values}
+use Rattle.transfer_system.specs.Steps.{operate}
+use Rattle.transfer_system.specs.StepViolations.{operation_violations}
 use Rattle.memory_model.specs.Memory.Labels.{Labels, no_labels, negated_labels, converted_labels}
 use Rattle.memory_model.specs.Memory.Bytes.{MachinePointer, null}
 use Rattle.memory_model.specs.Memory.Scalars.{Scalar, integer, pointer, is_false}

@@ -11,7 +11,7 @@ use Rattle.cfg.specs.declared.machine_instructions.Operation.{Operation}
 use Rattle.cfg.specs.declared.machine_instructions.Operation.TheVariants as op
 use Rattle.cfg.specs.declared.programs.Flow.{Flow}
 use Rattle.value_domain.specs.declared.values.row_cells.Cell.{Cell}
-use Rattle.transfer_edges.specs.Refinements.{refine, refine_case}
+use Rattle.transfer_system.specs.Refinements.{refine, refine_case}
 use Rattle.transfer_checks.specs.ViolationSets.{no_violations}
 use Rattle.lower_templates.specs.Views.ProgramViews.{flow_view}
 use Rattle.semantics.specs.CfgMachine.FlowStates.{Standing}

@@ -13,8 +13,8 @@ use Rattle.cfg.specs.declared.flow_edges.Edge.{Edge}
 use Rattle.cfg.specs.declared.machine_instructions.Instruction.{Instruction}
 use Rattle.cfg.specs.declared.programs.Flow.{Flow}
 use Rattle.value_domain.specs.declared.values.row_cells.Cell.{Cell}
-use Rattle.transfer_edges.specs.Edges.{edge}
-use Rattle.diagnose.specs.Diagnostics.AdmittedRules.{instructions_of, row_behind, map_pairs}
+use Rattle.transfer_system.specs.Edges.{edge}
+use Rattle.row_bounds.specs.AdmittedRules.{instructions_of, row_behind, map_pairs}
 use Rattle.memory_model.specs.Effects.Worlds.{Violation}
 use Rattle.lower_templates.specs.Views.ProgramViews.{flow_view}
 use Rattle.semantics.specs.CfgMachine.FlowStates.{Standing, running}

@@ -13,10 +13,10 @@ use Rattle.cfg.specs.declared.machine_instructions.Operation.{Operation}
 use Rattle.cfg.specs.declared.programs.Flow.{Flow}
 use Rattle.value_domain.specs.declared.values.row_cells.Cell.{Cell}
 use Rattle.transfer_checks.specs.ViolationSets.{violates}
-use Rattle.transfer_instructions.specs.Instructions.Steps.{operate}
-use Rattle.transfer_instructions.specs.Instructions.StepViolations.{operation_violations}
-use Rattle.transfer_edges.specs.Edges.{edge, last_instruction}
-use Rattle.diagnose.specs.Diagnostics.AdmittedRules.{instructions_of}
+use Rattle.transfer_system.specs.Steps.{operate}
+use Rattle.transfer_system.specs.StepViolations.{operation_violations}
+use Rattle.transfer_system.specs.Edges.{edge, last_instruction}
+use Rattle.row_bounds.specs.AdmittedRules.{instructions_of}
 use Rattle.memory_model.specs.Effects.Worlds.{World, goes, world_of}
 use Rattle.lower_templates.specs.Worklist.Acts.{act}
 use Rattle.lower_templates.specs.Views.ProgramViews.{flow_view}

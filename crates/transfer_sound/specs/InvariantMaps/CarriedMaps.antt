@@ -16,8 +16,8 @@ use Rattle.store_sound.specs.Concretization.ValueMeaning.{Naming}
 use Rattle.store_sound.specs.Concretization.RowMeaning.{MachineState, StandsFor}
 use Rattle.transfer_system.specs.BoundedRows.OwnRows.{program_bases}
 use Rattle.transfer_system.specs.System.FlowMachines.{start_of, flow_machine}
-use Rattle.transfer_monotone.specs.Values.LaidOut.{IsLaidOut}
-use Rattle.transfer_monotone.specs.Edges.ProgramLaws.{IsNamed, AreRising}
+use Rattle.row_bounds.specs.LaidOut.{IsLaidOut}
+use Rattle.row_bounds.specs.ProgramLaws.{IsNamed, AreRising}
 use Rattle.transfer_system.specs.BoundedRows.NearLists.{IsNearList}
 use Rattle.row_bounds.specs.Edges.OwnLists.{ReachesTypes}
 use Rattle.transfer_sound.specs.Values.SoundSteps.{StandsBehind}

@@ -8,7 +8,7 @@ use Rattle.cfg.specs.WellFormed.{is_well_formed}
 use Rattle.cfg.specs.declared.machine_instructions.Operation.{Operation}
 use Rattle.cfg.specs.declared.programs.Flow.{Flow}
 use Rattle.value_domain.specs.declared.values.row_cells.Cell.{Cell}
-use Rattle.diagnose.specs.Operands.TypedRows.{has_operands, is_typed_map}
+use Rattle.row_bounds.specs.TypedRows.{has_operands, is_typed_map}
 use Rattle.store_sound.specs.Concretization.ValueMeaning.{Naming}
 use Rattle.store_sound.specs.Concretization.RowMeaning.{MachineState, StandsFor}
 use Rattle.store_sound.specs.Concretization.Coverage.{EachRunIsCovered}

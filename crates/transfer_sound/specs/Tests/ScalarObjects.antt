@@ -13,7 +13,7 @@ use Rattle.cfg.specs.declared.flow_edges.Test.{Test}
 use Rattle.cfg.specs.declared.machine_instructions.Scalar as declared
 use Rattle.cfg.specs.declared.machine_instructions.Scalar.TheVariants as of
 use Rattle.cfg.specs.declared.programs.Flow.{Flow}
-use Rattle.transfer_edges.specs.Refinements.{named_by}
+use Rattle.transfer_system.specs.Refinements.{named_by}
 use Rattle.memory_model.specs.Memory.ScalarSizes.{class_bytes}
 use Rattle.memory_model.specs.Effects.Accesses.{class_in}
 use Rattle.memory_model.specs.Effects.Tests.{scalar_size}

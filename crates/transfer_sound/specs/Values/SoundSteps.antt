@@ -15,9 +15,9 @@ use Rattle.value_domain.specs.declared.values.row_cells.Cell.{Cell}
 use Rattle.store_cells.specs.ScalarTypes.{kind_of}
 use Rattle.transfer_checks.specs.declared.violation_sets.Violations.{Violations}
 use Rattle.transfer_checks.specs.ViolationSets.{violates}
-use Rattle.transfer_instructions.specs.Instructions.OperationGroups.{is_on_values, is_on_pointers}
-use Rattle.transfer_instructions.specs.Instructions.Steps.{operate}
-use Rattle.transfer_instructions.specs.Instructions.StepViolations.{operation_violations}
+use Rattle.transfer_system.specs.OperationGroups.{is_on_values, is_on_pointers}
+use Rattle.transfer_system.specs.Steps.{operate}
+use Rattle.transfer_system.specs.StepViolations.{operation_violations}
 use Rattle.memory_model.specs.Memory.Instances.{Memory, bytes_at}
 use Rattle.memory_model.specs.Effects.Worlds.{World, Reply, goes, world_of}
 use Rattle.lower_templates.specs.Worklist.Acts.{act}

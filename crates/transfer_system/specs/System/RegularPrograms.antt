@@ -20,7 +20,7 @@ use Rattle.cfg.specs.declared.flow_edges.Side.TheVariants as side
 use Rattle.cfg.specs.declared.flow_edges.Test.{Test}
 use Rattle.cfg.specs.declared.machine_instructions.Operation.{Operation}
 use Rattle.cfg.specs.declared.machine_instructions.Operation.TheVariants as op
-use Rattle.store_structs.specs.LaidApart.{are_laid_apart}
+use Rattle.transfer_instructions.specs.LaidApart.{are_laid_apart}
 use Rattle.transfer_system.specs.BoundedRows.NearLists.{is_near_number}
 
 -- ---- programs

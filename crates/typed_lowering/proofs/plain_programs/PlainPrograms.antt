@@ -36,8 +36,8 @@ use Rattle.typed_programs.specs.PlainUnits.PlainUnits.{no_label, is_plain_functi
 use Rattle.typed_programs.specs.PlainWorklists.LeadingPieces.{is_plain_act}
 use Rattle.typed_programs.specs.PlainTemplates.LeadingTemplates.{TemplatesLeadOn}
 use Rattle.transfer_system.specs.System.FlowMachines.{is_head_at}
-use Rattle.transfer_exact.specs.Values.SingleLaws.{IsPlainFunction}
-use Rattle.run_exact.specs.Runs.SingleRuns.{IsPlainOperation}
+use Rattle.typed_programs.specs.SingleLaws.{IsPlainFunction}
+use Rattle.typed_programs.specs.SingleRuns.{IsPlainOperation}
 use Rattle.diagnose.specs.Diagnostics.AdmittedRules.{instructions_in}
 use Rattle.simulation_units.specs.Preconditions.RegularFunctions.{RegularFunctionsSuit}
 use Rattle.simulation_units.specs.Units.UnitRuns.{IsProgramOf}

@@ -20,8 +20,8 @@ use Rattle.typed_lowering.proofs.plain_programs.SmallLeaves.{alone_leaves}
 use Rattle.lower_tables.specs.Counts.SettledTemplates.{settled}
 use Rattle.typed_programs.specs.Types.TypedStates.{Temporaries}
 use Rattle.typed_programs.specs.Types.TypedPrograms as program
-use Rattle.transfer_exact.specs.Values.SingleLaws.{IsPlainFunction}
-use Rattle.run_exact.specs.Runs.SingleRuns.{IsPlainOperation}
+use Rattle.typed_programs.specs.SingleLaws.{IsPlainFunction}
+use Rattle.typed_programs.specs.SingleRuns.{IsPlainOperation}
 use Rattle.c_layout.specs.CheckedTrees.{statement_trees}
 use Rattle.c_layout.specs.CheckedUnits.{FunctionView, UnitView}
 use Rattle.c_layout.specs.Layout.{size_of_type}
@@ -55,7 +55,7 @@ use Rattle.simulation_layout.specs.Copies.LowTemporaries.{IsActLow}
 use Rattle.simulation_layout.specs.Temporaries.LowPrograms.{WellFormedProgramsAreLow}
 use Rattle.simulation_layout.specs.Normalized.SettledRuns.{LabelsStandOnce}
 use Rattle.simulation_units.specs.Units.UnitRuns.{IsProgramOf}
-use Rattle.run_exact.specs.Runs.SingleRuns.{HasTypedAccesses}
+use Rattle.typed_programs.specs.SingleRuns.{HasTypedAccesses}
 use Rattle.store_sound.proofs.store.Slices.{get_there}
 use Rattle.typed_programs.specs.Types.StandingTypes.{AreLaidOut}
 use Rattle.typed_programs.specs.Types.TypedPrograms.{structs_of, IsObjectOf, first_types, IsTypedOperation, IsTypedProgram}

@@ -9,8 +9,8 @@ use Rattle.cfg.specs.declared.programs.Flow.{Flow}
 use Rattle.typed_programs.specs.PlainUnits.PlainUnits.{is_plain_unit}
 use Rattle.transfer_system.specs.System.FlowMachines.{is_head_at}
 use Rattle.transfer_sound.specs.Induction.SoundEnds.{IsDoneIn}
-use Rattle.transfer_exact.specs.Values.SingleRows.{IsPlainProgram}
-use Rattle.run_exact.specs.Runs.SingleRuns.{IsPlainOperation}
+use Rattle.typed_programs.specs.SingleRows.{IsPlainProgram}
+use Rattle.typed_programs.specs.SingleRuns.{IsPlainOperation}
 use Rattle.simulation_units.specs.Units.UnitRuns.{IsProgramOf}
 
 pub record IsPlainFlow (flow : Flow) : Type 0 where

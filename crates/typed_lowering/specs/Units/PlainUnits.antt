@@ -4,7 +4,7 @@ use Rattle.c_layout.specs.CheckedUnits.{UnitView}
 use Rattle.cfg.specs.declared.programs.Flow.{Flow}
 use Rattle.typed_programs.specs.PlainUnits.PlainUnits.{is_plain_unit}
 use Rattle.typed_lowering.specs.Conversions.TypedUnits.{is_typed_unit}
-use Rattle.run_exact.specs.Runs.SingleRuns.{HasTypedAccesses}
+use Rattle.typed_programs.specs.SingleRuns.{HasTypedAccesses}
 
 -- a unit whose entry has no parameters, in whose reached functions are no loops, no jumps back and no calls of the
 -- library but of exit, abort, putchar and the functions of <ctype.h>, and whose arrays have at most 64 elements; and in whose

@@ -10,8 +10,8 @@ use Rattle.typed_lowering.specs.Conversions.TypedUnits.{is_typed_unit}
 use Rattle.typed_programs.specs.Types.StandingTypes.{AreLaidOut}
 use Rattle.typed_programs.specs.Types.TypedPrograms.{structs_of}
 use Rattle.transfer_sound.specs.Induction.SoundEnds.{IsDoneIn}
-use Rattle.transfer_exact.specs.Values.SingleRows.{IsPlainProgram}
-use Rattle.run_exact.specs.Runs.SingleRuns.{IsPlainOperation, HasTypedAccesses}
+use Rattle.typed_programs.specs.SingleRows.{IsPlainProgram}
+use Rattle.typed_programs.specs.SingleRuns.{IsPlainOperation, HasTypedAccesses}
 use Rattle.simulation_units.specs.Units.UnitRuns.{IsProgramOf}
 
 abbrev pub TypedUnitsHaveTypedAccesses : Type 0

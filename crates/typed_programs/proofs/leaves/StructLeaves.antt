@@ -11,7 +11,7 @@ use Rattle.c_layout.specs.Types.{Ty, Struct}
 use Rattle.typed_programs.specs.PlainUnits.ShortArrays.{has_short_arrays}
 use Rattle.store_sound.specs.Concretization.Places.{OwnedByLeaf}
 use Rattle.store_monotone.proofs.tags.TypeTags.{some_bytes}
-use Rattle.transfer_exact.specs.Spelling.TypedCopies.{IsSameLeaf, HasOwnLeaf, HasStructLeaf}
+use Rattle.run_exact.specs.TypedCopies.{IsSameLeaf, HasOwnLeaf, HasStructLeaf}
 use Rattle.typed_programs.specs.Types.TypeBytes.{ScalarByte, own_struct, member_bytes, bytes_with, struct_bytes, scalar_byte, struct_byte}
 use Rattle.typed_programs.specs.Types.StandingTypes.{AreLaidOut, Stands}
 use Rattle.typed_programs.specs.Types.LeafTypes.{IsLeafOf, HasScalar}

@@ -20,8 +20,8 @@ use Rattle.memory_model.specs.Memory.Scalars.{Scalar, pointer}
 use Rattle.memory_model.specs.Effects.Accesses.{class_in}
 use Rattle.semantics.specs.CfgMachine.FlowStates.{Standing}
 use Rattle.store_sound.specs.Store.Scalars.{signed_in}
-use Rattle.transfer_exact.specs.Store.TypedAccesses.{IsAtLeaf, PointsToKind}
-use Rattle.transfer_exact.specs.Spelling.TypedCopies.{PointsToStruct, AreOneOrApart}
+use Rattle.run_exact.specs.TypedAccesses.{IsAtLeaf, PointsToKind}
+use Rattle.run_exact.specs.TypedCopies.{PointsToStruct, AreOneOrApart}
 use Rattle.run_exact.specs.Runs.SingleRuns.{IsTypedStep}
 use Rattle.typed_programs.specs.Types.TypeBytes.{scalar_byte}
 use Rattle.typed_programs.specs.Types.StandingTypes.{AreLaidOut, Stands}

@@ -21,7 +21,7 @@ use Rattle.semantics.specs.CfgMachine.FlowStates.{Standing, FlowRun, running, st
 use Rattle.semantics.specs.CfgMachine.FlowEdges.{edge_taken, edges_of, at_block, along, on_way}
 use Rattle.semantics.specs.CfgMachine.FlowStarts.{begun_by, flow_begin}
 use Rattle.semantics.specs.CfgMachine.FlowSteps.{block_of, on_edge, switching, begun, act_step, run_by, instruction_step, flow_step, flow_steps}
-use Rattle.transfer_sound.proofs.induction.Blocks.{is_at, goes_or_ends}
+use Rattle.run_exact.proofs.Blocks.{is_at, goes_or_ends}
 use Rattle.source_preservation.specs.Memory.GoingWorlds.{WhenGoing}
 use Rattle.source_preservation.proofs.memory.Replies.{when_more, when_behind, when_number}
 use Rattle.typed_programs.specs.Types.TypedStates.{Temporaries, IsTypedMemory, IsTyped}

@@ -4,7 +4,7 @@ use Rattle.c_layout.specs.StructViews.{StructView}
 use Rattle.c_layout.specs.Types.{Ty, Struct}
 use Rattle.c_layout.specs.declared.shapes.BaseInfo.{BaseInfo}
 use Rattle.cfg.specs.declared.programs.Flow.{Flow}
-use Rattle.transfer_exact.specs.Spelling.TypedCopies.{IsAtStruct}
+use Rattle.run_exact.specs.TypedCopies.{IsAtStruct}
 use Rattle.typed_programs.specs.Types.StandingTypes.{AreLaidOut, Stands}
 use Rattle.typed_programs.specs.Types.TypedPrograms.{structs_of, IsObjectOf}
 

@@ -36,22 +36,22 @@ use Rattle.transfer_system.specs.BoundedRows.OwnRows.{program_bases}
 use Rattle.transfer_system.specs.System.FlowLaws.{flow-laws}
 use Rattle.transfer_system.specs.System.FlowMachines.{start_of}
 use Rattle.transfer_system.specs.System.RegularPrograms.{has_scalars, has_initial_bytes, has_apart_members, is_near_list, is_regular}
-use Rattle.system_monotone.proofs.systems.WellFormed.{laid_out, all_named}
-use Rattle.system_monotone.proofs.systems.RegularPrograms.{Regular, regular_of}
-use Rattle.system_monotone.proofs.systems.RegularSystems.{regular_rising}
+use Rattle.analysis_determined.proofs.WellFormed.{laid_out, all_named}
+use Rattle.analysis_determined.proofs.RegularPrograms.{Regular, regular_of}
+use Rattle.analysis_determined.proofs.RegularSystems.{regular_rising}
 use Rattle.row_bounds.proofs.edges.OwnEdges.{fit_nothing, leaves_own}
 use Rattle.struct_copies_sound.specs.Structs.StructTables.{HasStructs}
 use Rattle.struct_copies_sound.proofs.ordered_structs.OrderedStructs.{has_structs}
 use Rattle.transfer_sound.specs.Values.SoundSteps.{StandsBehind}
-use Rattle.analysis_sound.specs.Programs.OpenSteps.{TestIsProved, CaseIsProved, KindIsProved}
-use Rattle.analysis_sound.proofs.programs.AllSteps.{tests_sound}
-use Rattle.analysis_sound.specs.Analyses.SoundAnalyses.{Suffices}
-use Rattle.analysis_sound.proofs.analyses.SoundAnalyses.{standard_held, steps, ends, typed_runs, covered}
-use Rattle.analysis_sound.proofs.analyses.FoundRuns.{suffices, finds_each_pair}
-use Rattle.analysis_sound.proofs.analyses.ScalarTests.{kinds_proved}
+use Rattle.run_exact.specs.OpenSteps.{TestIsProved, CaseIsProved, KindIsProved}
+use Rattle.run_exact.proofs.AllSteps.{tests_sound}
+use Rattle.run_exact.specs.SoundAnalyses.{Suffices}
+use Rattle.run_exact.proofs.SoundAnalyses.{standard_held, steps, ends, typed_runs, covered}
+use Rattle.run_exact.proofs.FoundRuns.{suffices, finds_each_pair}
+use Rattle.run_exact.proofs.ScalarTests.{kinds_proved}
 use Rattle.transfer_sound.specs.InvariantMaps.CarriedMaps.{EntryStands}
-use Rattle.analysis.specs.Analyses.{IsAnalysis}
-use Rattle.analysis.specs.CheckedPrograms.{IsChecked}
+use Rattle.analysis_determined.specs.Analyses.{IsAnalysis}
+use Rattle.analysis_determined.specs.CheckedPrograms.{IsChecked}
 use Rattle.entry_sound.specs.Tables.UnitStarts.{StartsAs}
 use Rattle.entry_sound.proofs.tables.Beginnings.{runs_begin}
 use Rattle.entry_sound.proofs.entries.EntryRows.{entry_stands}

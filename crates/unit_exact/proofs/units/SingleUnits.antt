@@ -18,7 +18,7 @@ use Rattle.semantics.specs.SourceMachine.SourceRuns as source
 use Rattle.semantics.specs.SourceMachine.SourceRuns.{Run}
 use Rattle.simulation_units.specs.Units.UnitRuns.{IsProgramOf, Agree}
 use Rattle.simulation_units.specs.CheckedUnits.LookedRuns.{PassesLooks, LookedUnitsAreNeverStuck, LookedRunsAreProgramRuns}
-use Rattle.analysis.specs.Analyses.{IsAnalysis}
+use Rattle.analysis_determined.specs.Analyses.{IsAnalysis}
 use Rattle.run_exact.specs.Runs.SingleRuns.{IsNeverStuckAlone, IsSingleProgram, IsViolatedAlone}
 use Rattle.run_exact.proofs.runs.SingleRuns.{run_of}
 use Rattle.unit_exact.specs.Switches.UnitSwitches.{UnitSwitchesAreApart}

@@ -26,7 +26,7 @@ use Rattle.transfer_edges.specs.Edges.{has_label}
 use Rattle.transfer_system.specs.System.FlowMachines.{head_in, is_head_at}
 use Rattle.transfer_sound.specs.Induction.SoundEnds.{IsDoneIn}
 use Rattle.diagnose.specs.Diagnostics.AdmittedRules.{instructions_of}
-use Rattle.analysis_sound.proofs.units.TurnedSound.{found_same}
+use Rattle.run_exact.proofs.TurnedSound.{found_same}
 use Rattle.run_exact.specs.Runs.SingleRuns.{IsPlainOperation, IsTypedStep, SwitchesAreApart, HasTypedAccesses, EntersNoHead, IsSingleProgram, IsSingleRun, IsNeverStuckAlone}
 use Rattle.loop_unrolling.specs.Turns.{copies, last_copy, number_in, split}
 use Rattle.analysis_determined.specs.UnrolledRuns.SameRuns.{in_copy, IsCopied, SameRun}

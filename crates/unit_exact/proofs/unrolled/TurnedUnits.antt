@@ -13,12 +13,12 @@ use Rattle.loop_unrolling.specs.Turns.{split}
 use Rattle.simulation_units.specs.Termination.EndedRuns.{UnitsWithoutLoopsEnd}
 use Rattle.simulation_units.specs.CheckedUnits.LookedRuns.{LookedUnitsAreNeverStuck, LookedRunsAreProgramRuns}
 use Rattle.entry_sound.proofs.checked.CheckedStarts.{unit_starts}
-use Rattle.analysis_sound.proofs.units.CheckedUnits.{analysed_structs, same_structs}
-use Rattle.analysis_sound.proofs.units.TurnedSound.{starts_same}
+use Rattle.run_exact.proofs.CheckedUnits.{analysed_structs, same_structs}
+use Rattle.run_exact.proofs.TurnedSound.{starts_same}
 use Rattle.run_exact.proofs.runs.SingleRuns.{run_of}
 use Rattle.unit_exact.specs.Switches.UnitSwitches.{UnitSwitchesAreApart}
 use Rattle.unit_exact.proofs.analyses.SingleAnalyses.{finds_run}
-use Rattle.analysis.specs.Analyses.{IsAnalysis}
+use Rattle.analysis_determined.specs.Analyses.{IsAnalysis}
 use Rattle.entry_sound.specs.Checked.CheckedStarts.{IsUnitOf}
 use Rattle.run_exact.specs.Runs.SingleRuns.{SwitchesAreApart, IsNeverStuckAlone, IsSingleRun, IsViolatedAlone}
 use Rattle.unit_exact.proofs.units.SingleUnits.{by_ended_run, by_unit_run}

@@ -17,7 +17,7 @@ use Rattle.simulation_units.specs.Termination.EndedRuns.{HasStopped}
 use Rattle.loop_unrolling.specs.Turns.{last_copy, split}
 use Rattle.transfer_sound.specs.Induction.SoundEnds.{IsDoneIn}
 use Rattle.transfer_exact.specs.Values.SingleRows.{IsPlainProgram}
-use Rattle.analysis.specs.Analyses.{IsAnalysis}
+use Rattle.analysis_determined.specs.Analyses.{IsAnalysis}
 use Rattle.entry_sound.specs.Checked.CheckedStarts.{IsUnitOf}
 use Rattle.run_exact.specs.Runs.SingleRuns.{IsPlainOperation, HasTypedAccesses}
 use Rattle.unit_exact.specs.Units.SingleUnits.{RunViolates}

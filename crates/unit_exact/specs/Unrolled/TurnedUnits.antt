@@ -7,7 +7,7 @@ use Rattle.cfg.specs.WellFormed.{is_well_formed}
 use Rattle.cfg.specs.declared.programs.Flow.{Flow}
 use Rattle.lower_templates.specs.Views.ProgramViews.{flow_view}
 use Rattle.loop_unrolling.specs.Turns.{split}
-use Rattle.analysis.specs.Analyses.{IsAnalysis}
+use Rattle.analysis_determined.specs.Analyses.{IsAnalysis}
 use Rattle.run_exact.specs.Runs.SingleRuns.{IsSingleProgram}
 use Rattle.unit_exact.specs.Units.SingleUnits.{FindsJustUnitRuns}
 

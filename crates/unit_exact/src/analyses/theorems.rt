@@ -3,7 +3,7 @@
 ghost use Rattle.std.specs.Prelude.{ℤ, List};
 ghost use Rattle.cc_base.specs.declared.diagnostics.Diag.{Diag};
 ghost use Rattle.cfg.specs.declared.programs.Flow.{Flow};
-ghost use Rattle.analysis.specs.Analyses.{IsAnalysis};
+ghost use Rattle.analysis_determined.specs.Analyses.{IsAnalysis};
 ghost use Rattle.unit_exact.specs.Analyses.SingleAnalyses.{FindsJustRuns, FindsJustRunsOfChecked};
 
 /// The pairs that an analysis finds are just those that the run of a unit under no numbers of the outside violates, where the

@@ -7,7 +7,7 @@ use Rattle.c_layout.specs.CheckedUnits.{LocalView, FunctionView, UnitView}
 use Rattle.c_layout.specs.Models.{lp64}
 use Rattle.c_layout.specs.Types.{Ty, Int, Array}
 use Rattle.c_layout.specs.declared.library_functions.LibFn.TheVariants.{Putchar, Malloc}
-use Rattle.typed_programs.specs.PlainUnits.PlainUnits.{is_plain_unit}
+use Rattle.typed_lowering.specs.PlainUnits.{is_plain_unit}
 use Rattle.typed_lowering.specs.LoopedUnits.LoopedUnits.{is_looped_unit}
 use Rattle.typed_lowering.specs.Conversions.TypedUnits.{is_typed_unit}
 

@@ -21,7 +21,7 @@ use Rattle.semantics.specs.CfgMachine.FlowStates as states
 use Rattle.semantics.specs.CfgMachine.FlowStates.{Standing, FlowRun, running, stopped}
 use Rattle.semantics.specs.CfgMachine.FlowSteps.{flow_steps}
 use Rattle.semantics.specs.CfgMachine.FlowStarts.{flow_begin}
-use Rattle.typed_programs.specs.PlainUnits.PlainUnits.{is_plain_unit}
+use Rattle.typed_lowering.specs.PlainUnits.{is_plain_unit}
 use Rattle.diagnose.specs.Diagnostics.AdmittedRules.{instructions_of}
 use Rattle.memory_model.specs.Memory.Bytes.{MachinePointer, into}
 use Rattle.memory_model.specs.Memory.Scalars.{Scalar, pointer}
@@ -29,8 +29,8 @@ use Rattle.memory_model.specs.Effects.Worlds.{World, Why, Violated, Violation}
 use Rattle.semantics.specs.SourceMachine.SourceRuns as source
 use Rattle.semantics.specs.SourceMachine.SourceRuns.{Run}
 use Rattle.simulation_units.specs.Units.UnitRuns.{Agree}
-use Rattle.transfer_exact.specs.Store.TypedAccesses.{IsAtLeaf, PointsToKind, IsTyped}
-use Rattle.run_exact.specs.Runs.SingleRuns.{IsTypedStep}
+use Rattle.typed_lowering.specs.TypedAccesses.{IsAtLeaf, PointsToKind, IsTyped}
+use Rattle.typed_lowering.specs.SingleRuns.{IsTypedStep}
 use Rattle.unit_exact.proofs.units.EndedRuns.{stays}
 use Rattle.worked_examples.specs.PlainUnit.DividesByStored.{at, int, int_scalar, unit, division, Loads, IsPlainDivision}
 

@@ -12,12 +12,12 @@ use Rattle.cfg.specs.declared.machine_instructions.Scalar.{Scalar}
 use Rattle.cfg.specs.declared.machine_instructions.Scalar.TheVariants as scalar
 use Rattle.cfg.specs.declared.programs.Flow.{Flow}
 use Rattle.memory_model.specs.Memory.Bytes.{null, into}
-use Rattle.typed_programs.specs.Types.TypeBytes.{ScalarByte, scalar_byte, struct_byte}
-use Rattle.typed_programs.specs.Types.StandingTypes.{Stands}
-use Rattle.typed_programs.specs.Types.PointedTypes.{Target, Element, Place, target_type, Known, Zero, Null, Pointing, IsUnder, is_same, is_inner, is_place, is_further, IsLess, IsIn, Points, IsOfKind, number_kind, pointer_kind}
-use Rattle.typed_programs.specs.Types.TypedStates.{Temporaries}
-use Rattle.typed_programs.specs.Types.TypedPrograms.{structs_of, Gives, IsTypedOperation, gives_address, gives_part, loads, to_pointer, Typing, IsTypedProgram}
-use Rattle.typed_programs.proofs.runs.TypedStates.{set_here}
+use Rattle.typed_lowering.specs.TypeBytes.{ScalarByte, scalar_byte, struct_byte}
+use Rattle.typed_lowering.specs.StandingTypes.{Stands}
+use Rattle.typed_lowering.specs.PointedTypes.{Target, Element, Place, target_type, Known, Zero, Null, Pointing, IsUnder, is_same, is_inner, is_place, is_further, IsLess, IsIn, Points, IsOfKind, number_kind, pointer_kind}
+use Rattle.typed_lowering.specs.TypedStates.{Temporaries}
+use Rattle.typed_lowering.specs.TypedPrograms.{structs_of, Gives, IsTypedOperation, gives_address, gives_part, loads, to_pointer, Typing, IsTypedProgram}
+use Rattle.typed_lowering.proofs.TypedStates.{set_here}
 use Rattle.worked_examples.specs.TypedUnit.DividesByPointed.{int}
 use Rattle.worked_examples.specs.TypedUnit.ExcludedPointers.{Misreads}
 

@@ -25,13 +25,13 @@ use Rattle.cfg.specs.declared.programs.Flow.{Flow}
 use Rattle.lower_templates.specs.Views.ProgramViews.{EdgeView, FlowView, flow_view}
 use Rattle.semantics.specs.CfgMachine.FlowEdges.{edges_of}
 use Rattle.semantics.specs.CfgMachine.FlowSteps.{block_of}
-use Rattle.typed_programs.specs.PlainUnits.PlainUnits.{is_plain_unit}
+use Rattle.typed_lowering.specs.PlainUnits.{is_plain_unit}
 use Rattle.diagnose.specs.Diagnostics.AdmittedRules.{instructions_of}
-use Rattle.typed_programs.specs.Types.PointedTypes.{Element, Known, Pointing, is_same, IsLess, number_kind, pointer_kind}
-use Rattle.typed_programs.specs.Types.TypedStates.{Temporaries}
-use Rattle.typed_programs.specs.Types.TypedPrograms.{IsKept, PointsTo, IsTypedOperation, gives_number, gives_address, loads, stores_in, computes, enters, leaves_object, ends_run, IsTypedWay, IsObjectOf, IsTypedProgram}
-use Rattle.typed_programs.proofs.runs.AllLaws.{all_laws}
-use Rattle.typed_programs.proofs.runs.TypedPrograms.{typed_accesses}
+use Rattle.typed_lowering.specs.PointedTypes.{Element, Known, Pointing, is_same, IsLess, number_kind, pointer_kind}
+use Rattle.typed_lowering.specs.TypedStates.{Temporaries}
+use Rattle.typed_lowering.specs.TypedPrograms.{IsKept, PointsTo, IsTypedOperation, gives_number, gives_address, loads, stores_in, computes, enters, leaves_object, ends_run, IsTypedWay, IsObjectOf, IsTypedProgram}
+use Rattle.typed_lowering.proofs.AllLaws.{all_laws}
+use Rattle.typed_lowering.proofs.TypedPrograms.{typed_accesses}
 use Rattle.worked_examples.specs.TypedUnit.DividesByPointed.{at, int, to_int, unit, objects, nothing, temporaries, points, before_each, known_from, known, typing, IsTypedDivision}
 
 none_there : {X : Type 0} (x : X) (n : ℕ) → slice_get [] n ≡ Some x → ⊥

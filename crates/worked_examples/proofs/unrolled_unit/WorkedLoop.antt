@@ -23,7 +23,7 @@ use Rattle.semantics.specs.CfgMachine.FlowStarts.{flow_begin}
 use Rattle.diagnose.specs.Diagnostics.AdmittedRules.{instructions_of}
 use Rattle.memory_model.specs.Effects.Worlds.{Why, Violated, Violation}
 use Rattle.loop_unrolling.specs.Turns.{split}
-use Rattle.run_exact.specs.Runs.SingleRuns.{IsPlainOperation, IsTypedStep}
+use Rattle.typed_lowering.specs.SingleRuns.{IsPlainOperation, IsTypedStep}
 use Rattle.unit_exact.proofs.units.EndedRuns.{stays}
 use Rattle.unit_exact.specs.Unrolled.TurnedLoops.{TakesTurns, IsSingleUpTo}
 use Rattle.worked_examples.specs.UnrolledUnit.WorkedLoops.{at, int, unit, division, IsLoopedOnce}

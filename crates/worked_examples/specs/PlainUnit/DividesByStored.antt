@@ -18,14 +18,14 @@ use Rattle.lower_templates.specs.Views.ProgramViews.{flow_view}
 use Rattle.semantics.specs.CfgMachine.FlowStates.{Standing, running}
 use Rattle.semantics.specs.CfgMachine.FlowSteps.{flow_steps}
 use Rattle.semantics.specs.CfgMachine.FlowStarts.{flow_begin}
-use Rattle.typed_programs.specs.PlainUnits.PlainUnits.{is_plain_unit}
+use Rattle.typed_lowering.specs.PlainUnits.{is_plain_unit}
 use Rattle.diagnose.specs.Diagnostics.AdmittedRules.{instructions_of}
 use Rattle.memory_model.specs.Memory.Bytes.{into}
 use Rattle.memory_model.specs.Memory.Scalars.{pointer}
 use Rattle.memory_model.specs.Effects.Worlds.{Violation}
 use Rattle.semantics.specs.SourceMachine.SourceRuns.{Run, found_in}
 use Rattle.simulation_units.specs.Units.UnitRuns.{Agree}
-use Rattle.run_exact.specs.Runs.SingleRuns.{HasTypedAccesses}
+use Rattle.typed_lowering.specs.SingleRuns.{HasTypedAccesses}
 
 abbrev pub at : ℕ → Place
 at column = record { file = 0; line = 1; col = column }

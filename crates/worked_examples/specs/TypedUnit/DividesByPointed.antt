@@ -16,11 +16,11 @@ use Rattle.semantics.specs.CfgMachine.FlowStates.{found_in}
 use Rattle.semantics.specs.CfgMachine.FlowSteps.{flow_steps}
 use Rattle.semantics.specs.CfgMachine.FlowStarts.{flow_begin}
 use Rattle.memory_model.specs.Effects.Worlds.{Violation}
-use Rattle.run_exact.specs.Runs.SingleRuns.{HasTypedAccesses}
-use Rattle.typed_programs.specs.PlainUnits.PlainUnits.{is_plain_unit}
-use Rattle.typed_programs.specs.Types.PointedTypes.{Element, Known, Pointing}
-use Rattle.typed_programs.specs.Types.TypedStates.{Temporaries}
-use Rattle.typed_programs.specs.Types.TypedPrograms.{Typing, IsTypedProgram}
+use Rattle.typed_lowering.specs.SingleRuns.{HasTypedAccesses}
+use Rattle.typed_lowering.specs.PlainUnits.{is_plain_unit}
+use Rattle.typed_lowering.specs.PointedTypes.{Element, Known, Pointing}
+use Rattle.typed_lowering.specs.TypedStates.{Temporaries}
+use Rattle.typed_lowering.specs.TypedPrograms.{Typing, IsTypedProgram}
 
 abbrev pub at : ℕ → Place
 at column = record { file = 0; line = 1; col = column }

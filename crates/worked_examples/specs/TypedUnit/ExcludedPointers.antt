@@ -10,9 +10,9 @@ use Rattle.cfg.specs.declared.machine_instructions.Scalar.TheVariants as scalar
 use Rattle.cfg.specs.declared.programs.Flow.{Flow}
 use Rattle.diagnose.specs.Diagnostics.AdmittedRules.{instructions_of}
 use Rattle.memory_model.specs.Memory.Bytes.{null, into}
-use Rattle.typed_programs.specs.Types.StandingTypes.{Stands}
-use Rattle.typed_programs.specs.Types.PointedTypes.{Target, Element, target_type, Points}
-use Rattle.typed_programs.specs.Types.TypedPrograms.{Typing, IsTypedProgram}
+use Rattle.typed_lowering.specs.StandingTypes.{Stands}
+use Rattle.typed_lowering.specs.PointedTypes.{Target, Element, target_type, Points}
+use Rattle.typed_lowering.specs.TypedPrograms.{Typing, IsTypedProgram}
 use Rattle.worked_examples.specs.TypedUnit.DividesByPointed.{int}
 
 -- ---- programs

@@ -1,6 +1,6 @@
 use Rattle.std.proofs.Common.{◌≡◌, drop}
 use Rattle.pointer_domain.specs.BaseSets.{no_base}
-use Rattle.store_cells.specs.Walks.{walk}
+use Rattle.store.specs.Walks.{walk}
 use Rattle.transfer_checks.specs.AllocationChecks.{with_heap}
 use Rattle.transfer_checks.proofs.allocation_checks.heap_of.Given as goal
 

@@ -1,5 +1,5 @@
 use Rattle.std.proofs.Common.{◌≡◌, drop}
-use Rattle.store_cells.specs.Walks.{walk}
+use Rattle.store.specs.Walks.{walk}
 use Rattle.transfer_checks.specs.StringScans.{scan_more, nothing_scanned}
 use Rattle.transfer_checks.proofs.string_scans.scan_bases.Given as goal
 

@@ -1,5 +1,5 @@
 use Rattle.std.proofs.Common.{◌≡◌, drop, false}
-use Rattle.store_cells.specs.Walks.{walk}
+use Rattle.store.specs.Walks.{walk}
 use Rattle.transfer_checks.specs.Touches.{is_literal_or}
 use Rattle.transfer_checks.proofs.touches.any_literal.Given as goal
 

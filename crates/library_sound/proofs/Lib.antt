@@ -1,0 +1,14 @@
+pub use Rattle.transfer_sound.proofs.enter.GrownMemory
+pub use Rattle.transfer_sound.proofs.memory.LoadSteps
+pub use Rattle.transfer_sound.proofs.values.Admitted
+pub use Rattle.transfer_sound.proofs.values.NearScalars
+pub use Rattle.transfer_sound.proofs.values.PutTemps
+pub use Rattle.transfer_sound.proofs.values.Replies
+pub use Rattle.transfer_sound.proofs.RegularPrograms
+pub use Rattle.transfer_sound.proofs.RegularStarts
+pub use Rattle.transfer_sound.proofs.clear.Clearing
+pub use Rattle.transfer_sound.proofs.clear.FullParts
+pub use Rattle.transfer_sound.proofs.enter.GrownSanity
+pub use Rattle.transfer_sound.proofs.memory.ScalarClasses
+pub use Rattle.transfer_sound.proofs.objects.BlankRows
+pub use Rattle.transfer_sound.proofs.memory.MachineReplies

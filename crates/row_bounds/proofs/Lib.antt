@@ -1,0 +1,3 @@
+pub use Rattle.system_monotone.proofs.Systems
+pub use Rattle.system_monotone.proofs.systems.RegularPrograms
+pub use Rattle.system_monotone.proofs.ViolationOrder

@@ -1,0 +1,3 @@
+pub use Rattle.row_bounds.proofs.RegularPrograms
+pub use Rattle.row_bounds.proofs.entries.RegularStarts
+pub use Rattle.row_bounds.proofs.ViolationOrder
