@@ -1,4 +1,4 @@
-pub mod SyntacticRules
+pub mod SyntacticPairs
 pub mod ProgramViews
 pub mod UnrolledRuns
 pub mod LeastMaps

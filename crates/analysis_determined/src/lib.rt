@@ -4,6 +4,6 @@
 pub mod analysis_views;
 pub mod least_maps;
 pub mod program_views;
-pub mod syntactic_rules;
+pub mod syntactic_pairs;
 pub mod unrolled_diagnostics;
 pub mod unrolled_runs;

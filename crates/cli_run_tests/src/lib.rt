@@ -2,4 +2,4 @@
 #![tactic(auto)]
 
 pub mod runs;
-pub mod sarif;
+pub mod sarif_reports;

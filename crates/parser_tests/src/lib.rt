@@ -2,4 +2,4 @@
 #![tactic(auto)]
 
 pub mod grammar;
-pub mod syntactic_rules;
+pub mod syntactic_pairs;

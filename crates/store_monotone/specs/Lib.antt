@@ -1,4 +1,4 @@
-pub mod Store
+pub mod Operations
 pub mod Structs
 pub mod Layouts
 pub mod Tags

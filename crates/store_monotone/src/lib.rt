@@ -2,7 +2,7 @@
 #![tactic(auto)]
 
 pub mod layouts;
+pub mod operations;
 pub mod shapes;
-pub mod store;
 pub mod structs;
 pub mod tags;

@@ -1,5 +1,5 @@
 pub mod Concretization
-pub mod Store
+pub mod Operations
 pub mod Programs
 pub mod Chars
 pub mod Regions

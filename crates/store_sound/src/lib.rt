@@ -3,6 +3,6 @@
 
 pub mod chars;
 pub mod concretization;
+pub mod operations;
 pub mod programs;
 pub mod regions;
-pub mod store;

@@ -1,4 +1,4 @@
 pub mod Values
-pub mod Store
+pub mod Accesses
 pub mod Spelling
 pub mod Edges

@@ -14,4 +14,4 @@ pub use Rattle.row_bounds.specs.Entries.CutStarts
 pub use Rattle.transfer_system.specs.CallSteps
 pub use Rattle.transfer_system.specs.StepViolations
 pub use Rattle.transfer_system.specs.Steps
-pub use Rattle.store_monotone.specs.Store.StoreLaws
+pub use Rattle.store_monotone.specs.Operations.StoreLaws

@@ -16,8 +16,8 @@ use Rattle.analysis_preconditions.specs.Objects.SpelledTexts.{behind_characters,
 use Rattle.memory_model.specs.Memory.Bytes.{Tag}
 use Rattle.memory_model.specs.Memory.ScalarSizes.{class_bytes}
 use Rattle.memory_model.specs.Memory.Tags.{tag_of, distance_tag, leaf_tag, or_tag, tag_at}
-use Rattle.store_sound.proofs.store.Classes.{same_class_is}
-use Rattle.store_sound.proofs.store.TagPlaces.{leaf_owns}
+use Rattle.store_sound.proofs.operations.Classes.{same_class_is}
+use Rattle.store_sound.proofs.operations.TagPlaces.{leaf_owns}
 use Rattle.store_sound.proofs.programs.Leaves.{one_owner}
 use Rattle.store_sound.proofs.programs.Sizes.{same_bytes}
 

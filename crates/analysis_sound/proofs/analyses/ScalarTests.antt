@@ -26,8 +26,8 @@ use Rattle.memory_model.specs.Memory.ScalarSizes.{class_bytes, same_class, is_po
 use Rattle.memory_model.specs.Effects.Accesses.{class_in}
 use Rattle.memory_model.specs.Effects.Tests.{scalar_size}
 use Rattle.transfer_edges.specs.Refinements.{named_by}
-use Rattle.store_sound.specs.Store.Scalars.{signed_in}
-use Rattle.store_sound.proofs.store.Classes.{same_class_is}
+use Rattle.store_sound.specs.Operations.Scalars.{signed_in}
+use Rattle.store_sound.proofs.operations.Classes.{same_class_is}
 use Rattle.store_sound.proofs.programs.ShapedBases.{all_at}
 use Rattle.transfer_sound.specs.Tests.ScalarObjects.{IsScalarObject, NamesScalar, IsCaseObject, IsIntegerTest, IsPointerTest, IsNullTest}
 use Rattle.analysis_sound.specs.Programs.OpenSteps.{TestIsProved, CaseIsProved, KindIsProved}

@@ -11,7 +11,7 @@ use Rattle.cfg.specs.WellFormed.{is_well_formed}
 use Rattle.cfg.specs.declared.machine_instructions.Operation.TheVariants as op
 use Rattle.cfg.specs.declared.programs.Flow.{Flow}
 use Rattle.analysis_preconditions.specs.Objects.SpelledTexts.{reaches_over, is_size_of, is_followed, has_followed, has_characters, takes_text, spells_characters, spells_over_characters}
-use Rattle.store_monotone.specs.Store.StoreLaws.{AreBytes}
+use Rattle.store_monotone.specs.Operations.StoreLaws.{AreBytes}
 use Rattle.store_sound.specs.Programs.Premises.{HasPremises}
 use Rattle.store_sound.proofs.programs.ShapedBases.{all_at}
 use Rattle.store_sound.proofs.programs.WellFormedPremises.{well_formed_good}

@@ -22,8 +22,8 @@ use Rattle.interval_domain.proofs.intervals.Ranges.{range_facts, tight}
 use Rattle.domain_theorems.specs.Intervals.Kit.{of_type, in_type_between}
 use Rattle.domain_theorems.proofs.intervals.BestResults.{own_result, quotient_comes}
 use Rattle.memory_model.specs.Effects.ScalarBytes.{bits_in}
-use Rattle.store_sound.proofs.store.Fresh.{wrap_bits}
-use Rattle.store_sound.proofs.store.Rereading.{wrapped_signed, wrapped_unsigned, halves}
+use Rattle.store_sound.proofs.operations.Fresh.{wrap_bits}
+use Rattle.store_sound.proofs.operations.Rereading.{wrapped_signed, wrapped_unsigned, halves}
 use Rattle.source_preservation.specs.Checks.LookedTerms.{result}
 use Rattle.source_preservation.proofs.checks.DecidedTests.{number_is}
 use Rattle.source_preservation.proofs.checks.Truths.{never, there, some_is, no_some, if_true}

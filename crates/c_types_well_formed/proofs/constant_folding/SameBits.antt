@@ -11,7 +11,7 @@ use Rattle.cc_base.specs.IntegerTypes.{is_size, wrap_into}
 use Rattle.cc_base.specs.declared.int_types.IntType.{IntType}
 use Rattle.interval_domain.specs.Intervals.IntervalNumbers.{by_size}
 use Rattle.memory_model.specs.Effects.ScalarBytes.{bits_in}
-use Rattle.store_sound.proofs.store.Fresh.{wrap_bits}
+use Rattle.store_sound.proofs.operations.Fresh.{wrap_bits}
 
 pub same_wrapped : (k : IntType) (x y : ℤ) → bits_in k.bytes x ≡ bits_in k.bytes y → wrap_into k x ≡ wrap_into k y
 same_wrapped k x y e = wrap_bits k x ∙ (ap (λ n. wrap_into k (pos n)) e ∙ sym (wrap_bits k y))

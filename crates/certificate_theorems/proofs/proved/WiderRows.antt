@@ -19,8 +19,8 @@ use Rattle.value_domain.specs.declared.values.row_cells.Cell.{Cell}
 use Rattle.value_domain.specs.declared.values.row_cells.Cell.TheVariants.{Nothing, Value, First, State, Mixed}
 use Rattle.domain_theorems.specs.Values.Consistency.{AreWords}
 use Rattle.domain_theorems.proofs.values.Parts.{pointer_parts, value_parts}
-use Rattle.store_monotone.specs.Store.TopCells.{top_number, top_value}
-use Rattle.store_monotone.proofs.store.FirstZeros.{zero_near}
+use Rattle.store_monotone.specs.Operations.TopCells.{top_number, top_value}
+use Rattle.store_monotone.proofs.operations.FirstZeros.{zero_near}
 use Rattle.transfer_system.specs.declared.bounded_rows.cell_kinds.CellKind.{CellKind}
 use Rattle.transfer_system.specs.declared.bounded_rows.cell_kinds.CellKind.TheVariants as kind
 use Rattle.transfer_system.specs.declared.bounded_rows.own_cells.Reach.{Reach}

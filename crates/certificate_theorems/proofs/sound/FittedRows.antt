@@ -14,7 +14,7 @@ use Rattle.value_domain.specs.declared.values.row_cells.Cell.{Cell}
 use Rattle.store_objects.specs.LiveBases.{most_bases, only_base}
 use Rattle.store_cells.specs.NearValues.{near_number, near_value}
 use Rattle.store_cells.specs.RowPositions.{cell_at, value_in, zero_in, state_in, near_state, value_at, zero_at, state_at}
-use Rattle.store_monotone.proofs.store.OwnValues.{each_get}
+use Rattle.store_monotone.proofs.operations.OwnValues.{each_get}
 use Rattle.transfer_checks.specs.Temporaries.{temp_position}
 use Rattle.transfer_monotone.specs.Values.LaidOut.{IsLaidOut}
 use Rattle.transfer_monotone.proofs.values.TempPlaces.{at_past}

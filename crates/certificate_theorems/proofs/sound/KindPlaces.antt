@@ -6,7 +6,7 @@ use Rattle.c_layout.specs.declared.shapes.BaseInfo.{BaseInfo}
 use Rattle.cfg.specs.BaseShapes.{is_extent}
 use Rattle.cfg.specs.WellFormed.{are_placed, base_cells, base_values, all_values}
 use Rattle.store_cells.specs.RowPositions.{leaf_position, class_position, zero_position, state_position}
-use Rattle.store_monotone.specs.Store.Placements.{EachFrom}
+use Rattle.store_monotone.specs.Operations.Placements.{EachFrom}
 use Rattle.transfer_system.specs.declared.bounded_rows.cell_kinds.CellKind.{CellKind}
 use Rattle.transfer_system.specs.declared.bounded_rows.cell_kinds.CellKind.TheVariants as kind
 use Rattle.transfer_system.specs.BoundedRows.CellKinds.{before, state_before, values_of, run_before, all_kinds, first_kind, kinds_behind}

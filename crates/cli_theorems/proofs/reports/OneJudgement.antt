@@ -7,7 +7,7 @@ use Rattle.c_layout.specs.CheckedUnits.{unit_view}
 use Rattle.c_layout.specs.declared.unit_tokens.Unit7.{Unit7}
 use Rattle.c_layout.specs.declared.checked_tree.checked_units.Checked.{Checked}
 use Rattle.syntactic_rules.specs.StatementPlaces.{unit_places}
-use Rattle.analysis_determined.proofs.syntactic_rules.SameUnits.{same_places}
+use Rattle.analysis_determined.proofs.syntactic_pairs.SameUnits.{same_places}
 use Rattle.cfg.specs.declared.programs.Flow.{Flow}
 use Rattle.lower_templates.specs.Views.ProgramViews.{FlowView, flow_view}
 use Rattle.analysis_determined.proofs.program_views.SameNumbers.{one_list_of_views}

@@ -23,9 +23,9 @@ use Rattle.store_cells.specs.RowPositions.{leaf_position, zero_position, cell_at
 use Rattle.store.specs.Spelling.{one_character, characters, spell_cell, spell_leaf_at, spell_leaf, spell_leaves, first_zero_of, spell_part, spell_zero, spell_object, written_count}
 use Rattle.store.specs.Stores.{store_leaf_at, store_leaf, store_leaves, store_class_cell, store_other_leaf_at, store_other_leaf, store_other_leaves, store_other_class, store_other_classes, store_other_bytes, store_own, store_character, store_wider, store_base, store_if, store_to, store_all}
 use Rattle.store_cells.specs.Walks.{walk, turns}
-use Rattle.store_sound.proofs.store.Only.{cell_put}
-use Rattle.store_sound.proofs.store.Slices.{get_set_other}
-use Rattle.store_sound.proofs.store.StoreValues.{same_value, same_zero}
+use Rattle.store_sound.proofs.operations.Only.{cell_put}
+use Rattle.store_sound.proofs.operations.Slices.{get_set_other}
+use Rattle.store_sound.proofs.operations.StoreValues.{same_value, same_zero}
 
 set_far : {X : Type 0} (xs : List X) (k : ℕ) (x : X) → length xs ≤ k → set xs k x ≡ xs
 set_far [] k x h = refl

@@ -17,9 +17,9 @@ use Rattle.store_cells.specs.FirstZeroWrites.{zero_first, set_part, set_zeros}
 use Rattle.store_objects.specs.ObjectLives.{zero_value, clear_leaf, clear_leaves, clear_object}
 use Rattle.store_cells.specs.RowPositions.{leaf_position, zero_position, cell_at}
 use Rattle.store_cells.specs.Walks.{walk, turns}
-use Rattle.store_sound.proofs.store.Only.{Only, only_put, only_walk, only_then, cell_put}
-use Rattle.store_sound.proofs.store.Slices.{get_set_other}
-use Rattle.store_sound.proofs.store.StoreRows.{Fits, leaf_is, zero_is}
+use Rattle.store_sound.proofs.operations.Only.{Only, only_put, only_walk, only_then, cell_put}
+use Rattle.store_sound.proofs.operations.Slices.{get_set_other}
+use Rattle.store_sound.proofs.operations.StoreRows.{Fits, leaf_is, zero_is}
 
 module _ {I : Type 0} where
   -- rows of one length with the same cells from one position to below another

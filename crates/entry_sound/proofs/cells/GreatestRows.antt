@@ -21,8 +21,8 @@ use Rattle.store_cells.specs.ClassNumbers.{class_at}
 use Rattle.store_cells.specs.NearValues.{near_number, near_value}
 use Rattle.store_cells.specs.RowPositions.{leaf_position, class_position, zero_position, state_position, cell_at, value_in, value_at, zero_in, zero_at, state_in, state_at}
 use Rattle.store_cells.specs.ScalarTypes.{kind_of}
-use Rattle.store_monotone.specs.Store.TopCells.{top_number, top_value, top_zero, top_state}
-use Rattle.store_monotone.proofs.store.NearCells.{near_value_is}
+use Rattle.store_monotone.specs.Operations.TopCells.{top_number, top_value, top_zero, top_state}
+use Rattle.store_monotone.proofs.operations.NearCells.{near_value_is}
 use Rattle.memory_model.specs.Memory.Labels.{Labels}
 use Rattle.memory_model.specs.Memory.Bytes.{MachinePointer, null, into, Content, indeterminate, number, part, Byte}
 use Rattle.memory_model.specs.Memory.Instances.{Memory, Life, live, ended, freed, byte_at, bytes_at, life_at}
@@ -33,10 +33,10 @@ use Rattle.store_sound.specs.Concretization.SeenLabels.{as_set}
 use Rattle.store_sound.specs.Concretization.SoundMemory.{IsWithin, IsPointerIn, IsNamed, IsContentIn, IsContentNamed, IsMemoryOf, AreEntered}
 use Rattle.store_sound.specs.Concretization.ValueMeaning.{Naming, StandsInto, StandsByLife, StandsPointer, StandsContent, StandsState}
 use Rattle.store_sound.specs.Concretization.RowMeaning.{StandsCell, StandsFor, array_of, array_bytes}
-use Rattle.store_sound.proofs.store.Classes.{class_size}
-use Rattle.store_sound.proofs.store.FreshValues.{type_near}
-use Rattle.store_sound.proofs.store.Near.{near_number_from}
-use Rattle.store_sound.proofs.store.StoreZeros.{between_stands, any_stands}
+use Rattle.store_sound.proofs.operations.Classes.{class_size}
+use Rattle.store_sound.proofs.operations.FreshValues.{type_near}
+use Rattle.store_sound.proofs.operations.Near.{near_number_from}
+use Rattle.store_sound.proofs.operations.StoreZeros.{between_stands, any_stands}
 use Rattle.store_sound.proofs.chars.ByteValues.{number_within}
 use Rattle.entry_sound.specs.Cells.Greatest.{IsGreatest}
 

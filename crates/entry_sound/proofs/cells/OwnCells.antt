@@ -31,9 +31,9 @@ use Rattle.store.specs.Spelling.{one_character, characters, spell_cell, spell_le
 use Rattle.store.specs.Stores.{store_other_leaf_at, store_other_leaf, store_other_leaves, store_other_classes, store_other_bytes, store_own, store_character, store_wider, store_base, store_if, store_to, store_all, write_to, can_store, store_access, reached_of, store_within, store}
 use Rattle.store_cells.specs.Walks.{walk}
 use Rattle.transfer_system.specs.StartRows.{static_class, store_static, start_store, store_at}
-use Rattle.store_sound.proofs.store.Classes.{class_small}
-use Rattle.store_sound.proofs.store.Only.{Only, only_more, only_same, only_put, only_cond, only_if, only_then, only_walk}
-use Rattle.store_sound.proofs.store.StoreRows.{Fits, join_only, own_only, wider_only}
+use Rattle.store_sound.proofs.operations.Classes.{class_small}
+use Rattle.store_sound.proofs.operations.Only.{Only, only_more, only_same, only_put, only_cond, only_if, only_then, only_walk}
+use Rattle.store_sound.proofs.operations.StoreRows.{Fits, join_only, own_only, wider_only}
 use Rattle.store_sound.specs.Regions.RegionWrites.{WritesWithin}
 use Rattle.store_sound.proofs.regions.Layers.{leaves_within, zeros_within, layers_within}
 use Rattle.entry_sound.proofs.cells.ReachedBases.{only_reached}

@@ -13,7 +13,7 @@ use Rattle.value_domain.specs.declared.values.row_cells.Cell.{Cell}
 use Rattle.store_objects.specs.LiveBases.{most_bases, only_base, has_base, with_base_if, may_be_live, is_live_in, add_live, live_of, is_writable_in, writable_of}
 use Rattle.store.specs.Stores.{reached_of}
 use Rattle.store_cells.specs.Walks.{walk}
-use Rattle.store_sound.proofs.store.Sets.{none_has, only_is}
+use Rattle.store_sound.proofs.operations.Sets.{none_has, only_is}
 
 or_cases : (a b : Bool) → (a || b) ≡ true → (a ≡ true) ⊎ (b ≡ true)
 or_cases true b h = inl refl

@@ -34,13 +34,13 @@ use Rattle.memory_model.specs.Effects.UnitStarts.{base_instance, value_bytes}
 use Rattle.semantics.specs.CfgMachine.FlowStates.{Standing}
 use Rattle.store_sound.specs.Concretization.SoundMemory.{IsMemoryOf, IsScalarIn}
 use Rattle.store_sound.specs.Concretization.ValueMeaning.{Naming, StandsByLife, StandsPointer, StandsScalar}
-use Rattle.store_sound.specs.Store.Scalars.{signed_in}
-use Rattle.store_sound.proofs.store.Frames.{IsAlike}
+use Rattle.store_sound.specs.Operations.Scalars.{signed_in}
+use Rattle.store_sound.proofs.operations.Frames.{IsAlike}
 use Rattle.store_sound.specs.Programs.Premises.{HasPremises}
 use Rattle.store_sound.proofs.programs.Sizes.{same_bytes}
 use Rattle.library_sound.proofs.NearScalars.{IsNearScalar, near_scalar_stands}
 use Rattle.library_sound.proofs.ScalarClasses.{class_pair}
-use Rattle.store_sound.proofs.store.FreshValues.{type_near}
+use Rattle.store_sound.proofs.operations.FreshValues.{type_near}
 use Rattle.entry_sound.specs.Cells.StaticObjects.{IsValueOf}
 
 -- the state of a run with these objects in a memory, before anything is done

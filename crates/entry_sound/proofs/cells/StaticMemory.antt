@@ -18,9 +18,9 @@ use Rattle.memory_model.specs.Effects.Operands.{is_of_kind}
 use Rattle.memory_model.specs.Effects.ScalarBytes.{refilled, scalar_bytes}
 use Rattle.memory_model.specs.Effects.Touches.{is_literal, is_allocated, storage_at, set_bytes}
 use Rattle.memory_model.specs.Effects.Worlds.{World, goes}
-use Rattle.store_sound.proofs.store.Classes.{is_same_class}
-use Rattle.store_sound.proofs.store.MachineStores.{set_is}
-use Rattle.store_sound.proofs.store.Slices.{get_take, get_drop, get_set_same}
+use Rattle.store_sound.proofs.operations.Classes.{is_same_class}
+use Rattle.store_sound.proofs.operations.MachineStores.{set_is}
+use Rattle.store_sound.proofs.operations.Slices.{get_take, get_drop, get_set_same}
 
 -- ---- an instance whose bytes are set
 

@@ -15,11 +15,11 @@ use Rattle.pointer_domain.specs.BaseSets.{no_base, bases_has, bases_with}
 use Rattle.pointer_domain.specs.BaseFacts.{with_has_same, with_has_other}
 use Rattle.value_domain.specs.declared.values.row_cells.Cell.{Cell}
 use Rattle.value_domain.specs.declared.values.row_cells.Cell.TheVariants.{Value, First, State}
-use Rattle.store_monotone.specs.Store.Placements.{IsPlaced}
-use Rattle.store_monotone.specs.Store.TopCells.{top_value, top_zero, top_state}
-use Rattle.store_monotone.specs.Store.TopRows.{top_base, top_bases, top_row}
-use Rattle.store_monotone.proofs.store.OwnValues.{each_get}
-use Rattle.store_monotone.proofs.store.TopRows.{all_placed}
+use Rattle.store_monotone.specs.Operations.Placements.{IsPlaced}
+use Rattle.store_monotone.specs.Operations.TopCells.{top_value, top_zero, top_state}
+use Rattle.store_monotone.specs.Operations.TopRows.{top_base, top_bases, top_row}
+use Rattle.store_monotone.proofs.operations.OwnValues.{each_get}
+use Rattle.store_monotone.proofs.operations.TopRows.{all_placed}
 use Rattle.store_sound.specs.Programs.Premises.{HasPremises}
 use Rattle.entry_sound.specs.Cells.Greatest.{IsGreatest}
 

@@ -12,7 +12,7 @@ use Rattle.lower_functions.specs.Functions.Functions.{local_type}
 use Rattle.lower_tables.specs.Bases.BaseTables.{TableView, known, info, local_or, local}
 use Rattle.lower.specs.Inlining.Openings as o
 use Rattle.lower.specs.Inlining.Openings.{Placed}
-use Rattle.store_sound.proofs.store.Slices.{get_set_other}
+use Rattle.store_sound.proofs.operations.Slices.{get_set_other}
 use Rattle.entry_sound.specs.Tables.UnitStarts.{IsBaseOf}
 use Rattle.entry_sound.proofs.lowered.NotedBases.{none_some, base_stays, base_new, AreNoted}
 

@@ -22,7 +22,7 @@ use Rattle.lower.specs.Inlining.Openings as o
 use Rattle.lower.specs.Inlining.Openings.{Made, Placed, joined, placed}
 use Rattle.lower.specs.Inlining.Lowerings.{input_type, input, inputs, IsLowering}
 use Rattle.memory_model.specs.Effects.UnitStarts.{parameters_of}
-use Rattle.store_sound.proofs.store.Slices.{get_left, get_right}
+use Rattle.store_sound.proofs.operations.Slices.{get_left, get_right}
 use Rattle.entry_sound.specs.Tables.TypedInitializers.{HasTypedInitializers}
 use Rattle.entry_sound.specs.Tables.UnitStarts.{IsBaseOf, AreShared, StartsAs}
 use Rattle.entry_sound.specs.Lowered.LoweredStarts.{IsIntegerLocal, HasIntegerParameters}

@@ -18,7 +18,7 @@ use Rattle.lower_objects.specs.Shapes.HeapBases.{heap_shape}
 use Rattle.lower_objects.specs.Counts.SharedObjects.{literal_type}
 use Rattle.lower_templates.specs.Worklist.Pieces.{NameView, Local, Outcome, Static, Literal, Allocation}
 use Rattle.lower_tables.specs.Bases.BaseTables.{TableView, found_in, known, info, added, object_added, object_noted, literal_noted, local_or, literal_made, literal_or, object_made, object_or, with_shared, brought, with_all, base}
-use Rattle.store_sound.proofs.store.Slices.{get_left, get_right, get_set_same, get_set_other}
+use Rattle.store_sound.proofs.operations.Slices.{get_left, get_right, get_set_same, get_set_other}
 use Rattle.entry_sound.specs.Tables.UnitStarts.{IsBaseOf, AreShared}
 
 pub none_some : {A : Type 0} (x : A) → None ≡ Some x → ⊥

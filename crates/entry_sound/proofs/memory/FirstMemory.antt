@@ -13,7 +13,7 @@ use Rattle.memory_model.specs.Memory.Instances.{automatic, Memory, Instance}
 use Rattle.memory_model.specs.Effects.ObjectEffects.{fresh}
 use Rattle.memory_model.specs.Effects.UnitStarts.{static_instance, literal_made, start_memory, input, with_parameter, with_parameters, entry_parameters, world_before, start_world}
 use Rattle.memory_model.specs.Effects.Worlds.{World, Reply, goes, stops, world_of, behind, done, drawn_in, drawn_from, drawn}
-use Rattle.store_sound.proofs.store.Slices.{get_left, get_right}
+use Rattle.store_sound.proofs.operations.Slices.{get_left, get_right}
 use Rattle.entry_sound.specs.Memory.FirstStates.{input_bytes, IsInput, front, IsFirst}
 
 behind_goes : {A B : Type 0} (r : Reply A) (next : A → World → Reply B) (y : B) (after : World) → behind r next ≡ goes y after → (v : A) × (w : World) × (r ≡ goes v w) × (next v w ≡ goes y after)

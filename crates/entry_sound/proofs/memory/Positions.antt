@@ -15,7 +15,7 @@ use Rattle.lower_tables.specs.Bases.BaseTables.{TableView}
 use Rattle.lower_tables.specs.Bases.InitialBytes.{initial_object, initial_literal, objects_from, literals_from, initial_objects}
 use Rattle.transfer_system.specs.StartRows.{same_object, with_size, base_in}
 use Rattle.memory_model.specs.Effects.UnitStarts.{base_instance}
-use Rattle.store_sound.proofs.store.Slices.{get_left, get_right, get_there}
+use Rattle.store_sound.proofs.operations.Slices.{get_left, get_right, get_there}
 
 pub none_some : {A : Type 0} (x : A) → None ≡ Some x → ⊥
 none_some x e = cc

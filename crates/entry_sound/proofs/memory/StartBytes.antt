@@ -17,8 +17,8 @@ use Rattle.memory_model.specs.Memory.Tags.{tag_at}
 use Rattle.memory_model.specs.Effects.ObjectEffects.{holding, all_of, characters}
 use Rattle.memory_model.specs.Effects.ScalarBytes.{number_bytes, parts_from, scalar_bytes, filled, refilled, bits_in}
 use Rattle.memory_model.specs.Effects.UnitStarts.{base_instance, value_bytes, all_stored, typed_bytes}
-use Rattle.store_monotone.specs.Store.StoreLaws.{AreBytes}
-use Rattle.store_sound.proofs.store.Slices.{get_map}
+use Rattle.store_monotone.specs.Operations.StoreLaws.{AreBytes}
+use Rattle.store_sound.proofs.operations.Slices.{get_map}
 use Rattle.library_sound.proofs.GrownSanity.{blank_long, blank_byte}
 use Rattle.entry_sound.specs.Memory.FirstStates.{input_bytes}
 

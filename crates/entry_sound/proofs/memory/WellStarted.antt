@@ -15,7 +15,7 @@ use Rattle.cfg.specs.WellFormed.{are_blocks, fits_edge, are_placed, all_values, 
 use Rattle.cfg.specs.declared.programs.Flow.{Flow}
 use Rattle.cfg.specs.declared.programs.InitialObject.{InitialObject}
 use Rattle.cfg.specs.declared.programs.ParameterInput.{ParameterInput}
-use Rattle.store_monotone.specs.Store.StoreLaws.{AreBytes}
+use Rattle.store_monotone.specs.Operations.StoreLaws.{AreBytes}
 use Rattle.store_sound.proofs.programs.ShapedBases.{all_at}
 use Rattle.transfer_system.specs.System.RegularPrograms.{is_byte}
 use Rattle.entry_sound.proofs.memory.Positions.{same_statics}

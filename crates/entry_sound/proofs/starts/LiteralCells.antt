@@ -37,15 +37,15 @@ use Rattle.store_sound.specs.Concretization.Matching.{Fits, number_in}
 use Rattle.store_sound.specs.Concretization.RowMeaning.{IsLiveOf, StandsLeaf, array_bytes}
 use Rattle.store_sound.specs.Concretization.SoundMemory.{IsMemoryOf, storage_for}
 use Rattle.store_sound.specs.Concretization.ValueMeaning.{Naming, StandsZero}
-use Rattle.store_sound.proofs.store.Classes.{class_above}
-use Rattle.store_sound.proofs.store.Frames.{IsAlike}
-use Rattle.store_sound.proofs.store.LoadSound.{instance_there}
-use Rattle.store_sound.proofs.store.MachineStores.{take_at, set_is}
-use Rattle.store_sound.proofs.store.Only.{cell_put}
-use Rattle.store_sound.proofs.store.Slices.{get_map, get_there, get_set_other}
-use Rattle.store_sound.proofs.store.StoreLeaves.{live_ended}
-use Rattle.store_sound.proofs.store.StoreRows as rows
-use Rattle.store_sound.proofs.store.StoreValues.{same_value, same_zero}
+use Rattle.store_sound.proofs.operations.Classes.{class_above}
+use Rattle.store_sound.proofs.operations.Frames.{IsAlike}
+use Rattle.store_sound.proofs.operations.LoadSound.{instance_there}
+use Rattle.store_sound.proofs.operations.MachineStores.{take_at, set_is}
+use Rattle.store_sound.proofs.operations.Only.{cell_put}
+use Rattle.store_sound.proofs.operations.Slices.{get_map, get_there, get_set_other}
+use Rattle.store_sound.proofs.operations.StoreLeaves.{live_ended}
+use Rattle.store_sound.proofs.operations.StoreRows as rows
+use Rattle.store_sound.proofs.operations.StoreValues.{same_value, same_zero}
 use Rattle.store_sound.specs.Programs.Premises.{HasPremises}
 use Rattle.store_sound.proofs.programs.ShapedBases.{all_at}
 use Rattle.store_sound.specs.Regions.RegionWrites.{IsRegion, StandsBase}

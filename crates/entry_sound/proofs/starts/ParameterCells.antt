@@ -34,12 +34,12 @@ use Rattle.store_sound.specs.Concretization.Matching.{number_in}
 use Rattle.store_sound.specs.Concretization.RowMeaning.{IsLiveOf, StandsLeaf}
 use Rattle.store_sound.specs.Concretization.SoundMemory.{IsMemoryOf, storage_for}
 use Rattle.store_sound.specs.Concretization.ValueMeaning.{Naming, StandsContent}
-use Rattle.store_sound.proofs.store.Classes.{integer_class}
-use Rattle.store_sound.proofs.store.FreshValues.{type_near}
-use Rattle.store_sound.proofs.store.Only.{cell_put}
-use Rattle.store_sound.proofs.store.StoreLeaves.{live_ended}
-use Rattle.store_sound.proofs.store.StoreRows as rows
-use Rattle.store_sound.proofs.store.StoreZeros.{between_stands, some_between}
+use Rattle.store_sound.proofs.operations.Classes.{integer_class}
+use Rattle.store_sound.proofs.operations.FreshValues.{type_near}
+use Rattle.store_sound.proofs.operations.Only.{cell_put}
+use Rattle.store_sound.proofs.operations.StoreLeaves.{live_ended}
+use Rattle.store_sound.proofs.operations.StoreRows as rows
+use Rattle.store_sound.proofs.operations.StoreZeros.{between_stands, some_between}
 use Rattle.store_sound.proofs.chars.ByteValues.{number_within}
 use Rattle.store_sound.specs.Programs.Premises.{HasPremises}
 use Rattle.store_sound.proofs.programs.Sizes.{same_bytes}

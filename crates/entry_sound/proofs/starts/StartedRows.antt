@@ -41,8 +41,8 @@ use Rattle.semantics.specs.CfgMachine.FlowStarts.{first_standing, begun_by}
 use Rattle.store_sound.specs.Concretization.RowMeaning.{StandsFor}
 use Rattle.store_sound.specs.Concretization.SoundMemory.{storage_for}
 use Rattle.store_sound.specs.Concretization.ValueMeaning.{Naming}
-use Rattle.store_sound.proofs.store.Slices.{get_set_other}
-use Rattle.store_sound.proofs.store.StoreRows as rows
+use Rattle.store_sound.proofs.operations.Slices.{get_set_other}
+use Rattle.store_sound.proofs.operations.StoreRows as rows
 use Rattle.store_sound.specs.Programs.Premises.{HasPremises}
 use Rattle.store_sound.specs.Regions.RegionWrites.{StandsBase}
 use Rattle.store_sound.proofs.regions.BaseRows.{same_base}

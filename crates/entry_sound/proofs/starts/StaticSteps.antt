@@ -49,17 +49,17 @@ use Rattle.store_sound.specs.Concretization.Coverage.{state_of}
 use Rattle.store_sound.specs.Concretization.RowMeaning.{IsLiveOf, StandsFor}
 use Rattle.store_sound.specs.Concretization.SoundMemory.{IsPointerIn, IsInstanceOf, IsMemoryOf, AreEntered, storage_for}
 use Rattle.store_sound.specs.Concretization.ValueMeaning.{Naming, StandsPointer, StandsScalar}
-use Rattle.store_sound.specs.Store.Gives.{Gives}
-use Rattle.store_sound.specs.Store.Scalars.{signed_in}
-use Rattle.store_sound.specs.Store.Shapes.{IsLaidOut}
-use Rattle.store_sound.proofs.store.Frames.{IsAlike}
-use Rattle.store_sound.proofs.store.LoadSound.{instance_there}
-use Rattle.store_sound.proofs.store.MachineStores.{set_is}
-use Rattle.store_sound.proofs.store.Near.{IsNearValue, value_at_near}
-use Rattle.store_sound.proofs.store.Slices.{get_set_same, get_set_other}
-use Rattle.store_sound.proofs.store.StoreLeaves.{live_ended}
-use Rattle.store_sound.proofs.store.StoreRows.{Fits}
-use Rattle.store_sound.proofs.store.StoreSound.{store_stands}
+use Rattle.store_sound.specs.Operations.Gives.{Gives}
+use Rattle.store_sound.specs.Operations.Scalars.{signed_in}
+use Rattle.store_sound.specs.Operations.Shapes.{IsLaidOut}
+use Rattle.store_sound.proofs.operations.Frames.{IsAlike}
+use Rattle.store_sound.proofs.operations.LoadSound.{instance_there}
+use Rattle.store_sound.proofs.operations.MachineStores.{set_is}
+use Rattle.store_sound.proofs.operations.Near.{IsNearValue, value_at_near}
+use Rattle.store_sound.proofs.operations.Slices.{get_set_same, get_set_other}
+use Rattle.store_sound.proofs.operations.StoreLeaves.{live_ended}
+use Rattle.store_sound.proofs.operations.StoreRows.{Fits}
+use Rattle.store_sound.proofs.operations.StoreSound.{store_stands}
 use Rattle.store_sound.proofs.chars.CharStoreSound.{any_char_store}
 use Rattle.store_sound.specs.Regions.RegionWrites.{IsRegion, StandsBase}
 use Rattle.store_sound.proofs.regions.BaseRows.{same_base, stands_base}

@@ -39,7 +39,7 @@ use Rattle.memory_model.specs.Memory.ScalarSizes.{class_bytes}
 use Rattle.memory_model.specs.Memory.Tags.{tag_at}
 use Rattle.memory_model.specs.Effects.ObjectEffects.{all_of, characters}
 use Rattle.memory_model.specs.Effects.UnitStarts.{base_instance, static_instance, all_stored, character_byte}
-use Rattle.store_monotone.specs.Store.StoreLaws.{AreBytes}
+use Rattle.store_monotone.specs.Operations.StoreLaws.{AreBytes}
 use Rattle.store_sound.specs.Concretization.ValueMeaning.{Naming}
 use Rattle.store_sound.specs.Programs.Premises.{HasPremises}
 use Rattle.store_sound.proofs.programs.ShapedBases.{all_at}

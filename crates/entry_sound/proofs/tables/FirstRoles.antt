@@ -22,7 +22,7 @@ use Rattle.memory_model.specs.Effects.NumberedTables.{empty_table}
 use Rattle.memory_model.specs.Effects.ObjectEffects.{fresh}
 use Rattle.memory_model.specs.Effects.UnitStarts.{base_instance, static_instance, literal_made, entry_parameters}
 use Rattle.store_sound.specs.Concretization.ValueMeaning.{Naming}
-use Rattle.store_sound.proofs.store.Slices.{get_left, get_right, get_there, get_map}
+use Rattle.store_sound.proofs.operations.Slices.{get_left, get_right, get_there, get_map}
 use Rattle.entry_sound.specs.Tables.UnitStarts.{IsBaseOf, StartsAs}
 use Rattle.entry_sound.proofs.memory.Positions.{none_some, IsObjectAt, IsLiteralAt, items_long, item_at, item_instance}
 use Rattle.entry_sound.specs.Memory.FirstStates.{input_bytes, front, IsFirst}

@@ -44,11 +44,11 @@ use Rattle.memory_model.specs.Memory.Tags.{tag_of, tag_at}
 use Rattle.memory_model.specs.Effects.ObjectEffects.{all_of, characters}
 use Rattle.memory_model.specs.Effects.ScalarBytes.{bits_in}
 use Rattle.memory_model.specs.Effects.UnitStarts.{base_instance, value_bytes, character_byte, typed_bytes}
-use Rattle.store_monotone.specs.Store.StoreLaws.{AreBytes}
+use Rattle.store_monotone.specs.Operations.StoreLaws.{AreBytes}
 use Rattle.store_sound.specs.Concretization.ValueMeaning.{Naming}
 use Rattle.store_sound.specs.Concretization.SoundMemory.{storage_for, IsInstanceOf, IsWithin, IsNamed, IsContentIn, IsContentNamed, IsMemoryOf, AreEntered}
-use Rattle.store_sound.proofs.store.Slices.{get_take, get_there, get_map}
-use Rattle.store_sound.proofs.store.TagPlaces.{is_tagged}
+use Rattle.store_sound.proofs.operations.Slices.{get_take, get_there, get_map}
+use Rattle.store_sound.proofs.operations.TagPlaces.{is_tagged}
 use Rattle.store_sound.specs.Programs.Premises.{HasPremises}
 use Rattle.store_sound.proofs.programs.ShapedBases.{all_at}
 use Rattle.store_sound.proofs.programs.Sizes.{same_bytes}

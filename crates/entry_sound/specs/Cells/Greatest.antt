@@ -7,7 +7,7 @@ use Rattle.cfg.specs.declared.programs.Flow.{Flow}
 use Rattle.pointer_domain.specs.declared.base_sets.Bases.{Bases}
 use Rattle.pointer_domain.specs.BaseSets.{bases_has}
 use Rattle.value_domain.specs.declared.values.row_cells.Cell.{Cell}
-use Rattle.store_monotone.specs.Store.Placements.{IsPlaced}
+use Rattle.store_monotone.specs.Operations.Placements.{IsPlaced}
 use Rattle.memory_model.specs.Memory.Instances.{Memory}
 use Rattle.memory_model.specs.Effects.NumberedTables.{empty_table}
 use Rattle.store_sound.specs.Concretization.ValueMeaning.{Naming}

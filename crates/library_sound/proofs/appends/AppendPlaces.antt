@@ -17,8 +17,8 @@ use Rattle.transfer_library.specs.StringCalls.{less_one, window_from_place, wind
 use Rattle.memory_model.specs.Memory.Instances.{Memory}
 use Rattle.store_sound.specs.Concretization.SoundMemory.{IsMemoryOf, IsWithin}
 use Rattle.store_sound.specs.Concretization.ValueMeaning.{Naming, StandsInto}
-use Rattle.store_sound.proofs.store.Windows.{WindowHas, within_has}
-use Rattle.store_sound.proofs.store.Windows as windows
+use Rattle.store_sound.proofs.operations.Windows.{WindowHas, within_has}
+use Rattle.store_sound.proofs.operations.Windows as windows
 use Rattle.library_sound.proofs.fills.Targets.{sat_above}
 use Rattle.library_sound.proofs.appends.AppendRules.{added_has}
 

@@ -26,10 +26,10 @@ use Rattle.memory_model.specs.Memory.Instances.{Memory, bytes_at}
 use Rattle.store_sound.specs.Concretization.SoundMemory.{IsMemoryOf}
 use Rattle.store_sound.specs.Concretization.ValueMeaning.{Naming, StandsZero}
 use Rattle.store_sound.specs.Concretization.RowMeaning.{MachineState, array_bytes, IsLiveOf, StandsLeaf, StandsClass, StandsFor}
-use Rattle.store_sound.specs.Store.Shapes.{IsShaped, IsLaidOut}
-use Rattle.store_sound.proofs.store.Only.{Only, only_more, only_same, only_put, only_cond, only_if, only_then}
-use Rattle.store_sound.proofs.store.StoreRows.{Fits, leaf_is, class_is, zero_is, join_only}
-use Rattle.store_sound.proofs.store.StoreValues.{same_value}
+use Rattle.store_sound.specs.Operations.Shapes.{IsShaped, IsLaidOut}
+use Rattle.store_sound.proofs.operations.Only.{Only, only_more, only_same, only_put, only_cond, only_if, only_then}
+use Rattle.store_sound.proofs.operations.StoreRows.{Fits, leaf_is, class_is, zero_is, join_only}
+use Rattle.store_sound.proofs.operations.StoreValues.{same_value}
 use Rattle.store_sound.specs.Regions.RegionWrites.{IsRegion, WritesWithin, StandsBase}
 use Rattle.store_sound.proofs.regions.BaseRows.{writes_stand, writes_long}
 use Rattle.store_sound.proofs.regions.Layers.{value_turn, zero_turn, leaves_within, leaf_turn, zeros_within, part_turn, classes_within, class_turn, class_spared, layers_within, layers_stand}

@@ -16,7 +16,7 @@ use Rattle.memory_model.specs.Memory.Instances.{Memory, bytes_at}
 use Rattle.store_sound.specs.Concretization.SoundMemory.{IsMemoryOf}
 use Rattle.store_sound.specs.Concretization.ValueMeaning.{Naming, StandsZero}
 use Rattle.store_sound.specs.Concretization.RowMeaning.{MachineState, array_bytes, IsLiveOf, StandsFor}
-use Rattle.store_sound.specs.Store.Shapes.{IsLaidOut}
+use Rattle.store_sound.specs.Operations.Shapes.{IsLaidOut}
 use Rattle.store_sound.proofs.chars.ByteArrays.{IsIn}
 use Rattle.store_sound.specs.Regions.RegionWrites.{IsRegion}
 use Rattle.library_sound.specs.Texts.TextWrites.{IsTextWrite, IsWrittenText}

@@ -20,7 +20,7 @@ use Rattle.memory_model.specs.Memory.Instances.{Memory, bytes_at}
 use Rattle.store_sound.specs.Concretization.SoundMemory.{IsMemoryOf}
 use Rattle.store_sound.specs.Concretization.ValueMeaning.{Naming, StandsZero}
 use Rattle.store_sound.specs.Concretization.RowMeaning.{IsLiveOf, array_bytes}
-use Rattle.store_sound.proofs.store.Texts.{zero_near}
+use Rattle.store_sound.proofs.operations.Texts.{zero_near}
 use Rattle.store_sound.proofs.chars.ByteArrays.{IsIn, in_or_not, target_is, target_there, whole_in}
 use Rattle.store_sound.specs.Regions.RegionWrites.{IsRegion}
 use Rattle.store_sound.proofs.regions.RegionArrays.{array_short, array_apart, put_zero_stands, any_zero_stands}

@@ -26,12 +26,12 @@ use Rattle.memory_model.specs.Memory.Instances.{live, bytes_at, byte_at, life_at
 use Rattle.store_sound.specs.Concretization.Matching.{Fits, Matched}
 use Rattle.store_sound.specs.Concretization.ValueMeaning.{Naming, StandsContent}
 use Rattle.store_sound.specs.Concretization.RowMeaning.{MachineState, StandsFor}
-use Rattle.store_sound.specs.Store.Gives.{Gives}
-use Rattle.store_sound.specs.Store.Shapes.{AreShaped, SeesPadding}
-use Rattle.store_sound.proofs.store.CellReads.{Sees, blank_stands}
-use Rattle.store_sound.proofs.store.CharSound.{char_reaches}
-use Rattle.store_sound.proofs.store.Larger.{value_below}
-use Rattle.store_sound.proofs.store.Texts.{byte_flag, read_flag, no_text}
+use Rattle.store_sound.specs.Operations.Gives.{Gives}
+use Rattle.store_sound.specs.Operations.Shapes.{AreShaped, SeesPadding}
+use Rattle.store_sound.proofs.operations.CellReads.{Sees, blank_stands}
+use Rattle.store_sound.proofs.operations.CharSound.{char_reaches}
+use Rattle.store_sound.proofs.operations.Larger.{value_below}
+use Rattle.store_sound.proofs.operations.Texts.{byte_flag, read_flag, no_text}
 
 -- ---- what is joined
 

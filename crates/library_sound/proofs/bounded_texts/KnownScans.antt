@@ -29,13 +29,13 @@ use Rattle.store_sound.specs.Concretization.FirstZeroBytes.{first_zero, zero_off
 use Rattle.store_sound.specs.Concretization.SoundMemory.{IsWithin}
 use Rattle.store_sound.specs.Concretization.ValueMeaning.{Naming, StandsInto}
 use Rattle.store_sound.specs.Concretization.RowMeaning.{MachineState, StandsFor, array_bytes}
-use Rattle.store_sound.specs.Store.Shapes.{AreShaped}
-use Rattle.store_sound.proofs.store.Sets.{if_keeps, if_adds}
-use Rattle.store_sound.proofs.store.Slices.{get_there}
-use Rattle.store_sound.proofs.store.StoreZeros.{zero_small}
-use Rattle.store_sound.proofs.store.Texts.{found_part, offset_is, zero_near}
-use Rattle.store_sound.proofs.store.TouchedRest.{near_stands}
-use Rattle.store_sound.proofs.store.Walks.{walk_meets}
+use Rattle.store_sound.specs.Operations.Shapes.{AreShaped}
+use Rattle.store_sound.proofs.operations.Sets.{if_keeps, if_adds}
+use Rattle.store_sound.proofs.operations.Slices.{get_there}
+use Rattle.store_sound.proofs.operations.StoreZeros.{zero_small}
+use Rattle.store_sound.proofs.operations.Texts.{found_part, offset_is, zero_near}
+use Rattle.store_sound.proofs.operations.TouchedRest.{near_stands}
+use Rattle.store_sound.proofs.operations.Walks.{walk_meets}
 use Rattle.store_sound.proofs.chars.ByteArrays.{IsIn, in_or_not}
 use Rattle.store_sound.proofs.chars.ByteZeros.{offsets_stand}
 use Rattle.store_sound.proofs.regions.RegionArrays.{array_get}

@@ -34,10 +34,10 @@ use Rattle.store_sound.specs.Concretization.SeenLabels.{as_set}
 use Rattle.store_sound.specs.Concretization.SoundMemory.{IsMemoryOf}
 use Rattle.store_sound.specs.Concretization.ValueMeaning.{Naming, StandsContent, StandsState}
 use Rattle.store_sound.specs.Concretization.RowMeaning.{IsLiveOf, StandsLeaf, StandsClass}
-use Rattle.store_sound.specs.Store.Shapes.{IsShaped}
-use Rattle.store_sound.proofs.store.Classes.{class_above}
-use Rattle.store_sound.proofs.store.Near.{IsNearValue, value_at_near, near_number_from, near_number_none}
-use Rattle.store_sound.proofs.store.StoreValues.{written, join_is}
+use Rattle.store_sound.specs.Operations.Shapes.{IsShaped}
+use Rattle.store_sound.proofs.operations.Classes.{class_above}
+use Rattle.store_sound.proofs.operations.Near.{IsNearValue, value_at_near, near_number_from, near_number_none}
+use Rattle.store_sound.proofs.operations.StoreValues.{written, join_is}
 use Rattle.store_sound.proofs.chars.ByteValues.{written_near}
 use Rattle.store_sound.specs.Regions.RegionWrites.{IsRegion}
 use Rattle.store_sound.proofs.regions.Regions.{cell_joined, cell_covered, bytes_number, bytes_content, cell_numbers}

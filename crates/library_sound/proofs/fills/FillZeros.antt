@@ -26,8 +26,8 @@ use Rattle.store_sound.specs.Concretization.FirstZeroBytes.{end, seen_as, first_
 use Rattle.store_sound.specs.Concretization.SoundMemory.{IsMemoryOf}
 use Rattle.store_sound.specs.Concretization.ValueMeaning.{Naming, StandsZero}
 use Rattle.store_sound.specs.Concretization.RowMeaning.{IsLiveOf, array_bytes}
-use Rattle.store_sound.proofs.store.Slices.{get_there, get_set_same, get_set_other}
-use Rattle.store_sound.proofs.store.Texts.{zero_near}
+use Rattle.store_sound.proofs.operations.Slices.{get_there, get_set_same, get_set_other}
+use Rattle.store_sound.proofs.operations.Texts.{zero_near}
 use Rattle.store_sound.proofs.chars.ByteArrays.{IsIn, in_or_not, IsTarget, target_is, target_there, local_has, local_small, whole_in}
 use Rattle.store_sound.proofs.chars.ByteZeros.{put_inside, put_outside}
 use Rattle.store_sound.specs.Regions.RegionWrites.{IsRegion}

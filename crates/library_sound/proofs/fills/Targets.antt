@@ -28,18 +28,18 @@ use Rattle.memory_model.specs.Memory.Instances.{Memory, live, life_at}
 use Rattle.memory_model.specs.Effects.Touches.{storage_of, storage_at, is_literal}
 use Rattle.store_sound.specs.Concretization.SoundMemory.{storage_for, IsInstanceOf, IsMemoryOf, IsWithin}
 use Rattle.store_sound.specs.Concretization.ValueMeaning.{Naming, StandsInto}
-use Rattle.store_sound.specs.Store.Shapes.{AreShaped}
-use Rattle.store_sound.proofs.store.LoadSound.{instance_there}
-use Rattle.store_sound.proofs.store.OneBases.{one_base}
-use Rattle.store_sound.proofs.store.Sets.{if_keeps, if_adds, is_single}
-use Rattle.store_sound.proofs.store.StoreLeaves.{IsAlone}
-use Rattle.store_sound.proofs.store.Slices.{get_there}
-use Rattle.store_sound.proofs.store.StorePlaces.{not_empty}
-use Rattle.store_sound.proofs.store.TouchedRest.{near_stands}
-use Rattle.store_sound.proofs.store.TouchSound.{or_none, bounded}
-use Rattle.store_sound.proofs.store.Walks.{walk_meets}
-use Rattle.store_sound.proofs.store.Windows.{WindowHas, within_has}
-use Rattle.store_sound.proofs.store.Windows as windows
+use Rattle.store_sound.specs.Operations.Shapes.{AreShaped}
+use Rattle.store_sound.proofs.operations.LoadSound.{instance_there}
+use Rattle.store_sound.proofs.operations.OneBases.{one_base}
+use Rattle.store_sound.proofs.operations.Sets.{if_keeps, if_adds, is_single}
+use Rattle.store_sound.proofs.operations.StoreLeaves.{IsAlone}
+use Rattle.store_sound.proofs.operations.Slices.{get_there}
+use Rattle.store_sound.proofs.operations.StorePlaces.{not_empty}
+use Rattle.store_sound.proofs.operations.TouchedRest.{near_stands}
+use Rattle.store_sound.proofs.operations.TouchSound.{or_none, bounded}
+use Rattle.store_sound.proofs.operations.Walks.{walk_meets}
+use Rattle.store_sound.proofs.operations.Windows.{WindowHas, within_has}
+use Rattle.store_sound.proofs.operations.Windows as windows
 
 -- ---- ranges
 

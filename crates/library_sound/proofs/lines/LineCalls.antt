@@ -62,15 +62,15 @@ use Rattle.store_sound.specs.Concretization.SoundMemory.{IsMemoryOf, IsWithin}
 use Rattle.store_sound.specs.Concretization.ValueMeaning.{Naming, StandsInto, StandsByLife, StandsPointer, StandsScalar}
 use Rattle.store_sound.specs.Concretization.RowMeaning.{IsLiveOf, StandsFor}
 use Rattle.store_sound.specs.Concretization.Coverage.{state_of}
-use Rattle.store_sound.specs.Store.Shapes.{IsLaidOut}
-use Rattle.store_sound.proofs.store.CharValues.{padding_stands}
-use Rattle.store_sound.proofs.store.Frames.{pointer_in_moves, scalar_moves}
-use Rattle.store_sound.proofs.store.LoadSound.{instance_there}
-use Rattle.store_sound.proofs.store.Near.{value_at_near}
-use Rattle.store_sound.proofs.store.Slices.{get_there}
-use Rattle.store_sound.proofs.store.StoreLeaves.{live_ended, not_older}
-use Rattle.store_sound.proofs.store.StorePlaces.{not_empty}
-use Rattle.store_sound.proofs.store.Windows.{WindowHas}
+use Rattle.store_sound.specs.Operations.Shapes.{IsLaidOut}
+use Rattle.store_sound.proofs.operations.CharValues.{padding_stands}
+use Rattle.store_sound.proofs.operations.Frames.{pointer_in_moves, scalar_moves}
+use Rattle.store_sound.proofs.operations.LoadSound.{instance_there}
+use Rattle.store_sound.proofs.operations.Near.{value_at_near}
+use Rattle.store_sound.proofs.operations.Slices.{get_there}
+use Rattle.store_sound.proofs.operations.StoreLeaves.{live_ended, not_older}
+use Rattle.store_sound.proofs.operations.StorePlaces.{not_empty}
+use Rattle.store_sound.proofs.operations.Windows.{WindowHas}
 use Rattle.store_sound.specs.Programs.Premises.{HasPremises}
 use Rattle.store_sound.specs.Regions.RegionWrites.{IsRegion}
 use Rattle.store_sound.proofs.regions.ContentRegions.{IsWritten, contents_written, contents_sane, region_content}

@@ -28,11 +28,11 @@ use Rattle.store_sound.specs.Concretization.FirstZeroBytes.{end, character, seen
 use Rattle.store_sound.specs.Concretization.SoundMemory.{IsMemoryOf}
 use Rattle.store_sound.specs.Concretization.ValueMeaning.{Naming, StandsZero}
 use Rattle.store_sound.specs.Concretization.RowMeaning.{MachineState, array_bytes, IsLiveOf, StandsFor}
-use Rattle.store_sound.specs.Store.Shapes.{IsLaidOut}
-use Rattle.store_sound.proofs.store.Near.{near_number_from}
-use Rattle.store_sound.proofs.store.Slices.{get_there}
-use Rattle.store_sound.proofs.store.StoreZeros.{some_between}
-use Rattle.store_sound.proofs.store.TouchedRest.{near_stands}
+use Rattle.store_sound.specs.Operations.Shapes.{IsLaidOut}
+use Rattle.store_sound.proofs.operations.Near.{near_number_from}
+use Rattle.store_sound.proofs.operations.Slices.{get_there}
+use Rattle.store_sound.proofs.operations.StoreZeros.{some_between}
+use Rattle.store_sound.proofs.operations.TouchedRest.{near_stands}
 use Rattle.store_sound.proofs.chars.ByteArrays.{IsIn, target_is, local_has, local_small}
 use Rattle.store_sound.proofs.chars.ByteZeros.{offsets_stand}
 use Rattle.store_sound.specs.Regions.RegionWrites.{IsRegion}

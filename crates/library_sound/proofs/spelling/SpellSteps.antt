@@ -36,8 +36,8 @@ use Rattle.store_sound.specs.Concretization.SoundMemory.{IsMemoryOf}
 use Rattle.store_sound.specs.Concretization.ValueMeaning.{Naming}
 use Rattle.store_sound.specs.Concretization.RowMeaning.{IsLiveOf, StandsFor}
 use Rattle.store_sound.specs.Concretization.Coverage.{state_of}
-use Rattle.store_sound.specs.Store.Shapes.{IsLaidOut}
-use Rattle.store_sound.proofs.store.LoadSound.{instance_there}
+use Rattle.store_sound.specs.Operations.Shapes.{IsLaidOut}
+use Rattle.store_sound.proofs.operations.LoadSound.{instance_there}
 use Rattle.store_sound.specs.Programs.Premises.{HasPremises}
 use Rattle.store_sound.proofs.programs.ShapedBases.{all_at}
 use Rattle.store_sound.specs.Regions.RegionWrites.{IsRegion}

@@ -30,12 +30,12 @@ use Rattle.store_sound.specs.Concretization.Matching.{Fits, Matched, number_in, 
 use Rattle.store_sound.specs.Concretization.Places.{IsPlaceOf, OwnedByLeaf}
 use Rattle.store_sound.specs.Concretization.ValueMeaning.{Naming, StandsContent}
 use Rattle.store_sound.specs.Concretization.RowMeaning.{IsLiveOf, StandsLeaf}
-use Rattle.store_sound.proofs.store.Classes.{same_class_is, is_same_class, class_above}
-use Rattle.store_sound.proofs.store.Larger.{value_below}
-use Rattle.store_sound.proofs.store.Near.{IsNearValue, value_at_near}
-use Rattle.store_sound.proofs.store.Selected.{place_selected, single_in}
-use Rattle.store_sound.proofs.store.Slices.{get_there}
-use Rattle.store_sound.proofs.store.StoreValues.{written, join_is}
+use Rattle.store_sound.proofs.operations.Classes.{same_class_is, is_same_class, class_above}
+use Rattle.store_sound.proofs.operations.Larger.{value_below}
+use Rattle.store_sound.proofs.operations.Near.{IsNearValue, value_at_near}
+use Rattle.store_sound.proofs.operations.Selected.{place_selected, single_in}
+use Rattle.store_sound.proofs.operations.Slices.{get_there}
+use Rattle.store_sound.proofs.operations.StoreValues.{written, join_is}
 use Rattle.store_sound.specs.Regions.RegionWrites.{IsRegion}
 use Rattle.store_sound.proofs.regions.ByteRegions.{write_is}
 use Rattle.store_sound.proofs.regions.Regions.{cell_rewritten, cell_joined, cell_covered}

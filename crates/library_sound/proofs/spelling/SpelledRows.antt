@@ -21,9 +21,9 @@ use Rattle.memory_model.specs.Memory.Instances.{Memory, bytes_at}
 use Rattle.store_sound.specs.Concretization.SoundMemory.{IsMemoryOf}
 use Rattle.store_sound.specs.Concretization.ValueMeaning.{Naming, StandsZero}
 use Rattle.store_sound.specs.Concretization.RowMeaning.{MachineState, array_bytes, IsLiveOf, StandsLeaf, StandsFor}
-use Rattle.store_sound.specs.Store.Shapes.{IsLaidOut, IsShaped}
-use Rattle.store_sound.proofs.store.Only.{Only, only_same, only_put, only_cond}
-use Rattle.store_sound.proofs.store.StoreRows.{Fits, leaf_is, zero_is, join_only}
+use Rattle.store_sound.specs.Operations.Shapes.{IsLaidOut, IsShaped}
+use Rattle.store_sound.proofs.operations.Only.{Only, only_same, only_put, only_cond}
+use Rattle.store_sound.proofs.operations.StoreRows.{Fits, leaf_is, zero_is, join_only}
 use Rattle.store_sound.specs.Regions.RegionWrites.{IsRegion, WritesWithin, StandsBase}
 use Rattle.store_sound.proofs.regions.BaseRows.{same_base, base_apart, stands_base, bases_stand}
 use Rattle.store_sound.proofs.regions.Layers.{value_turn, zero_turn, leaves_within, leaf_turn, zeros_within, part_turn, layers_within, layers_stand}

@@ -17,7 +17,7 @@ use Rattle.memory_model.specs.Memory.Instances.{Memory, bytes_at, byte_at}
 use Rattle.store_sound.specs.Concretization.SoundMemory.{IsMemoryOf}
 use Rattle.store_sound.specs.Concretization.ValueMeaning.{Naming, StandsZero}
 use Rattle.store_sound.specs.Concretization.RowMeaning.{IsLiveOf, array_of, array_bytes}
-use Rattle.store_sound.proofs.store.Slices.{get_take, get_drop}
+use Rattle.store_sound.proofs.operations.Slices.{get_take, get_drop}
 use Rattle.store_sound.proofs.chars.ByteArrays.{IsIn}
 use Rattle.store_sound.specs.Regions.RegionWrites.{IsRegion}
 use Rattle.store_sound.proofs.regions.RegionArrays.{array_short, array_apart, put_zero_stands}

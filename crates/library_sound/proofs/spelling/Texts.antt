@@ -23,8 +23,8 @@ use Rattle.memory_model.specs.Memory.Bytes.{Content, number, Byte}
 use Rattle.memory_model.specs.Memory.Numbers.{Labelled, number_of}
 use Rattle.memory_model.specs.Effects.ObjectEffects as effects
 use Rattle.store_sound.specs.Concretization.FirstZeroBytes.{seen_as, one_more, zero_by, first_zero, zero_offset}
-use Rattle.store_sound.proofs.store.Near.{IsNearValue, join_near, near_number_from, near_number_none}
-use Rattle.store_sound.proofs.store.Slices.{get_take}
+use Rattle.store_sound.proofs.operations.Near.{IsNearValue, join_near, near_number_from, near_number_none}
+use Rattle.store_sound.proofs.operations.Slices.{get_take}
 
 -- ---- contents
 

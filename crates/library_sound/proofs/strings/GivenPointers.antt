@@ -33,16 +33,16 @@ use Rattle.memory_model.specs.Effects.Worlds.{World, stopped_by}
 use Rattle.store_sound.specs.Concretization.SoundMemory.{IsWithin}
 use Rattle.store_sound.specs.Concretization.ValueMeaning.{Naming, StandsInto, StandsByLife, StandsPointer, StandsState}
 use Rattle.store_sound.specs.Concretization.RowMeaning.{MachineState, StandsFor}
-use Rattle.store_sound.specs.Store.Shapes.{AreShaped}
-use Rattle.store_sound.proofs.store.Freed.{freed_shows}
-use Rattle.store_sound.proofs.store.LoadSound.{live_if}
-use Rattle.store_sound.proofs.store.Sets.{in_live}
-use Rattle.store_sound.proofs.store.Slices.{get_there}
-use Rattle.store_sound.proofs.store.StorePlaces.{not_empty}
-use Rattle.store_sound.proofs.store.TouchedRest.{near_stands}
-use Rattle.store_sound.proofs.store.TouchSound.{or_none, bounded}
-use Rattle.store_sound.proofs.store.Windows.{RangeHas, WindowHas, within_has}
-use Rattle.store_sound.proofs.store.TouchSound as sound
+use Rattle.store_sound.specs.Operations.Shapes.{AreShaped}
+use Rattle.store_sound.proofs.operations.Freed.{freed_shows}
+use Rattle.store_sound.proofs.operations.LoadSound.{live_if}
+use Rattle.store_sound.proofs.operations.Sets.{in_live}
+use Rattle.store_sound.proofs.operations.Slices.{get_there}
+use Rattle.store_sound.proofs.operations.StorePlaces.{not_empty}
+use Rattle.store_sound.proofs.operations.TouchedRest.{near_stands}
+use Rattle.store_sound.proofs.operations.TouchSound.{or_none, bounded}
+use Rattle.store_sound.proofs.operations.Windows.{RangeHas, WindowHas, within_has}
+use Rattle.store_sound.proofs.operations.TouchSound as sound
 
 -- ---- how the machine takes a pointer argument
 

@@ -6,8 +6,8 @@ use Rattle.memory_model.specs.Memory.Bytes.{Content, indeterminate, number, part
 use Rattle.memory_model.specs.Effects.LibraryChecks.{Scanned, ends, unended, broken, one_further, scanned}
 use Rattle.memory_model.specs.Effects.ScalarBytes.{region, contents}
 use Rattle.store_sound.specs.Concretization.FirstZeroBytes.{Seen, unknown, end, character, seen_as, zero_by, first_zero}
-use Rattle.store_sound.proofs.store.Slices.{get_drop}
-use Rattle.store_sound.proofs.store.Texts.{more_is}
+use Rattle.store_sound.proofs.operations.Slices.{get_drop}
+use Rattle.store_sound.proofs.operations.Texts.{more_is}
 
 -- ---- the bytes up to the first zero
 

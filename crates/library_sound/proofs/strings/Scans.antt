@@ -34,17 +34,17 @@ use Rattle.store_sound.specs.Concretization.FirstZeroBytes.{first_zero, zero_off
 use Rattle.store_sound.specs.Concretization.SoundMemory.{IsWithin}
 use Rattle.store_sound.specs.Concretization.ValueMeaning.{Naming, StandsInto}
 use Rattle.store_sound.specs.Concretization.RowMeaning.{MachineState, StandsFor, array_of, array_bytes}
-use Rattle.store_sound.specs.Store.Shapes.{AreShaped}
-use Rattle.store_sound.proofs.store.Sets.{if_keeps, if_adds}
-use Rattle.store_sound.proofs.store.Slices.{get_drop, get_there}
-use Rattle.store_sound.proofs.store.StorePlaces.{not_empty}
-use Rattle.store_sound.proofs.store.StoreZeros.{zero_small, take_by}
-use Rattle.store_sound.proofs.store.Texts.{found_part, offset_is, zero_near}
-use Rattle.store_sound.proofs.store.TouchedRest.{near_stands}
-use Rattle.store_sound.proofs.store.Walks.{walk_meets}
-use Rattle.store_sound.proofs.store.Windows.{WindowHas, within_has}
-use Rattle.store_sound.proofs.store.Windows as windows
-use Rattle.store_sound.proofs.store.TouchSound as sound
+use Rattle.store_sound.specs.Operations.Shapes.{AreShaped}
+use Rattle.store_sound.proofs.operations.Sets.{if_keeps, if_adds}
+use Rattle.store_sound.proofs.operations.Slices.{get_drop, get_there}
+use Rattle.store_sound.proofs.operations.StorePlaces.{not_empty}
+use Rattle.store_sound.proofs.operations.StoreZeros.{zero_small, take_by}
+use Rattle.store_sound.proofs.operations.Texts.{found_part, offset_is, zero_near}
+use Rattle.store_sound.proofs.operations.TouchedRest.{near_stands}
+use Rattle.store_sound.proofs.operations.Walks.{walk_meets}
+use Rattle.store_sound.proofs.operations.Windows.{WindowHas, within_has}
+use Rattle.store_sound.proofs.operations.Windows as windows
+use Rattle.store_sound.proofs.operations.TouchSound as sound
 use Rattle.store_sound.proofs.chars.ByteZeros.{offsets_stand}
 use Rattle.domain_theorems.specs.Values.ZeroMeaning.{IsString}
 use Rattle.domain_theorems.proofs.values.Numbers.{RangeHas, difference_has, met_has, bounds_have, of_range_stands, upper_above}

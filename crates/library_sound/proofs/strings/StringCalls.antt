@@ -46,8 +46,8 @@ use Rattle.memory_model.specs.Memory.Scalars.{Scalar, integer, pointer}
 use Rattle.memory_model.specs.Effects.LibraryCalls.{with_result, library}
 use Rattle.memory_model.specs.Effects.ScalarBytes.{contents}
 use Rattle.memory_model.specs.Memory.ScalarSizes.{class_bytes}
-use Rattle.store_sound.proofs.store.Classes.{class_above}
-use Rattle.store_sound.proofs.store.Rereading.{halves}
+use Rattle.store_sound.proofs.operations.Classes.{class_above}
+use Rattle.store_sound.proofs.operations.Rereading.{halves}
 use Rattle.memory_model.specs.Effects.LibraryChecks as machine
 use Rattle.memory_model.specs.Effects.StringCalls.{plain, compare_strings, order_in}
 use Rattle.memory_model.specs.Effects.Worlds.{World, Why, Reply, goes, stops, behind, stopped_by, Left, Stuck, Violated}

@@ -38,12 +38,12 @@ use Rattle.store_sound.specs.Concretization.SeenLabels.{as_set}
 use Rattle.store_sound.specs.Concretization.SoundMemory.{IsContentIn}
 use Rattle.store_sound.specs.Concretization.ValueMeaning.{Naming, StandsScalar, StandsContent}
 use Rattle.store_sound.specs.Concretization.RowMeaning.{MachineState, StandsFor}
-use Rattle.store_sound.specs.Store.Gives.{Gives}
-use Rattle.store_sound.specs.Store.Shapes.{AreShaped, SeesPadding}
-use Rattle.store_sound.proofs.store.CellReads.{Sees, scalar_stands}
-use Rattle.store_sound.proofs.store.CharSound.{char_reaches}
-use Rattle.store_sound.proofs.store.CharValues.{byte_stands, padding_stands}
-use Rattle.store_sound.proofs.store.Larger.{value_below, scalar_larger}
+use Rattle.store_sound.specs.Operations.Gives.{Gives}
+use Rattle.store_sound.specs.Operations.Shapes.{AreShaped, SeesPadding}
+use Rattle.store_sound.proofs.operations.CellReads.{Sees, scalar_stands}
+use Rattle.store_sound.proofs.operations.CharSound.{char_reaches}
+use Rattle.store_sound.proofs.operations.CharValues.{byte_stands, padding_stands}
+use Rattle.store_sound.proofs.operations.Larger.{value_below, scalar_larger}
 
 -- ---- what is read is more than what is loaded
 

@@ -45,14 +45,14 @@ use Rattle.store_sound.specs.Concretization.SoundMemory.{IsContentIn, IsMemoryOf
 use Rattle.store_sound.specs.Concretization.ValueMeaning.{Naming, StandsInto, StandsByLife}
 use Rattle.store_sound.specs.Concretization.RowMeaning.{MachineState, IsLiveOf, StandsFor}
 use Rattle.store_sound.specs.Concretization.Coverage.{state_of}
-use Rattle.store_sound.specs.Store.Shapes.{AreShaped, IsLaidOut}
+use Rattle.store_sound.specs.Operations.Shapes.{AreShaped, IsLaidOut}
 use Rattle.c_layout.specs.declared.shapes.BaseInfo.{BaseInfo}
-use Rattle.store_sound.proofs.store.Frames.{pointer_in_moves, scalar_moves}
-use Rattle.store_sound.proofs.store.LoadSound.{instance_there}
-use Rattle.store_sound.proofs.store.Slices.{get_there}
-use Rattle.store_sound.proofs.store.StoreLeaves.{live_ended, not_older}
-use Rattle.store_sound.proofs.store.StorePlaces.{not_empty}
-use Rattle.store_sound.proofs.store.Windows.{WindowHas}
+use Rattle.store_sound.proofs.operations.Frames.{pointer_in_moves, scalar_moves}
+use Rattle.store_sound.proofs.operations.LoadSound.{instance_there}
+use Rattle.store_sound.proofs.operations.Slices.{get_there}
+use Rattle.store_sound.proofs.operations.StoreLeaves.{live_ended, not_older}
+use Rattle.store_sound.proofs.operations.StorePlaces.{not_empty}
+use Rattle.store_sound.proofs.operations.Windows.{WindowHas}
 use Rattle.store_sound.specs.Programs.Premises.{HasPremises}
 use Rattle.store_sound.specs.Regions.RegionWrites.{IsRegion}
 use Rattle.store_sound.proofs.regions.ContentRegions.{IsWritten, contents_written, contents_sane, region_content}
@@ -89,9 +89,9 @@ use Rattle.store_cells.specs.AccessWindows.{added_ranges}
 use Rattle.store_sound.specs.Concretization.FirstZeroBytes.{end, character, seen_as}
 use Rattle.store_sound.specs.Concretization.Matching.{number_in}
 use Rattle.store_sound.specs.Concretization.SeenLabels.{as_set}
-use Rattle.store_sound.proofs.store.Reading.{region_at, region_length}
-use Rattle.store_sound.proofs.store.Slices.{get_map}
-use Rattle.store_sound.proofs.store.TouchedRest.{near_stands}
+use Rattle.store_sound.proofs.operations.Reading.{region_at, region_length}
+use Rattle.store_sound.proofs.operations.Slices.{get_map}
+use Rattle.store_sound.proofs.operations.TouchedRest.{near_stands}
 use Rattle.domain_theorems.proofs.values.Numbers.{of_range_stands}
 use Rattle.value_domain.specs.Values.LabelSets.{labels_leq}
 use Rattle.library_sound.proofs.strings.Scans.{IsScan}

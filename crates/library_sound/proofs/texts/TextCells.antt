@@ -30,12 +30,12 @@ use Rattle.store_sound.specs.Concretization.Places.{IsPlaceOf, OwnedByLeaf, Owne
 use Rattle.store_sound.specs.Concretization.SoundMemory.{IsPointerIn, IsContentIn, IsMemoryOf}
 use Rattle.store_sound.specs.Concretization.ValueMeaning.{Naming, StandsContent}
 use Rattle.store_sound.specs.Concretization.RowMeaning.{IsLiveOf, StandsCell, StandsLeaf, StandsClass}
-use Rattle.store_sound.specs.Store.Shapes.{IsShaped}
-use Rattle.store_sound.proofs.store.Classes.{class_size}
-use Rattle.store_sound.proofs.store.FreshValues.{type_near}
-use Rattle.store_sound.proofs.store.Larger.{value_below, content_larger}
-use Rattle.store_sound.proofs.store.Near.{IsNearValue, value_at_near}
-use Rattle.store_sound.proofs.store.StoreValues.{written, join_is}
+use Rattle.store_sound.specs.Operations.Shapes.{IsShaped}
+use Rattle.store_sound.proofs.operations.Classes.{class_size}
+use Rattle.store_sound.proofs.operations.FreshValues.{type_near}
+use Rattle.store_sound.proofs.operations.Larger.{value_below, content_larger}
+use Rattle.store_sound.proofs.operations.Near.{IsNearValue, value_at_near}
+use Rattle.store_sound.proofs.operations.StoreValues.{written, join_is}
 use Rattle.store_sound.proofs.chars.ByteValues.{number_within}
 use Rattle.store_sound.specs.Regions.RegionWrites.{IsRegion}
 use Rattle.store_sound.proofs.regions.Regions.{cell_rewritten, cell_numbers}

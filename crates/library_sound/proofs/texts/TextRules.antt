@@ -25,10 +25,10 @@ use Rattle.store_sound.specs.Concretization.FirstZeroBytes.{end, character, seen
 use Rattle.store_sound.specs.Concretization.SoundMemory.{IsMemoryOf}
 use Rattle.store_sound.specs.Concretization.ValueMeaning.{Naming, StandsZero}
 use Rattle.store_sound.specs.Concretization.RowMeaning.{array_bytes}
-use Rattle.store_sound.proofs.store.Near.{near_number_from}
-use Rattle.store_sound.proofs.store.Slices.{get_there}
-use Rattle.store_sound.proofs.store.StoreZeros.{some_between}
-use Rattle.store_sound.proofs.store.TouchedRest.{near_stands}
+use Rattle.store_sound.proofs.operations.Near.{near_number_from}
+use Rattle.store_sound.proofs.operations.Slices.{get_there}
+use Rattle.store_sound.proofs.operations.StoreZeros.{some_between}
+use Rattle.store_sound.proofs.operations.TouchedRest.{near_stands}
 use Rattle.store_sound.proofs.chars.ByteArrays.{IsIn, target_is, local_has, local_small}
 use Rattle.store_sound.specs.Regions.RegionWrites.{IsRegion}
 use Rattle.store_sound.proofs.regions.RegionArrays.{starts_in, before_in, array_short, array_before, array_there, IsText, wrote_text}

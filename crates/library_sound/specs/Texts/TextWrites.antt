@@ -20,7 +20,7 @@ use Rattle.store_sound.specs.Concretization.SeenLabels.{as_set}
 use Rattle.store_sound.specs.Concretization.SoundMemory.{IsMemoryOf}
 use Rattle.store_sound.specs.Concretization.ValueMeaning.{Naming}
 use Rattle.store_sound.specs.Concretization.RowMeaning.{MachineState, IsLiveOf, StandsFor}
-use Rattle.store_sound.specs.Store.Shapes.{IsLaidOut}
+use Rattle.store_sound.specs.Operations.Shapes.{IsLaidOut}
 use Rattle.store_sound.specs.Regions.RegionWrites.{IsRegion}
 
 -- what the analysis knows of a text, or of bytes, that were written: where they can begin and lie, and the characters

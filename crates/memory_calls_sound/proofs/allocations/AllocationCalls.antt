@@ -53,7 +53,7 @@ use Rattle.store_sound.specs.Concretization.ValueMeaning.{Naming, StandsScalar}
 use Rattle.store_sound.specs.Concretization.RowMeaning.{StandsFor}
 use Rattle.store_sound.specs.Concretization.Coverage.{state_of}
 use Rattle.store_cells.specs.AccessWindows.{last_offset}
-use Rattle.store_sound.proofs.store.TouchedRest.{near_stands}
+use Rattle.store_sound.proofs.operations.TouchedRest.{near_stands}
 use Rattle.store_sound.specs.Programs.Premises.{HasPremises}
 use Rattle.library_sound.specs.SoundSteps.{AreShort, IsReached, StandsBehind, IsStoodFor}
 use Rattle.library_sound.proofs.Admitted.{AreAdmitted, none_admitted, one_admitted, both_admitted}

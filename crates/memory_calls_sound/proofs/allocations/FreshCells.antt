@@ -29,10 +29,10 @@ use Rattle.store_sound.specs.Concretization.Matching.{Matched, number_in}
 use Rattle.store_sound.specs.Concretization.SeenLabels.{as_set}
 use Rattle.store_sound.specs.Concretization.ValueMeaning.{Naming, StandsContent, StandsZero}
 use Rattle.store_sound.specs.Concretization.RowMeaning.{IsLiveOf, StandsCell}
-use Rattle.store_sound.proofs.store.Classes.{class_above}
-use Rattle.store_sound.proofs.store.Slices.{get_there}
-use Rattle.store_sound.proofs.store.StoreZeros.{zero_small, offset_near}
-use Rattle.store_sound.proofs.store.TouchedRest.{near_stands}
+use Rattle.store_sound.proofs.operations.Classes.{class_above}
+use Rattle.store_sound.proofs.operations.Slices.{get_there}
+use Rattle.store_sound.proofs.operations.StoreZeros.{zero_small, offset_near}
+use Rattle.store_sound.proofs.operations.TouchedRest.{near_stands}
 use Rattle.store_sound.proofs.regions.RegionArrays.{any_zero_stands}
 
 -- ---- bytes without a type

@@ -26,9 +26,9 @@ use Rattle.store_cells.specs.NearValues.{near_number, near_value}
 use Rattle.store_objects.specs.ObjectLives.{set_cell, set_values}
 use Rattle.store_cells.specs.RowPositions.{leaf_position, class_position, zero_position, state_position, value_count, value_in, zero_in, state_in, cell_at, value_at, zero_at, state_at, near_state, put_zero, put_state}
 use Rattle.store_cells.specs.Walks.{walk, turns}
-use Rattle.store_sound.proofs.store.Only.{Only, Turned, only_more, only_put, only_then, cell_put}
-use Rattle.store_sound.proofs.store.StoreRows.{Fits, leaf_is, class_is, zero_is}
-use Rattle.store_sound.proofs.store.StoreValues.{same_value, same_zero}
+use Rattle.store_sound.proofs.operations.Only.{Only, Turned, only_more, only_put, only_then, cell_put}
+use Rattle.store_sound.proofs.operations.StoreRows.{Fits, leaf_is, class_is, zero_is}
+use Rattle.store_sound.proofs.operations.StoreValues.{same_value, same_zero}
 use Rattle.store_sound.proofs.regions.Layers.{only_turns, value_turn, leaves_within, leaf_turn, classes_within, class_turn}
 
 -- a heap base, and where its values stand

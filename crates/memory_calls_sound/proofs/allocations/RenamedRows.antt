@@ -19,10 +19,10 @@ use Rattle.store_objects.specs.Allocations.{is_named, site_of, renamed_cell, joi
 use Rattle.store_cells.specs.NearValues.{near_number, near_value}
 use Rattle.store_cells.specs.RowPositions.{leaf_position, zero_position, state_position, value_count, value_in, zero_in, state_in, cell_at, value_at, zero_at, state_at, near_state, join_value, join_zero}
 use Rattle.store_cells.specs.Walks.{turns}
-use Rattle.store_sound.proofs.store.Only.{Only, only_more, only_put, only_then, cell_put, Leaves, only_leaves}
-use Rattle.store_sound.proofs.store.Sets.{none_has}
-use Rattle.store_sound.proofs.store.StoreRows.{Fits, zero_is}
-use Rattle.store_sound.proofs.store.StoreValues.{same_value, same_zero, same_state, written, join_is}
+use Rattle.store_sound.proofs.operations.Only.{Only, only_more, only_put, only_then, cell_put, Leaves, only_leaves}
+use Rattle.store_sound.proofs.operations.Sets.{none_has}
+use Rattle.store_sound.proofs.operations.StoreRows.{Fits, zero_is}
+use Rattle.store_sound.proofs.operations.StoreValues.{same_value, same_zero, same_state, written, join_is}
 use Rattle.store_sound.proofs.regions.Layers.{only_turns, leaves_turns}
 use Rattle.memory_calls_sound.proofs.allocations.RenamedNames.{renamed_value, renamed_near}
 

@@ -33,13 +33,13 @@ use Rattle.store_sound.specs.Concretization.SoundMemory.{storage_for, IsInstance
 use Rattle.store_sound.specs.Concretization.Places.{OwnedByClass, IsClassPlace}
 use Rattle.store_sound.specs.Concretization.ValueMeaning.{Naming, StandsContent, StandsZero, StandsState, StandsScalar}
 use Rattle.store_sound.specs.Concretization.RowMeaning.{MachineState, array_of, array_bytes, IsLiveOf, StandsCell, StandsLeaf, StandsClass, StandsFor}
-use Rattle.store_sound.proofs.store.Larger.{value_below, content_larger}
-use Rattle.store_sound.proofs.store.Near.{near_is, value_at_near, join_near}
-use Rattle.store_sound.proofs.store.Slices.{get_there}
-use Rattle.store_sound.proofs.store.StoreRows.{leaf_is, class_is, zero_is}
-use Rattle.store_sound.proofs.store.StoreValues.{same_value, same_zero, same_state, written}
-use Rattle.store_sound.proofs.store.StoreZeros.{zero_small, offset_near}
-use Rattle.store_sound.proofs.store.TouchedRest.{near_stands}
+use Rattle.store_sound.proofs.operations.Larger.{value_below, content_larger}
+use Rattle.store_sound.proofs.operations.Near.{near_is, value_at_near, join_near}
+use Rattle.store_sound.proofs.operations.Slices.{get_there}
+use Rattle.store_sound.proofs.operations.StoreRows.{leaf_is, class_is, zero_is}
+use Rattle.store_sound.proofs.operations.StoreValues.{same_value, same_zero, same_state, written}
+use Rattle.store_sound.proofs.operations.StoreZeros.{zero_small, offset_near}
+use Rattle.store_sound.proofs.operations.TouchedRest.{near_stands}
 use Rattle.store_sound.specs.Programs.Premises.{HasPremises}
 use Rattle.store_sound.proofs.regions.RegionArrays.{array_short}
 use Rattle.memory_calls_sound.proofs.allocations.RenamedNames.{renames, name_stays, HadName, was_newest, was_same, had_name, had_some, none_newest, named_renames, content_named_renames, renamed_value, scalar_renames, content_renames}

@@ -36,7 +36,7 @@ use Rattle.memory_model.specs.Effects.ObjectEffects as objects
 use Rattle.store_sound.specs.Concretization.SoundMemory.{storage_for, IsContentIn, IsContentNamed}
 use Rattle.store_sound.specs.Concretization.ValueMeaning.{Naming, StandsInto, StandsByLife, StandsPointer, StandsZero, StandsState}
 use Rattle.store_sound.specs.Concretization.RowMeaning.{MachineState, array_of, array_bytes, IsLiveOf, StandsCell, StandsLeaf, StandsClass, StandsFor}
-use Rattle.store_sound.proofs.store.TouchedRest.{near_stands}
+use Rattle.store_sound.proofs.operations.TouchedRest.{near_stands}
 use Rattle.store_sound.specs.Programs.Premises.{HasPremises}
 use Rattle.library_sound.proofs.PutTemps.{IsResult}
 use Rattle.library_sound.proofs.GrownMemory.{grows, naming_too, names_too}

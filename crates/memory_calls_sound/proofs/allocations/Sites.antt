@@ -14,7 +14,7 @@ use Rattle.cfg.specs.BaseShapes.{same_truth, same_leaf, same_leaves, is_newest_k
 use Rattle.cfg.specs.ModelKinds.{same_class}
 use Rattle.cfg.specs.WellFormed.{base_values, all_values, kind_at, is_newest, is_older, is_site, names_of, are_blocks, fits_edge, are_placed, is_initial_object, is_parameter, is_within, are_few, is_laid_out, is_well_formed}
 use Rattle.cfg.specs.declared.programs.Flow.{Flow}
-use Rattle.store_sound.proofs.store.Classes.{same_class_is}
+use Rattle.store_sound.proofs.operations.Classes.{same_class_is}
 use Rattle.store_sound.proofs.programs.ShapedBases.{all_at}
 use Rattle.store_sound.proofs.programs.WellFormedPremises.{well_formed_good}
 use Rattle.store_sound.specs.Programs.Premises.{HasPremises}

@@ -45,12 +45,12 @@ use Rattle.semantics.specs.CfgMachine.FlowActs.{calling}
 use Rattle.semantics.specs.CfgMachine.FlowStates.{Standing, values_of}
 use Rattle.store_sound.specs.Concretization.ValueMeaning.{Naming, StandsInto, StandsByLife, StandsPointer, StandsScalar}
 use Rattle.store_sound.specs.Concretization.SoundMemory.{IsPointerIn}
-use Rattle.store_sound.proofs.store.Freed.{into_freed}
-use Rattle.store_sound.proofs.store.LoadSound.{instance_there}
-use Rattle.store_sound.proofs.store.OneBases.{one_base}
-use Rattle.store_sound.proofs.store.Sets.{is_single}
-use Rattle.store_sound.proofs.store.Slices.{get_there}
-use Rattle.store_sound.proofs.store.StoreLeaves.{not_older}
+use Rattle.store_sound.proofs.operations.Freed.{into_freed}
+use Rattle.store_sound.proofs.operations.LoadSound.{instance_there}
+use Rattle.store_sound.proofs.operations.OneBases.{one_base}
+use Rattle.store_sound.proofs.operations.Sets.{is_single}
+use Rattle.store_sound.proofs.operations.Slices.{get_there}
+use Rattle.store_sound.proofs.operations.StoreLeaves.{not_older}
 use Rattle.store_sound.specs.Programs.Premises.{HasPremises}
 use Rattle.library_sound.specs.SoundSteps.{IsReached, StandsBehind, IsStoodFor, StepIsSound}
 use Rattle.library_sound.proofs.Admitted.{one_admitted, both_admitted}

@@ -14,7 +14,7 @@ use Rattle.store_objects.specs.Freeing.{is_heap_in, freed_state, free_base_if, f
 use Rattle.store_objects.specs.LiveBases.{has_base}
 use Rattle.store_cells.specs.RowPositions.{state_position, cell_at, state_in, near_state, put_state, state_at}
 use Rattle.store_cells.specs.Walks.{walk}
-use Rattle.store_sound.proofs.store.Slices.{get_set_same, get_set_other}
+use Rattle.store_sound.proofs.operations.Slices.{get_set_same, get_set_other}
 
 module _ {I : Type 0} (l : LatticeOf I) (n : IntegersOf I) (set_of : Bases) (surely : Bool) where
   put_other : (row : List (Cell I)) (p x : ℕ) (c : Cell I) → (x ≡ p → ⊥) → cell_at (set row p c) x ≡ cell_at row x

@@ -29,8 +29,8 @@ use Rattle.memory_model.specs.Memory.Scalars.{Scalar}
 use Rattle.semantics.specs.CfgMachine.FlowStates.{Standing}
 use Rattle.store_sound.specs.Concretization.ValueMeaning.{Naming, StandsScalar, StandsZero, StandsState}
 use Rattle.store_sound.specs.Concretization.RowMeaning.{IsLiveOf, StandsCell, StandsLeaf, StandsClass, StandsFor, array_bytes}
-use Rattle.store_sound.proofs.store.Slices.{get_there}
-use Rattle.store_sound.proofs.store.StoreRows.{leaf_is, class_is, zero_is}
+use Rattle.store_sound.proofs.operations.Slices.{get_there}
+use Rattle.store_sound.proofs.operations.StoreRows.{leaf_is, class_is, zero_is}
 use Rattle.store_sound.specs.Programs.Premises.{HasPremises}
 use Rattle.library_sound.specs.SoundSteps.{AreShort, IsReached}
 use Rattle.library_sound.proofs.NearScalars.{IsNearNumber, near_offset, near_number_stands}

@@ -18,7 +18,7 @@ use Rattle.store_sound.specs.Concretization.Matching.{Matched}
 use Rattle.store_sound.specs.Concretization.ValueMeaning.{Naming, StandsInto, StandsByLife, StandsPointer, StandsScalar, StandsContent}
 use Rattle.store_sound.specs.Concretization.RowMeaning.{IsLiveOf}
 use Rattle.store_sound.specs.Concretization.SoundMemory.{IsInstanceOf, IsFreedRightly, IsMemoryOf, IsWithin, IsPointerIn, IsScalarIn, IsNamed, IsContentIn, IsContentNamed}
-use Rattle.store_sound.proofs.store.Slices.{get_there, get_set_same, get_set_other}
+use Rattle.store_sound.proofs.operations.Slices.{get_there, get_set_same, get_set_other}
 
 -- a live instance of allocated bytes that is freed now
 pub record IsFreed (old new : Memory) (j : ℕ) : Type 0 where

@@ -26,12 +26,12 @@ use Rattle.transfer_checks.specs.Touches.{is_nowhere}
 use Rattle.memory_model.specs.Memory.Instances.{live, life_at, bytes_at}
 use Rattle.store_sound.specs.Concretization.ValueMeaning.{Naming, StandsInto, StandsState}
 use Rattle.store_sound.specs.Concretization.RowMeaning.{MachineState, StandsFor}
-use Rattle.store_sound.specs.Store.Shapes.{AreShaped}
-use Rattle.store_sound.proofs.store.Sets.{if_keeps, if_adds, none_has, only_is, in_live}
-use Rattle.store_sound.proofs.store.Slices.{get_there}
-use Rattle.store_sound.proofs.store.StorePlaces.{not_empty}
-use Rattle.store_sound.proofs.store.TouchSound.{bounded, or_none}
-use Rattle.store_sound.proofs.store.Walks.{walk_meets}
+use Rattle.store_sound.specs.Operations.Shapes.{AreShaped}
+use Rattle.store_sound.proofs.operations.Sets.{if_keeps, if_adds, none_has, only_is, in_live}
+use Rattle.store_sound.proofs.operations.Slices.{get_there}
+use Rattle.store_sound.proofs.operations.StorePlaces.{not_empty}
+use Rattle.store_sound.proofs.operations.TouchSound.{bounded, or_none}
+use Rattle.store_sound.proofs.operations.Walks.{walk_meets}
 
 -- ---- the heap bases of a set
 

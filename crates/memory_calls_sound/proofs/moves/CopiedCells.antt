@@ -36,10 +36,10 @@ use Rattle.store_sound.specs.Concretization.SeenLabels.{as_set}
 use Rattle.store_sound.specs.Concretization.SoundMemory.{IsMemoryOf, IsContentIn}
 use Rattle.store_sound.specs.Concretization.ValueMeaning.{Naming, StandsPointer, StandsContent}
 use Rattle.store_sound.specs.Concretization.RowMeaning.{StandsCell, StandsLeaf, StandsClass}
-use Rattle.store_sound.specs.Store.Shapes.{IsShaped}
-use Rattle.store_sound.proofs.store.Larger.{pointer_below, pointer_larger}
-use Rattle.store_sound.proofs.store.Near.{IsNearValue, value_at_near, join_near, near_number_none}
-use Rattle.store_sound.proofs.store.StoreValues.{written, join_is}
+use Rattle.store_sound.specs.Operations.Shapes.{IsShaped}
+use Rattle.store_sound.proofs.operations.Larger.{pointer_below, pointer_larger}
+use Rattle.store_sound.proofs.operations.Near.{IsNearValue, value_at_near, join_near, near_number_none}
+use Rattle.store_sound.proofs.operations.StoreValues.{written, join_is}
 use Rattle.store_sound.proofs.chars.ByteValues.{written_number, written_near}
 use Rattle.store_sound.specs.Regions.RegionWrites.{IsRegion}
 use Rattle.store_sound.proofs.regions.Regions.{cell_joined}

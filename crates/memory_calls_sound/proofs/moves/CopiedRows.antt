@@ -26,9 +26,9 @@ use Rattle.memory_model.specs.Memory.Instances.{Memory, bytes_at}
 use Rattle.store_sound.specs.Concretization.SoundMemory.{IsMemoryOf}
 use Rattle.store_sound.specs.Concretization.ValueMeaning.{Naming, StandsZero}
 use Rattle.store_sound.specs.Concretization.RowMeaning.{MachineState, array_bytes, IsLiveOf, StandsLeaf, StandsClass, StandsFor}
-use Rattle.store_sound.specs.Store.Shapes.{IsShaped, IsLaidOut}
-use Rattle.store_sound.proofs.store.Only.{Only, Turned, only_put, only_cond, only_if, only_same}
-use Rattle.store_sound.proofs.store.StoreRows.{Fits, leaf_is, class_is, zero_is, join_only, zeros_only}
+use Rattle.store_sound.specs.Operations.Shapes.{IsShaped, IsLaidOut}
+use Rattle.store_sound.proofs.operations.Only.{Only, Turned, only_put, only_cond, only_if, only_same}
+use Rattle.store_sound.proofs.operations.StoreRows.{Fits, leaf_is, class_is, zero_is, join_only, zeros_only}
 use Rattle.store_sound.proofs.chars.ByteArrays.{target_there}
 use Rattle.store_sound.specs.Regions.RegionWrites.{IsRegion, WritesWithin, StandsBase}
 use Rattle.store_sound.proofs.regions.BaseRows.{writes_stand, writes_long}

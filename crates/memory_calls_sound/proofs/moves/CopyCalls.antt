@@ -45,12 +45,12 @@ use Rattle.semantics.specs.CfgMachine.FlowStates.{Standing, values_of}
 use Rattle.store_sound.specs.Concretization.SoundMemory.{IsMemoryOf, IsWithin}
 use Rattle.store_sound.specs.Concretization.ValueMeaning.{Naming, StandsInto, StandsByLife, StandsScalar}
 use Rattle.store_sound.specs.Concretization.Coverage.{state_of}
-use Rattle.store_sound.specs.Store.Shapes.{IsLaidOut}
-use Rattle.store_sound.proofs.store.Frames.{pointer_in_moves, scalar_moves}
-use Rattle.store_sound.proofs.store.LoadSound.{instance_there}
-use Rattle.store_sound.proofs.store.Slices.{get_there}
-use Rattle.store_sound.proofs.store.StorePlaces.{not_empty}
-use Rattle.store_sound.proofs.store.Windows.{WindowHas}
+use Rattle.store_sound.specs.Operations.Shapes.{IsLaidOut}
+use Rattle.store_sound.proofs.operations.Frames.{pointer_in_moves, scalar_moves}
+use Rattle.store_sound.proofs.operations.LoadSound.{instance_there}
+use Rattle.store_sound.proofs.operations.Slices.{get_there}
+use Rattle.store_sound.proofs.operations.StorePlaces.{not_empty}
+use Rattle.store_sound.proofs.operations.Windows.{WindowHas}
 use Rattle.store_sound.specs.Programs.Premises.{HasPremises}
 use Rattle.store_sound.specs.Regions.RegionWrites.{IsRegion}
 use Rattle.store_sound.proofs.regions.BaseRows.{none_stands}
@@ -63,7 +63,7 @@ use Rattle.library_sound.proofs.strings.GivenPointers.{reach_of}
 use Rattle.library_sound.proofs.strings.Trails.{still_told, told_here, goes_further}
 use Rattle.library_sound.proofs.fills.Targets.{within_stands, cut_has, room_told, literal_told, is_writable, after_has, touched_has, least_has}
 use Rattle.library_sound.proofs.fills.WriteCalls.{behind_behind, sink_told, Good, world_with, told_stop, written_good, value_of, given_at, argument_stands, reach_good, given_within, goes_given, given_into}
-use Rattle.store_sound.proofs.store.Windows.{WindowHas}
+use Rattle.store_sound.proofs.operations.Windows.{WindowHas}
 use Rattle.transfer_library_writes.specs.CopyWrites.{bytes_of_source, write_copy}
 use Rattle.transfer_library_writes.specs.declared.copied_bytes.CopiedBytes.{CopiedBytes}
 use Rattle.transfer_library_writes.specs.declared.copied_bytes.CopyWrite.{CopyWrite}

@@ -21,9 +21,9 @@ use Rattle.memory_model.specs.Memory.Tags.{tag_of}
 use Rattle.store_sound.specs.Concretization.SeenLabels.{as_set}
 use Rattle.store_sound.specs.Concretization.SoundMemory.{IsContentIn}
 use Rattle.store_sound.specs.Concretization.ValueMeaning.{Naming, StandsPointer, StandsContent}
-use Rattle.store_sound.proofs.store.Larger.{pointer_below, pointer_larger}
-use Rattle.store_sound.proofs.store.Frames.{IsAlike, pointer_moves}
-use Rattle.store_sound.proofs.store.Near.{IsNearValue, join_near, near_number_none}
+use Rattle.store_sound.proofs.operations.Larger.{pointer_below, pointer_larger}
+use Rattle.store_sound.proofs.operations.Frames.{IsAlike, pointer_moves}
+use Rattle.store_sound.proofs.operations.Near.{IsNearValue, join_near, near_number_none}
 
 -- ---- which cells own parts of pointers
 

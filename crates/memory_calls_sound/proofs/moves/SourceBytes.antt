@@ -34,13 +34,13 @@ use Rattle.store_sound.specs.Concretization.SeenLabels.{as_set}
 use Rattle.store_sound.specs.Concretization.SoundMemory.{IsContentIn}
 use Rattle.store_sound.specs.Concretization.ValueMeaning.{Naming}
 use Rattle.store_sound.specs.Concretization.RowMeaning.{MachineState, StandsFor}
-use Rattle.store_sound.specs.Store.Shapes.{AreShaped, IsShaped, SeesPadding, at_offset}
-use Rattle.store_sound.proofs.store.Classes.{class_above, class_small, class_number_back}
-use Rattle.store_sound.proofs.store.LoadSound.{instance_there}
-use Rattle.store_sound.proofs.store.Near.{value_at_near}
-use Rattle.store_sound.proofs.store.Selected.{place_selected, is_stray, counted_place, uncounted_place}
-use Rattle.store_sound.proofs.store.TagPlaces.{is_tagged}
-use Rattle.store_sound.proofs.store.Walks.{walk_keeps, walk_meets, turns_keep, turns_meet}
+use Rattle.store_sound.specs.Operations.Shapes.{AreShaped, IsShaped, SeesPadding, at_offset}
+use Rattle.store_sound.proofs.operations.Classes.{class_above, class_small, class_number_back}
+use Rattle.store_sound.proofs.operations.LoadSound.{instance_there}
+use Rattle.store_sound.proofs.operations.Near.{value_at_near}
+use Rattle.store_sound.proofs.operations.Selected.{place_selected, is_stray, counted_place, uncounted_place}
+use Rattle.store_sound.proofs.operations.TagPlaces.{is_tagged}
+use Rattle.store_sound.proofs.operations.Walks.{walk_keeps, walk_meets, turns_keep, turns_meet}
 use Rattle.memory_calls_sound.proofs.moves.ReadBytes.{IsOwnPart, tagged_part, untagged_part, IsRead, if_read, is_read, cell_keeps, cell_shows, IsNearRead, if_near, none_near, cell_near, padding_near}
 
 -- ---- further bytes leave what is known

@@ -5,7 +5,7 @@ use Rattle.std.proofs.lemmas.Bool.{cases_eq}
 use Rattle.value_domain.specs.declared.values.row_cells.Cell.{Cell}
 use Rattle.store_cells.specs.RowPositions.{cell_at}
 use Rattle.store_cells.specs.Walks.{walk, turns}
-use Rattle.store_sound.proofs.store.Only.{Only, Leaves}
+use Rattle.store_sound.proofs.operations.Only.{Only, Leaves}
 use Rattle.store_sound.proofs.regions.Layers.{only_turns}
 
 module _ {I : Type 0} where

@@ -29,14 +29,14 @@ use Rattle.store_sound.specs.Concretization.Matching.{Matched, Holds}
 use Rattle.store_sound.specs.Concretization.Places.{IsLeafPlace, OwnedByClass, IsClassPlace}
 use Rattle.store_sound.specs.Concretization.ValueMeaning.{Naming, StandsContent}
 use Rattle.store_sound.specs.Concretization.RowMeaning.{MachineState, IsLiveOf, StandsCell, StandsFor}
-use Rattle.store_sound.specs.Store.Shapes.{IsShaped, at_offset}
-use Rattle.store_sound.proofs.store.Classes.{class_above, class_size, class_small, class_number_back}
-use Rattle.store_sound.proofs.store.Larger.{value_below, content_larger}
-use Rattle.store_sound.proofs.store.Rereading.{reread}
-use Rattle.store_sound.proofs.store.Selected.{counted_place, uncounted_place}
-use Rattle.store_sound.proofs.store.Slices.{get_there}
-use Rattle.store_sound.proofs.store.StoreRows.{leaf_is, class_is}
-use Rattle.store_sound.proofs.store.StoreValues.{same_value}
+use Rattle.store_sound.specs.Operations.Shapes.{IsShaped, at_offset}
+use Rattle.store_sound.proofs.operations.Classes.{class_above, class_size, class_small, class_number_back}
+use Rattle.store_sound.proofs.operations.Larger.{value_below, content_larger}
+use Rattle.store_sound.proofs.operations.Rereading.{reread}
+use Rattle.store_sound.proofs.operations.Selected.{counted_place, uncounted_place}
+use Rattle.store_sound.proofs.operations.Slices.{get_there}
+use Rattle.store_sound.proofs.operations.StoreRows.{leaf_is, class_is}
+use Rattle.store_sound.proofs.operations.StoreValues.{same_value}
 use Rattle.store_sound.specs.Programs.Premises.{HasPremises}
 use Rattle.memory_calls_sound.proofs.reallocations.OldValues.{leaf_gives, cell_gives, base_gives}
 

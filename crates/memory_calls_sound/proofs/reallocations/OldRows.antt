@@ -20,9 +20,9 @@ use Rattle.store_cells.specs.NearValues.{near_number, near_value}
 use Rattle.store_cells.specs.FirstZeroWrites.{set_zeros}
 use Rattle.store_cells.specs.RowPositions.{leaf_position, class_position, zero_position, state_position, value_in, zero_in, state_in, cell_at, value_at, zero_at, state_at, near_state, put_state}
 use Rattle.store_cells.specs.Walks.{walk, turns}
-use Rattle.store_sound.proofs.store.Only.{only_more, only_leaves, cell_put}
-use Rattle.store_sound.proofs.store.StoreRows.{leaf_is}
-use Rattle.store_sound.proofs.store.StoreValues.{same_value, same_zero}
+use Rattle.store_sound.proofs.operations.Only.{only_more, only_leaves, cell_put}
+use Rattle.store_sound.proofs.operations.StoreRows.{leaf_is}
+use Rattle.store_sound.proofs.operations.StoreValues.{same_value, same_zero}
 use Rattle.memory_calls_sound.proofs.allocations.FreshRows.{IsHeapBase, cell_only, leaf_only, leaves_only, classes_only, values_only, zeros_only, state_only, zeros_are, size_is, zero_there, state_there, class_there}
 use Rattle.memory_calls_sound.proofs.reallocations.FreshTurns.{walk_over, turns_over}
 

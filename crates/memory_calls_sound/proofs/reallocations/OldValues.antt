@@ -22,10 +22,10 @@ use Rattle.store_objects.specs.LiveBases.{has_base}
 use Rattle.store_cells.specs.NearValues.{near_number}
 use Rattle.store_cells.specs.RowPositions.{leaf_position, class_position, value_at}
 use Rattle.store_cells.specs.ScalarTypes.{kind_of}
-use Rattle.store_sound.proofs.store.Classes.{is_same_class, class_size}
-use Rattle.store_sound.proofs.store.FreshValues.{type_near}
-use Rattle.store_sound.proofs.store.Near.{IsNearValue, value_at_near, join_near, near_number_from, near_number_none}
-use Rattle.store_sound.proofs.store.Walks.{walk_keeps, walk_meets}
+use Rattle.store_sound.proofs.operations.Classes.{is_same_class, class_size}
+use Rattle.store_sound.proofs.operations.FreshValues.{type_near}
+use Rattle.store_sound.proofs.operations.Near.{IsNearValue, value_at_near, join_near, near_number_from, near_number_none}
+use Rattle.store_sound.proofs.operations.Walks.{walk_keeps, walk_meets}
 
 module _ {I : Type 0} {l : LatticeOf I} (o : OrderLaws l) (n : IntegersOf I) (m : Model) (row : List (Cell I)) (class : Class) (signed : Bool) (P : values.Value I → Type 0) (up : (x y : values.Value I) → (value_lattice l).leq x y ≡ true → P x → P y) where
   if_keeps : (wanted : Bool) (found v : values.Value I) → P found → P (joined_if l wanted found v)

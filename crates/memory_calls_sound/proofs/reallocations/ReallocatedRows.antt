@@ -45,15 +45,15 @@ use Rattle.store_sound.specs.Concretization.SoundMemory.{storage_for, IsContentI
 use Rattle.store_sound.specs.Concretization.ValueMeaning.{Naming, StandsInto, StandsByLife, StandsPointer, StandsContent, StandsZero, StandsState}
 use Rattle.store_sound.specs.Concretization.RowMeaning.{array_of, array_bytes, IsLiveOf, StandsCell, StandsLeaf, StandsClass, StandsFor}
 use Rattle.store_sound.specs.Concretization.Coverage.{state_of}
-use Rattle.store_sound.proofs.store.Classes.{class_above}
-use Rattle.store_sound.proofs.store.Larger.{value_below, content_larger}
-use Rattle.store_sound.proofs.store.Near.{near_is, join_near}
-use Rattle.store_sound.proofs.store.Only.{Only}
-use Rattle.store_sound.proofs.store.Slices.{get_there}
-use Rattle.store_sound.proofs.store.StoreRows.{leaf_is, class_is, zero_is}
-use Rattle.store_sound.proofs.store.StoreValues.{same_value, same_zero}
-use Rattle.store_sound.proofs.store.StoreZeros.{zero_small, offset_near}
-use Rattle.store_sound.proofs.store.TouchedRest.{near_stands}
+use Rattle.store_sound.proofs.operations.Classes.{class_above}
+use Rattle.store_sound.proofs.operations.Larger.{value_below, content_larger}
+use Rattle.store_sound.proofs.operations.Near.{near_is, join_near}
+use Rattle.store_sound.proofs.operations.Only.{Only}
+use Rattle.store_sound.proofs.operations.Slices.{get_there}
+use Rattle.store_sound.proofs.operations.StoreRows.{leaf_is, class_is, zero_is}
+use Rattle.store_sound.proofs.operations.StoreValues.{same_value, same_zero}
+use Rattle.store_sound.proofs.operations.StoreZeros.{zero_small, offset_near}
+use Rattle.store_sound.proofs.operations.TouchedRest.{near_stands}
 use Rattle.store_sound.specs.Programs.Premises.{HasPremises}
 use Rattle.store_sound.proofs.regions.RegionArrays.{any_zero_stands}
 use Rattle.library_sound.specs.SoundSteps.{IsReached}

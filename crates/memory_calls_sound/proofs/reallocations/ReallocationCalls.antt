@@ -43,7 +43,7 @@ use Rattle.memory_model.specs.Effects.Worlds.{stops, World, Reply, goes, behind,
 use Rattle.semantics.specs.CfgMachine.FlowStates.{Standing, values_of}
 use Rattle.store_sound.specs.Concretization.ValueMeaning.{Naming, StandsScalar, StandsInto, StandsByLife, StandsPointer}
 use Rattle.store_cells.specs.AccessWindows.{last_offset}
-use Rattle.store_sound.proofs.store.TouchedRest.{near_stands}
+use Rattle.store_sound.proofs.operations.TouchedRest.{near_stands}
 use Rattle.store_sound.specs.Programs.Premises.{HasPremises}
 use Rattle.library_sound.specs.SoundSteps.{AreShort, IsReached, StepIsSound}
 use Rattle.library_sound.proofs.Admitted.{AreAdmitted, none_admitted, one_admitted, both_admitted}
@@ -72,9 +72,9 @@ use Rattle.transfer_instructions.specs.Instructions.Steps.{operate}
 use Rattle.memory_model.specs.Effects.ObjectEffects.{set_life}
 use Rattle.memory_model.specs.Effects.Touches.{is_allocated, storage_of, storage_at}
 use Rattle.store_sound.specs.Concretization.SoundMemory.{IsWithin, IsPointerIn}
-use Rattle.store_sound.proofs.store.Freed.{into_freed}
-use Rattle.store_sound.proofs.store.LoadSound.{instance_there}
-use Rattle.store_sound.proofs.store.Slices.{get_there}
+use Rattle.store_sound.proofs.operations.Freed.{into_freed}
+use Rattle.store_sound.proofs.operations.LoadSound.{instance_there}
+use Rattle.store_sound.proofs.operations.Slices.{get_there}
 use Rattle.memory_calls_sound.proofs.frees.ReleasedMemory.{IsReleased, none_released, one_released, others_live}
 use Rattle.memory_calls_sound.proofs.frees.FreedRows.{IsFreeing, freed_short}
 use Rattle.memory_calls_sound.proofs.frees.Releases.{misplaced, heap_there, rest_bases, rest_any}

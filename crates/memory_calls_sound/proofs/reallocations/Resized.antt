@@ -5,7 +5,7 @@ use Rattle.std.proofs.lemmas.Bool.{cases_lt}
 use Rattle.std.proofs.lemmas.List.{length-take, length-append}
 use Rattle.memory_model.specs.Memory.Bytes.{indeterminate, Byte}
 use Rattle.memory_model.specs.Effects.AllocationCalls.{untyped, resized}
-use Rattle.store_sound.proofs.store.Slices.{get_take, get_left, get_right}
+use Rattle.store_sound.proofs.operations.Slices.{get_take, get_left, get_right}
 use Rattle.memory_calls_sound.proofs.allocations.FreshCells.{untyped_long, untyped_byte}
 
 -- an indeterminate byte of no type

@@ -20,7 +20,7 @@ use Rattle.value_domain.specs.Values.Cells.{cell_lattice, cell_leq}
 use Rattle.domain_theorems.specs.Values.Consistency.{AreWords}
 use Rattle.domain_theorems.proofs.values.Parts.{pointer_parts, value_parts}
 use Rattle.domain_theorems.proofs.values.Ranges.{RangeBelow, bounds_monotone}
-use Rattle.store_monotone.specs.Store.TopCells.{top_number, top_value}
+use Rattle.store_monotone.specs.Operations.TopCells.{top_number, top_value}
 use Rattle.transfer_system.specs.declared.bounded_rows.cell_kinds.CellKind.{CellKind}
 use Rattle.transfer_system.specs.declared.bounded_rows.cell_kinds.CellKind.TheVariants as kind
 use Rattle.transfer_system.specs.declared.bounded_rows.own_cells.Reach.{Reach}

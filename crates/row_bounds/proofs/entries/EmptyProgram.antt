@@ -15,10 +15,10 @@ use Rattle.value_domain.specs.declared.values.row_cells.Cell.TheVariants.{Value,
 use Rattle.value_domain.specs.Values.Values.{value_lattice, value_order}
 use Rattle.value_domain.specs.Values.AllocStates.{state_lattice, state_order}
 use Rattle.value_domain.specs.Values.Cells.{cell_lattice, cell_leq}
-use Rattle.store_monotone.specs.Store.TopCells.{top_value, top_zero, top_state}
-use Rattle.store_monotone.specs.Store.TopRows.{top_base, top_bases, top_row}
-use Rattle.store_monotone.specs.Store.ConsistentRows.{IsConsistentCell, AreConsistent}
-use Rattle.store_monotone.proofs.store.Consistent.{even_bare}
+use Rattle.store_monotone.specs.Operations.TopCells.{top_value, top_zero, top_state}
+use Rattle.store_monotone.specs.Operations.TopRows.{top_base, top_bases, top_row}
+use Rattle.store_monotone.specs.Operations.ConsistentRows.{IsConsistentCell, AreConsistent}
+use Rattle.store_monotone.proofs.operations.Consistent.{even_bare}
 use Rattle.transfer_system.specs.StartRows.{empty_row}
 use Rattle.system_monotone.specs.FilledRows.{IsFilled, AreFilled}
 use Rattle.row_bounds.proofs.entries.EmptyRows.{least_base, least_bases, least_row, empty_is}

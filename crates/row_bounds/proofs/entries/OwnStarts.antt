@@ -20,7 +20,7 @@ use Rattle.value_domain.specs.Strings.FirstZeros.{the_end}
 use Rattle.value_domain.specs.declared.values.row_cells.Cell.{Cell}
 use Rattle.value_domain.specs.declared.values.row_cells.Cell.TheVariants.{Nothing}
 use Rattle.value_domain.specs.Values.Cells.{cell_lattice, cell_order}
-use Rattle.store_monotone.specs.Store.TopRows.{top_row}
+use Rattle.store_monotone.specs.Operations.TopRows.{top_row}
 use Rattle.transfer_system.specs.StartRows.{empty_row, start_objects, start_row}
 use Rattle.transfer_system.specs.BoundedRows.CellKinds.{all_kinds}
 use Rattle.transfer_system.specs.BoundedRows.EndLaws.{EndLaws}

@@ -28,10 +28,10 @@ use Rattle.domain_theorems.proofs.values.Parts.{value_below}
 use Rattle.store_cells.specs.CellReads.{whole_range}
 use Rattle.store_cells.specs.RowPositions.{cell_at, leaf_position, put_value}
 use Rattle.store_cells.specs.Walks.{walk}
-use Rattle.store_monotone.specs.Store.TopCells.{top_value, top_zero, top_state}
-use Rattle.store_monotone.specs.Store.TopRows.{top_base, top_bases, top_row}
-use Rattle.store_monotone.proofs.store.CellReads.{labels_top}
-use Rattle.store_monotone.proofs.store.Consistent.{even_bare}
+use Rattle.store_monotone.specs.Operations.TopCells.{top_value, top_zero, top_state}
+use Rattle.store_monotone.specs.Operations.TopRows.{top_base, top_bases, top_row}
+use Rattle.store_monotone.proofs.operations.CellReads.{labels_top}
+use Rattle.store_monotone.proofs.operations.Consistent.{even_bare}
 use Rattle.transfer_system.specs.StartRows.{put_parameter, start_parameter, parameter_at, start_parameters, started}
 use Rattle.system_monotone.specs.LaidOut.{IsLaidOut}
 use Rattle.system_monotone.specs.RisingRows.{ValuesRise}

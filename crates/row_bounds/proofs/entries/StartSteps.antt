@@ -27,12 +27,12 @@ use Rattle.store_objects.specs.ObjectLives.{clear}
 use Rattle.store.specs.Spelling.{spell}
 use Rattle.store.specs.Stores.{store}
 use Rattle.store_cells.specs.Walks.{walk}
-use Rattle.store_monotone.specs.Store.Placements.{EachFrom}
-use Rattle.store_monotone.specs.Store.StoreLaws.{AreBytes}
-use Rattle.store_monotone.specs.Store.TopRows.{top_row}
-use Rattle.store_monotone.proofs.store.ConsistentLives.{clear_even}
-use Rattle.store_monotone.proofs.store.OwnValues.{each_get}
-use Rattle.store_monotone.proofs.store.Together.{clears, stores, stores_consistent}
+use Rattle.store_monotone.specs.Operations.Placements.{EachFrom}
+use Rattle.store_monotone.specs.Operations.StoreLaws.{AreBytes}
+use Rattle.store_monotone.specs.Operations.TopRows.{top_row}
+use Rattle.store_monotone.proofs.operations.ConsistentLives.{clear_even}
+use Rattle.store_monotone.proofs.operations.OwnValues.{each_get}
+use Rattle.store_monotone.proofs.operations.Together.{clears, stores, stores_consistent}
 use Rattle.transfer_system.specs.StartRows.{static_class, pointer_into, static_value, store_static, start_store, store_behind, store_at, start_stores, start_value, start_object, object_behind, object_at, start_objects}
 use Rattle.system_monotone.specs.LaidOut.{IsLaidOut}
 use Rattle.system_monotone.specs.RisingRows.{LeftRise, ValuesRise}

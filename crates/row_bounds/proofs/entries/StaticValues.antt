@@ -33,10 +33,10 @@ use Rattle.domain_theorems.proofs.values.Ranges.{RangeBelow}
 use Rattle.store_cells.specs.ByteWrites.{null_pointer}
 use Rattle.store_objects.specs.LiveBases.{most_bases, only_base}
 use Rattle.store_cells.specs.NearValues.{is_near, near_part, near_number, near_value}
-use Rattle.store_monotone.specs.Store.TopCells.{top_number, top_value}
-use Rattle.store_monotone.proofs.store.AddedRanges.{below_of_bounds}
-use Rattle.store_monotone.proofs.store.Consistent.{even_bare, from_some}
-use Rattle.store_monotone.proofs.store.NearCells.{near_pointer_is, near_value_is}
+use Rattle.store_monotone.specs.Operations.TopCells.{top_number, top_value}
+use Rattle.store_monotone.proofs.operations.AddedRanges.{below_of_bounds}
+use Rattle.store_monotone.proofs.operations.Consistent.{even_bare, from_some}
+use Rattle.store_monotone.proofs.operations.NearCells.{near_pointer_is, near_value_is}
 use Rattle.transfer_system.specs.StartRows.{same_object, with_size, base_in, pointer_into, static_pointer, static_value}
 use Rattle.system_monotone.specs.LaidOut.{IsLaidOut}
 use Rattle.system_monotone.specs.RisingRows.{PointersRise, ValuesRise}

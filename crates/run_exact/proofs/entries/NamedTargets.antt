@@ -15,7 +15,7 @@ use Rattle.memory_model.specs.Effects.Worlds.{Reply, goes, stops}
 use Rattle.lower_templates.specs.Views.ProgramViews.{FlowView, initial, flow_view}
 use Rattle.semantics.specs.CfgMachine.FlowStates.{Standing, running}
 use Rattle.semantics.specs.CfgMachine.FlowStarts.{name_objects, name_parameters, start_names, first_standing, begun_by, flow_begin}
-use Rattle.store_sound.proofs.store.Slices.{get_map}
+use Rattle.store_sound.proofs.operations.Slices.{get_map}
 use Rattle.entry_sound.proofs.memory.FirstNames.{objects_there}
 
 -- bases name the objects and literals that address constants name

@@ -30,17 +30,17 @@ use Rattle.semantics.specs.CfgMachine.FlowStates.{Standing, running}
 use Rattle.semantics.specs.CfgMachine.FlowStarts.{first_standing, begun_by}
 use Rattle.store_sound.specs.Concretization.RowMeaning.{MachineState}
 use Rattle.store_sound.specs.Concretization.ValueMeaning.{Naming}
-use Rattle.store_sound.proofs.store.StoreLeaves.{live_ended}
-use Rattle.store_sound.proofs.store.StoreRows.{leaf_is}
-use Rattle.store_sound.proofs.store.StoreValues.{same_value}
+use Rattle.store_sound.proofs.operations.StoreLeaves.{live_ended}
+use Rattle.store_sound.proofs.operations.StoreRows.{leaf_is}
+use Rattle.store_sound.proofs.operations.StoreValues.{same_value}
 use Rattle.store_sound.specs.Programs.Premises.{HasPremises}
 use Rattle.entry_sound.specs.Starts.StartedRows.{HasStart, IsBegun, HasParameter, IsBeginning}
 use Rattle.entry_sound.proofs.starts.StartedRows.{starts, one_kept, first_of, all_kept, base_apart, empty_long}
 use Rattle.transfer_exact.specs.Values.ExactNumbers.{ExactLaws}
 use Rattle.transfer_exact.specs.Values.SingleRows.{IsPlainProgram, TellsLeaf, TellsState}
 use Rattle.transfer_exact.proofs.places.OneLeaf.{place_is}
-use Rattle.transfer_exact.specs.Store.TypedAccesses.{HasObjects}
-use Rattle.transfer_exact.proofs.store.ToldStores.{base_fits}
+use Rattle.transfer_exact.specs.Accesses.TypedAccesses.{HasObjects}
+use Rattle.transfer_exact.proofs.accesses.ToldStores.{base_fits}
 use Rattle.transfer_exact.specs.Spelling.CopyLaws.{StartIsTold}
 use Rattle.transfer_exact.proofs.spelling.ToldLiterals.{literal_leaf}
 use Rattle.run_exact.proofs.entries.NamedTargets.{NamesTargets, targets_named}

@@ -48,13 +48,13 @@ use Rattle.store_sound.specs.Concretization.Places.{IsPlaceOf}
 use Rattle.store_sound.specs.Concretization.RowMeaning.{MachineState}
 use Rattle.store_sound.specs.Concretization.SoundMemory.{IsScalarIn, IsInstanceOf, IsMemoryOf, AreEntered, storage_for}
 use Rattle.store_sound.specs.Concretization.ValueMeaning.{Naming}
-use Rattle.store_sound.proofs.store.Classes.{class_above}
-use Rattle.store_sound.proofs.store.Frames.{IsAlike}
-use Rattle.store_sound.proofs.store.LoadSound.{instance_there}
-use Rattle.store_sound.proofs.store.MachineStores.{set_is, scalar_length}
-use Rattle.store_sound.proofs.store.Slices.{get_there, get_set_same, get_map}
-use Rattle.store_sound.proofs.store.StoreRows.{Fits}
-use Rattle.store_sound.proofs.store.TagPlaces.{IsTagged, is_tagged}
+use Rattle.store_sound.proofs.operations.Classes.{class_above}
+use Rattle.store_sound.proofs.operations.Frames.{IsAlike}
+use Rattle.store_sound.proofs.operations.LoadSound.{instance_there}
+use Rattle.store_sound.proofs.operations.MachineStores.{set_is, scalar_length}
+use Rattle.store_sound.proofs.operations.Slices.{get_there, get_set_same, get_map}
+use Rattle.store_sound.proofs.operations.StoreRows.{Fits}
+use Rattle.store_sound.proofs.operations.TagPlaces.{IsTagged, is_tagged}
 use Rattle.store_sound.specs.Programs.Premises.{HasPremises}
 use Rattle.store_sound.proofs.regions.ContentRegions as regions
 use Rattle.transfer_sound.proofs.values.NearScalars.{IsNearScalar, near_offset, near_distance}
@@ -75,10 +75,10 @@ use Rattle.transfer_exact.proofs.places.OneLeaf.{same_size, owned, place_is}
 use Rattle.transfer_exact.proofs.places.OneStore.{SetsCell, store_sets}
 use Rattle.transfer_exact.proofs.places.OneTouch.{one_window}
 use Rattle.transfer_exact.proofs.places.Written.{IsWritten}
-use Rattle.transfer_exact.specs.Store.TypedAccesses.{HasObjects}
-use Rattle.transfer_exact.proofs.store.StoredRows.{FitsLeaf, stored_leaves}
-use Rattle.transfer_exact.proofs.store.ToldClears.{leaf_zero, zero_leaf}
-use Rattle.transfer_exact.proofs.store.ToldStores.{fit_of, some_value, base_fits}
+use Rattle.transfer_exact.specs.Accesses.TypedAccesses.{HasObjects}
+use Rattle.transfer_exact.proofs.accesses.StoredRows.{FitsLeaf, stored_leaves}
+use Rattle.transfer_exact.proofs.accesses.ToldClears.{leaf_zero, zero_leaf}
+use Rattle.transfer_exact.proofs.accesses.ToldStores.{fit_of, some_value, base_fits}
 use Rattle.transfer_exact.proofs.spelling.SpelledLeaves.{spelled_leaves}
 use Rattle.transfer_exact.proofs.spelling.SpelledRows.{spelled_within}
 use Rattle.run_exact.proofs.entries.NamedTargets.{NamesTargets}

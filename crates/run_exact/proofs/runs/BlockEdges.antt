@@ -11,7 +11,7 @@ use Rattle.cfg.specs.declared.flow_edges.Edge.{Edge}
 use Rattle.cfg.specs.declared.machine_instructions.Instruction.{Instruction}
 use Rattle.cfg.specs.declared.programs.Flow.{Flow}
 use Rattle.diagnose.specs.Diagnostics.AdmittedRules.{instructions_in, instructions_of}
-use Rattle.store_sound.proofs.store.Slices.{get_drop}
+use Rattle.store_sound.proofs.operations.Slices.{get_drop}
 use Rattle.store_sound.proofs.programs.ShapedBases.{all_at}
 use Rattle.transfer_sound.proofs.induction.Blocks.{block_facts, drop_more}
 use Rattle.transfer_sound.proofs.edges.TakenEdges.{FitsLead, body_led, led_fit}

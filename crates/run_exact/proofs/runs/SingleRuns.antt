@@ -53,7 +53,7 @@ use Rattle.struct_copies_sound.specs.Structs.StructTables.{HasStructs}
 use Rattle.analysis_sound.specs.Programs.OpenSteps.{SpellsOverCharacters}
 use Rattle.transfer_sound.specs.Edges.EdgeSteps.{TestsAreSound}
 use Rattle.transfer_exact.specs.Values.SingleSteps.{IsDefined}
-use Rattle.transfer_exact.specs.Store.TypedAccesses.{HasObjects}
+use Rattle.transfer_exact.specs.Accesses.TypedAccesses.{HasObjects}
 use Rattle.transfer_exact.specs.Edges.WayLaws.{FitsWay, IsWay, TestsAreTold}
 use Rattle.transfer_exact.specs.Values.SingleLaws.{HasRight}
 use Rattle.run_exact.specs.Runs.SingleRuns.{SwitchesAreApart, IsTypedStep, HasRightOperands, IsNeverStuckAlone, IsSingleProgram, IsSingleRun, IsViolatedAlone, SingleLaws, AdmitOnlyRun, MapsAdmitOnlyRun}

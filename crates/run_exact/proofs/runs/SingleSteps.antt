@@ -24,7 +24,7 @@ use Rattle.analysis_sound.specs.Programs.OpenSteps.{SpellsOverCharacters}
 use Rattle.transfer_exact.specs.Values.SingleLaws.{HasRight}
 use Rattle.transfer_exact.specs.Values.SingleRows.{IsPlainProgram, TellsState}
 use Rattle.transfer_exact.specs.Values.SingleSteps.{IsDefined, StepIsTold}
-use Rattle.transfer_exact.specs.Store.TypedAccesses.{HasObjects}
+use Rattle.transfer_exact.specs.Accesses.TypedAccesses.{HasObjects}
 use Rattle.transfer_exact.specs.Edges.WayLaws.{IsWay}
 use Rattle.run_exact.specs.Runs.SingleRuns.{IsPlainOperation, IsTypedStep, SingleLaws}
 

@@ -20,9 +20,9 @@ use Rattle.memory_model.specs.Effects.StructCopies.{overlap, same_spot, fits_lea
 use Rattle.memory_model.specs.Effects.Touches.{Spot}
 use Rattle.store_sound.specs.Concretization.Places.{OwnedByLeaf}
 use Rattle.store_sound.specs.Concretization.SoundMemory.{IsContentIn}
-use Rattle.store_sound.proofs.store.Classes.{is_same_class}
-use Rattle.store_sound.proofs.store.Reading.{region_at}
-use Rattle.store_sound.proofs.store.TagPlaces.{is_tagged}
+use Rattle.store_sound.proofs.operations.Classes.{is_same_class}
+use Rattle.store_sound.proofs.operations.Reading.{region_at}
+use Rattle.store_sound.proofs.operations.TagPlaces.{is_tagged}
 use Rattle.struct_copies_sound.proofs.leaves.Structs.{owned_at}
 use Rattle.struct_copies_sound.specs.Leaves.StructLeaves.{IsStruct}
 use Rattle.struct_copies_sound.specs.Structs.StructTables.{IsListed}

@@ -51,9 +51,9 @@ use Rattle.lower_templates.specs.Views.ProgramViews.{flow_view}
 use Rattle.store_sound.specs.Concretization.Coverage.{state_of}
 use Rattle.store_sound.specs.Concretization.SoundMemory.{IsInstanceOf, IsMemoryOf, IsPointerIn, IsWithin}
 use Rattle.store_sound.specs.Concretization.ValueMeaning.{Naming}
-use Rattle.store_sound.proofs.store.Frames.{pointer_in_moves}
-use Rattle.store_sound.proofs.store.LoadSound.{instance_there}
-use Rattle.store_sound.proofs.store.Slices.{get_there}
+use Rattle.store_sound.proofs.operations.Frames.{pointer_in_moves}
+use Rattle.store_sound.proofs.operations.LoadSound.{instance_there}
+use Rattle.store_sound.proofs.operations.Slices.{get_there}
 use Rattle.store_sound.specs.Programs.Premises.{HasPremises}
 use Rattle.store_sound.proofs.regions.Regions.{alike_region}
 use Rattle.store_sound.specs.Regions.RegionWrites.{IsRegion}
@@ -74,7 +74,7 @@ use Rattle.transfer_exact.proofs.values.Violated.{AreViolated, none_violated, sa
 use Rattle.transfer_exact.proofs.places.OneBase.{not_empty}
 use Rattle.transfer_exact.proofs.places.OneTouch.{TouchesNothing}
 use Rattle.transfer_exact.proofs.places.Touching.{union_violated}
-use Rattle.transfer_exact.specs.Store.TypedAccesses.{HasObjects}
+use Rattle.transfer_exact.specs.Accesses.TypedAccesses.{HasObjects}
 use Rattle.transfer_exact.specs.Spelling.TypedCopies.{IsAtStruct, PointsToStruct, AreOneOrApart, IsTypedCopy}
 use Rattle.run_exact.proofs.structs.CopiedRows.{IsSide}
 use Rattle.run_exact.proofs.structs.CopiedStates.{Came, copied_state}

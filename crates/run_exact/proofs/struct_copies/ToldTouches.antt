@@ -23,7 +23,7 @@ use Rattle.memory_model.specs.Effects.Worlds.{goes, stopped_by}
 use Rattle.semantics.specs.CfgMachine.FlowStates.{Standing}
 use Rattle.store_sound.specs.Concretization.SoundMemory.{IsPointerIn, IsWithin, IsInstanceOf, storage_for}
 use Rattle.store_sound.specs.Concretization.ValueMeaning.{Naming}
-use Rattle.store_sound.proofs.store.LoadSound.{base_there, instance_there}
+use Rattle.store_sound.proofs.operations.LoadSound.{base_there, instance_there}
 use Rattle.transfer_sound.specs.Values.SoundSteps.{IsReached}
 use Rattle.transfer_exact.specs.Values.SingleRows.{IsPlainProgram}
 use Rattle.transfer_exact.specs.Values.SingleValues.{IsNowhere, IsIntoOne, TellsByLife, TellsPointer}

@@ -23,12 +23,12 @@ use Rattle.store_cells.specs.NearValues.{near_value}
 use Rattle.store_cells.specs.RowPositions.{leaf_position, cell_at, value_at, put_value}
 use Rattle.memory_model.specs.Effects.Touches.{is_allocated}
 use Rattle.store_sound.specs.Concretization.SoundMemory.{storage_for}
-use Rattle.store_sound.specs.Store.Gives.{Gives}
-use Rattle.store_sound.proofs.store.Classes.{class_above}
-use Rattle.store_sound.proofs.store.Only.{cell_put}
-use Rattle.store_sound.proofs.store.Slices.{get_set_other}
-use Rattle.store_sound.proofs.store.StoreRows.{Fits, leaf_is}
-use Rattle.store_sound.proofs.store.StoreValues.{same_value}
+use Rattle.store_sound.specs.Operations.Gives.{Gives}
+use Rattle.store_sound.proofs.operations.Classes.{class_above}
+use Rattle.store_sound.proofs.operations.Only.{cell_put}
+use Rattle.store_sound.proofs.operations.Slices.{get_set_other}
+use Rattle.store_sound.proofs.operations.StoreRows.{Fits, leaf_is}
+use Rattle.store_sound.proofs.operations.StoreValues.{same_value}
 use Rattle.store_sound.specs.Programs.Premises.{HasPremises}
 use Rattle.store_struct_leaves.specs.CopyPlaces.{span_of_leaf}
 use Rattle.store_struct_leaves.specs.LeafCopies.{read_leaf, write_leaf}
@@ -39,7 +39,7 @@ use Rattle.struct_copies_sound.proofs.batches.Batches.{batch_gives, done, batche
 use Rattle.transfer_exact.specs.Values.SingleRows.{IsPlainProgram}
 use Rattle.transfer_exact.proofs.places.OneInstance.{one_instance}
 use Rattle.transfer_exact.proofs.places.OneLeaf.{owned}
-use Rattle.transfer_exact.specs.Store.TypedAccesses.{HasObjects}
+use Rattle.transfer_exact.specs.Accesses.TypedAccesses.{HasObjects}
 use Rattle.transfer_exact.specs.Spelling.TypedCopies.{HasOwnLeaf, IsAtStruct}
 use Rattle.run_exact.proofs.structs.OneSpans.{IsOneWindow, leaf_window}
 use Rattle.run_exact.proofs.structs.OneCopies.{reads_cell, sets_cell}

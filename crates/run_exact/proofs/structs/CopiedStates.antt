@@ -22,11 +22,11 @@ use Rattle.store_sound.specs.Concretization.Matching.{Fits, Matched}
 use Rattle.store_sound.specs.Concretization.Places.{IsPlaceOf}
 use Rattle.store_sound.specs.Concretization.RowMeaning.{MachineState}
 use Rattle.store_sound.specs.Concretization.SoundMemory.{IsContentIn}
-use Rattle.store_sound.proofs.store.Classes.{class_above}
-use Rattle.store_sound.proofs.store.Near.{value_at_near}
-use Rattle.store_sound.proofs.store.Slices.{get_there}
-use Rattle.store_sound.proofs.store.StoreRows.{leaf_is}
-use Rattle.store_sound.proofs.store.StoreValues.{same_value}
+use Rattle.store_sound.proofs.operations.Classes.{class_above}
+use Rattle.store_sound.proofs.operations.Near.{value_at_near}
+use Rattle.store_sound.proofs.operations.Slices.{get_there}
+use Rattle.store_sound.proofs.operations.StoreRows.{leaf_is}
+use Rattle.store_sound.proofs.operations.StoreValues.{same_value}
 use Rattle.store_sound.specs.Programs.Premises.{HasPremises}
 use Rattle.store_sound.specs.Regions.RegionWrites.{IsRegion}
 use Rattle.struct_copies_sound.proofs.leaves.Structs.{owned_at}
@@ -36,8 +36,8 @@ use Rattle.transfer_exact.specs.Values.ExactNumbers.{ExactLaws}
 use Rattle.transfer_exact.specs.Values.SingleRows.{IsPlainProgram, TellsLeaf, TellsState}
 use Rattle.transfer_exact.specs.Values.SingleValues.{TellsHeld}
 use Rattle.transfer_exact.proofs.places.OneLeaf.{owned, place_is}
-use Rattle.transfer_exact.specs.Store.TypedAccesses.{HasObjects}
-use Rattle.transfer_exact.proofs.store.Moves.{held_moves, holds_moves, change_tells}
+use Rattle.transfer_exact.specs.Accesses.TypedAccesses.{HasObjects}
+use Rattle.transfer_exact.proofs.accesses.Moves.{held_moves, holds_moves, change_tells}
 use Rattle.transfer_exact.specs.Spelling.TypedCopies.{HasOwnLeaf}
 use Rattle.run_exact.proofs.structs.CopiedRows as rows
 use Rattle.run_exact.proofs.structs.CopiedRows.{IsSide, leaves, base_fits, inside, own}

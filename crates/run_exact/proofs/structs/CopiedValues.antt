@@ -22,9 +22,9 @@ use Rattle.memory_model.specs.Memory.ScalarSizes.{class_bytes, is_pointer}
 use Rattle.memory_model.specs.Memory.Scalars.{Scalar, integer, pointer}
 use Rattle.store_sound.specs.Concretization.Matching.{Matched, number_in}
 use Rattle.store_sound.specs.Concretization.SoundMemory.{IsContentIn}
-use Rattle.store_sound.proofs.store.Classes.{class_above, class_size}
-use Rattle.store_sound.proofs.store.Near.{IsNearValue, near_is}
-use Rattle.store_sound.proofs.store.Rereading.{reread}
+use Rattle.store_sound.proofs.operations.Classes.{class_above, class_size}
+use Rattle.store_sound.proofs.operations.Near.{IsNearValue, near_is}
+use Rattle.store_sound.proofs.operations.Rereading.{reread}
 use Rattle.transfer_sound.proofs.values.NearScalars.{IsNearNumber}
 use Rattle.transfer_sound.proofs.values.TypeRanges.{type_near}
 use Rattle.transfer_exact.specs.Values.ExactNumbers.{ExactLaws}

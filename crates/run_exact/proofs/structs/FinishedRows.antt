@@ -24,7 +24,7 @@ use Rattle.struct_copies_sound.proofs.batches.FinishWrites.{zeros_only, pad_zero
 use Rattle.transfer_exact.specs.Values.SingleRows.{IsPlainProgram}
 use Rattle.transfer_exact.proofs.places.OneTurn.{walk_idle, walk_once}
 use Rattle.transfer_exact.proofs.places.OneBase.{has_own, has_no_other}
-use Rattle.transfer_exact.specs.Store.TypedAccesses.{HasObjects}
+use Rattle.transfer_exact.specs.Accesses.TypedAccesses.{HasObjects}
 use Rattle.run_exact.proofs.structs.PlainPadding.{padded, none_met}
 use Rattle.run_exact.proofs.structs.CopiedRows.{IsSide, leaves, base_fits, place_is, route, to_place, moved, all_copied}
 

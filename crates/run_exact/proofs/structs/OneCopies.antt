@@ -18,8 +18,8 @@ use Rattle.store_cells.specs.NearValues.{near_value}
 use Rattle.store_cells.specs.ScalarTypes.{kind_of}
 use Rattle.store_cells.specs.Walks.{walk}
 use Rattle.store_cells.specs.RowPositions.{leaf_position, value_at, put_value, write_value}
-use Rattle.store_sound.proofs.store.Classes.{same_class_is, count_none}
-use Rattle.store_sound.proofs.store.Walks.{walk_meets}
+use Rattle.store_sound.proofs.operations.Classes.{same_class_is, count_none}
+use Rattle.store_sound.proofs.operations.Walks.{walk_meets}
 use Rattle.store_struct_leaves.specs.CopyPlaces.{is_reached, is_touched, reached_count}
 use Rattle.store_struct_leaves.specs.LeafCopies.{reaches_class, has_own_place, has_place, has_place_or, any_place, is_strong, own_leaf, read_own_leaf, read_class_cell, read_own, other_leaf, read_other_leaf, read_class_bytes, read_padding, read_bytes, read_others, read_base, read_base_if, read_from, read_leaf, write_leaf_at, write_own_leaf, write_class_cell, write_leaves, write_own, write_other_at, write_other_leaf, write_class_bytes, write_bytes, write_other_leaves, write_others, write_base, write_base_if, write_to, write_all, write_leaf}
 use Rattle.store_struct_leaves.specs.declared.copy_places.Span.{Span}

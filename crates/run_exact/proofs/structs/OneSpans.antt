@@ -14,8 +14,8 @@ use Rattle.store_cells.specs.AccessWindows.{window_between}
 use Rattle.store.specs.LeafSelection.{has_place_in, is_selected, meets_padding}
 use Rattle.store_cells.specs.RowPositions.{capped}
 use Rattle.memory_model.specs.Memory.ScalarSizes.{class_bytes}
-use Rattle.store_sound.proofs.store.Classes.{class_above, is_same_class}
-use Rattle.store_sound.proofs.store.Selected.{single_in}
+use Rattle.store_sound.proofs.operations.Classes.{class_above, is_same_class}
+use Rattle.store_sound.proofs.operations.Selected.{single_in}
 use Rattle.store_struct_leaves.specs.CopyPlaces.{any_below, span_of_leaf, is_apart, all_in_one, span_joined, span_raised, leaf_raised, span_window, joined_meet, meets, is_reached, is_touched}
 use Rattle.store_struct_leaves.specs.LeafCopies.{window_padded, any_padded, span_meets_padding}
 use Rattle.store_struct_leaves.specs.declared.copy_places.Span.{Span}

@@ -18,8 +18,8 @@ use Rattle.store_cells.specs.RowPositions.{capped}
 use Rattle.store_cells.specs.ScalarTypes as table
 use Rattle.store_cells.specs.Walks.{turns}
 use Rattle.memory_model.specs.Memory.ScalarSizes.{class_bytes}
-use Rattle.store_sound.proofs.store.Classes.{class_above}
-use Rattle.store_sound.proofs.store.Walks.{turns_meet}
+use Rattle.store_sound.proofs.operations.Classes.{class_above}
+use Rattle.store_sound.proofs.operations.Walks.{turns_meet}
 use Rattle.store_struct_leaves.specs.CopyPlaces.{any_below}
 use Rattle.store_structs.specs.LeafNumbers.{struct_leaf}
 use Rattle.store_structs.specs.PaddingWrites.{Padded, covered_by, covered_leaf, leaf_bytes, is_padded_in, has_padding_in, padding_meets, place_of, place_padded, meets_leaf}

@@ -39,8 +39,8 @@ use Rattle.transfer_sound.specs.Induction.SoundEnds.{IsDoneIn, StepsGoOnSoundly,
 use Rattle.transfer_sound.specs.Induction.Covering.{HasTypedRuns, Admits}
 use Rattle.transfer_exact.specs.Values.SingleLaws.{HasRight, IsPlainCall, ValueStepsAreTold, PointerStepsAreTold, CallsAreTold}
 use Rattle.transfer_exact.specs.Values.SingleRows.{IsPlainProgram, TellsState}
-use Rattle.transfer_exact.specs.Store.TypedAccesses.{HasObjects, IsTyped}
-use Rattle.transfer_exact.specs.Store.StoreLaws.{LoadsAreTold, StoresAreTold, EntersAreTold, LeavesAreTold, ForgetsAreTold, ClearsAreTold}
+use Rattle.transfer_exact.specs.Accesses.TypedAccesses.{HasObjects, IsTyped}
+use Rattle.transfer_exact.specs.Accesses.StoreLaws.{LoadsAreTold, StoresAreTold, EntersAreTold, LeavesAreTold, ForgetsAreTold, ClearsAreTold}
 use Rattle.transfer_exact.specs.Spelling.TypedCopies.{IsTypedCopy}
 use Rattle.transfer_exact.specs.Spelling.CopyLaws.{SpellsAreTold, CopiesAreTold}
 use Rattle.transfer_exact.specs.Edges.WayLaws.{WaysAreTold, TestsAreTold}

@@ -10,7 +10,7 @@ use Rattle.memory_model.specs.Memory.Scalars.{Scalar, integer, pointer}
 use Rattle.memory_model.specs.Effects.Worlds.{World, Reply, goes, stops, behind}
 use Rattle.memory_model.specs.Effects.Accesses.{load, store}
 use Rattle.memory_model.specs.Effects.StructCopies.{copy_struct}
-use Rattle.store_sound.proofs.store.MachineLoads.{load_goes}
+use Rattle.store_sound.proofs.operations.MachineLoads.{load_goes}
 use Rattle.semantics.specs.SourceMachine.Operations as op
 use Rattle.semantics.specs.SourceMachine.Operations.{size_of, leaves, load_over, load_under, store_over, perform}
 use Rattle.source_items.specs.Operations.GoingReplies.{NotStuck}

@@ -15,8 +15,8 @@ use Rattle.memory_model.specs.Memory.Numbers.{Labelled, unsigned_of, signed_of, 
 use Rattle.memory_model.specs.Memory.Scalars.{Scalar, integer}
 use Rattle.memory_model.specs.Effects.Accesses.{numbers_in, joined_labels, integer_in, scalar_in}
 use Rattle.domain_theorems.specs.Intervals.Kit.{in_type_between}
-use Rattle.store_sound.proofs.store.Reading.{numbers_length, numbers_at}
-use Rattle.store_sound.proofs.store.Rereading.{unsigned_below, halves}
+use Rattle.store_sound.proofs.operations.Reading.{numbers_length, numbers_at}
+use Rattle.store_sound.proofs.operations.Rereading.{unsigned_below, halves}
 use Rattle.source_preservation.specs.ValueTyping.ProperMemory.{IsProper}
 
 -- contents of proper memory, one by one

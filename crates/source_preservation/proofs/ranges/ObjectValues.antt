@@ -17,9 +17,9 @@ use Rattle.memory_model.specs.Effects.Worlds.{World, goes}
 use Rattle.memory_model.specs.Effects.ScalarBytes.{region, contents}
 use Rattle.memory_model.specs.Effects.Accesses.{class_in, numbers_in, integer_in, pointer_in, pointer_scalar, scalar_in, load}
 use Rattle.memory_model.specs.Effects.Tests.{object, object_bytes, side_scalar}
-use Rattle.store_sound.proofs.store.Slices.{get_map}
-use Rattle.store_sound.proofs.store.Reading.{region_at}
-use Rattle.store_sound.proofs.store.MachineLoads.{HasRead, load_goes}
+use Rattle.store_sound.proofs.operations.Slices.{get_map}
+use Rattle.store_sound.proofs.operations.Reading.{region_at}
+use Rattle.store_sound.proofs.operations.MachineLoads.{HasRead, load_goes}
 use Rattle.source_preservation.specs.ValueTyping.Marks.{IsNumber, IsPointer}
 use Rattle.source_preservation.specs.ValueTyping.ProperMemory.{IsProper, IsProperMemory}
 use Rattle.source_preservation.specs.ValueTyping.MarkOperations.{IsKind}

@@ -13,8 +13,8 @@ use Rattle.memory_model.specs.Memory.Numbers.{Labelled, unsigned_of, number_of}
 use Rattle.memory_model.specs.Memory.Scalars.{integer, pointer}
 use Rattle.memory_model.specs.Effects.ScalarBytes.{number_bytes, parts_from, pointer_bytes, bits_in}
 use Rattle.memory_model.specs.Effects.Accesses.{numbers_in, joined_labels, integer_in, same_pointer, are_parts, are_zeros, scalar_in}
-use Rattle.store_sound.proofs.store.Fresh.{wrap_bits}
-use Rattle.store_sound.proofs.store.Rereading.{wrapped_signed, wrapped_unsigned, halves}
+use Rattle.store_sound.proofs.operations.Fresh.{wrap_bits}
+use Rattle.store_sound.proofs.operations.Rereading.{wrapped_signed, wrapped_unsigned, halves}
 use Rattle.source_preservation.proofs.ranges.TypeRanges.{wrapped_own}
 
 -- ---- numbers

@@ -21,10 +21,10 @@ use Rattle.memory_model.specs.Effects.Touches.{Spot, touched, is_allocated, stor
 use Rattle.memory_model.specs.Effects.Accesses.{class_in, scalar_in, stored_bytes, stored, may_store, store_at, store_through, store, load}
 use Rattle.memory_model.specs.Effects.Tests.{object, side_scalar, scalar_size}
 use Rattle.semantics.specs.SourceMachine.SourceStates.{instance_of}
-use Rattle.store_sound.proofs.store.Slices.{get_set_same}
-use Rattle.store_sound.proofs.store.Reading.{behind_goes, touched_goes}
-use Rattle.store_sound.proofs.store.MachineLoads.{HasRead, load_goes}
-use Rattle.store_sound.proofs.store.MachineStores.{scalar_length, set_is, instance_in, store_spot}
+use Rattle.store_sound.proofs.operations.Slices.{get_set_same}
+use Rattle.store_sound.proofs.operations.Reading.{behind_goes, touched_goes}
+use Rattle.store_sound.proofs.operations.MachineLoads.{HasRead, load_goes}
+use Rattle.store_sound.proofs.operations.MachineStores.{scalar_length, set_is, instance_in, store_spot}
 use Rattle.source_preservation.specs.ValueTyping.Marks.{IsWhole, IsValue, Has, mark_of}
 use Rattle.source_preservation.specs.ValueTyping.MarkOperations.{IsScalar}
 use Rattle.source_preservation.proofs.ranges.ReadBack.{number_back, pointer_back}

@@ -12,7 +12,7 @@ use Rattle.cfg.specs.ModelKinds as flow
 use Rattle.store.specs.LeafSelection.{bytes_below}
 use Rattle.store_cells.specs.RowPositions.{capped}
 use Rattle.store_cells.specs.Walks.{turns}
-use Rattle.store_monotone.proofs.store.Loads.{some_bytes}
+use Rattle.store_monotone.proofs.operations.Loads.{some_bytes}
 use Rattle.store_monotone.proofs.shapes.LeafBytes.{Covers, same_bytes, leaf_step}
 use Rattle.store_structs.specs.LeafNumbers.{folded_member, struct_leaf}
 use Rattle.store_structs.specs.PaddingWrites.{Padded, covered_by, covered_leaf, leaf_bytes}

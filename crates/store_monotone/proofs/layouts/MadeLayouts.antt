@@ -13,7 +13,7 @@ use Rattle.c_layout.specs.Types.{Ty, Int, Pointer, Array, Struct, Void}
 use Rattle.cfg.specs.BaseShapes.{is_extent}
 use Rattle.store_cells.specs.RowPositions.{capped}
 use Rattle.store_structs.specs.LeafCounts.{bytes_in}
-use Rattle.store_monotone.proofs.store.Loads.{some_bytes}
+use Rattle.store_monotone.proofs.operations.Loads.{some_bytes}
 use Rattle.store_monotone.proofs.shapes.LeafBytes.{same_bytes}
 use Rattle.store_structs.specs.LaidApart.{has_class_bytes, is_member_in, are_members_in, is_laid_apart}
 use Rattle.store_monotone.specs.Layouts.MadeLayouts.{Declared, all_added, layout_of, is_declarable, are_declarable}

@@ -10,8 +10,8 @@ use Rattle.store_cells.specs.Walks.{walk}
 use Rattle.c_layout.specs.Models.{is_model}
 use Rattle.cfg.specs.ModelKinds.{class_bytes}
 use Rattle.store.specs.LeafSelection.{bytes_below, covered_more}
-use Rattle.store_monotone.proofs.store.Loads.{some_bytes}
-use Rattle.store_monotone.proofs.store.Regular.{IsByByte}
+use Rattle.store_monotone.proofs.operations.Loads.{some_bytes}
+use Rattle.store_monotone.proofs.operations.Regular.{IsByByte}
 use Rattle.store_monotone.proofs.shapes.LeafBytes.{Covers, same_bytes, leaf_step}
 
 -- an offset of a byte before all leaves of a group, or of one of those up to an offset of its first element

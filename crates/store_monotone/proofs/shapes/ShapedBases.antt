@@ -11,11 +11,11 @@ use Rattle.cfg.specs.BaseShapes.{is_extent, ends_by, leaf_end, array_end, has_ex
 use Rattle.c_layout.specs.Models.{is_model}
 use Rattle.cfg.specs.ModelKinds as flow
 use Rattle.store_cells.specs.ScalarTypes.{class_bytes}
-use Rattle.store_monotone.specs.Store.PlainShapes.{are_single, end_of, are_behind, is_plain}
-use Rattle.store_monotone.specs.Store.Placements.{IsRegular}
-use Rattle.store_monotone.proofs.store.Loads.{some_bytes}
-use Rattle.store_monotone.proofs.store.Regular.{regular}
-use Rattle.store_monotone.proofs.store.PlainShapes.{plain_room, parts_apart}
+use Rattle.store_monotone.specs.Operations.PlainShapes.{are_single, end_of, are_behind, is_plain}
+use Rattle.store_monotone.specs.Operations.Placements.{IsRegular}
+use Rattle.store_monotone.proofs.operations.Loads.{some_bytes}
+use Rattle.store_monotone.proofs.operations.Regular.{regular}
+use Rattle.store_monotone.proofs.operations.PlainShapes.{plain_room, parts_apart}
 use Rattle.store_monotone.proofs.shapes.LeafBytes.{same_bytes, few_bytes}
 use Rattle.store_monotone.proofs.shapes.FoldedLeaves.{bytes_apart}
 

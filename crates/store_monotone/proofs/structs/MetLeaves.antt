@@ -11,7 +11,7 @@ use Rattle.store_cells.specs.ClassNumbers.{same_class}
 use Rattle.store_cells.specs.RowPositions.{capped}
 use Rattle.store_cells.specs.AccessWindows.{window_between}
 use Rattle.store.specs.LeafSelection.{has_place_in}
-use Rattle.store_monotone.proofs.store.PlacesOfLeaves.{place_of_test}
+use Rattle.store_monotone.proofs.operations.PlacesOfLeaves.{place_of_test}
 use Rattle.store_struct_leaves.specs.declared.copy_places.Span.{Span}
 use Rattle.store_struct_leaves.specs.CopyPlaces.{any_below, shifted, span_width, span_joined, span_window, span_raised, one_place_meets, alike_meets, window_meets, each_meets, several_meet, joined_meet, meets, leaf_raised, is_reached, is_touched}
 use Rattle.store_monotone.specs.Structs.LargerSpans.{SpanWithin, IsMetToo}

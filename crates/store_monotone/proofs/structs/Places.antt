@@ -6,7 +6,7 @@ use Rattle.std.proofs.lemmas.Bool.{cases_Bool, cases_lt, and_from, or_from, or_l
 use Rattle.c_layout.specs.declared.leaf_lists.Leaf.{Leaf}
 use Rattle.store_cells.specs.declared.access_windows.Window.{Window}
 use Rattle.store.specs.LeafSelection.{places_before, turns_into, has_place_in}
-use Rattle.store_monotone.proofs.store.PlacesOfLeaves.{Place, place_of_test}
+use Rattle.store_monotone.proofs.operations.PlacesOfLeaves.{Place, place_of_test}
 use Rattle.store_struct_leaves.specs.CopyPlaces.{any_below}
 
 before_least : (o s lo i : ℕ) → 0 < s → lo ≤ o + i * s → cond (nat_le lo o) 0 (((lo - o) - 1) / s + 1) ≤ i

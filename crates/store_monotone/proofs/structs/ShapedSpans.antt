@@ -8,7 +8,7 @@ use Rattle.c_layout.specs.declared.leaf_lists.Leaf.{Leaf}
 use Rattle.c_layout.specs.declared.shapes.BaseInfo.{BaseInfo}
 use Rattle.c_layout.specs.Models.{is_model}
 use Rattle.cfg.specs.BaseShapes.{is_extent, nowhere, are_leaves, are_parts, lie_over, are_whole, is_heap, is_single, is_heap_base, is_declared_base, is_shaped}
-use Rattle.store_monotone.specs.Store.Placements.{EachFrom, IsRegular}
+use Rattle.store_monotone.specs.Operations.Placements.{EachFrom, IsRegular}
 use Rattle.store_monotone.proofs.shapes.ShapedBases.{shaped_regular}
 use Rattle.store_struct_leaves.specs.declared.copy_places.Span.{Span}
 use Rattle.store_struct_leaves.specs.CopyPlaces.{any_below, span_joined, span_window}

@@ -9,8 +9,8 @@ use Rattle.c_layout.specs.declared.leaf_lists.Leaf.{Leaf}
 use Rattle.c_layout.specs.Models.{is_model}
 use Rattle.cfg.specs.BaseShapes.{is_extent, leaf_end, array_end, has_extents, is_stride, is_behind, is_beside, is_apart, follows, first_of, are_apart, is_single}
 use Rattle.cfg.specs.ModelKinds as flow
-use Rattle.store_monotone.specs.Store.Placements.{EachFrom}
-use Rattle.store_monotone.proofs.store.Loads.{some_bytes}
+use Rattle.store_monotone.specs.Operations.Placements.{EachFrom}
+use Rattle.store_monotone.proofs.operations.Loads.{some_bytes}
 use Rattle.store_monotone.proofs.shapes.LeafBytes.{same_bytes}
 use Rattle.store_monotone.proofs.structs.MetLeaves.{IsShort}
 

@@ -10,7 +10,7 @@ use Rattle.cfg.specs.BaseShapes.{is_extent, nowhere, are_leaves}
 use Rattle.store.specs.LeafSelection.{covered_more, covered_bytes}
 use Rattle.store_cells.specs.RowPositions.{capped}
 use Rattle.store_cells.specs.Walks.{walk, turns}
-use Rattle.store_monotone.specs.Store.Placements.{EachFrom}
+use Rattle.store_monotone.specs.Operations.Placements.{EachFrom}
 use Rattle.store_monotone.proofs.shapes.FoldedLeaves.{bytes_apart}
 use Rattle.store_structs.specs.LeafNumbers.{struct_leaf}
 use Rattle.store_structs.specs.PaddingWrites.{Padded, covered_by, covered_leaf, leaf_bytes}

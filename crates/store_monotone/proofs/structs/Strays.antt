@@ -10,7 +10,7 @@ use Rattle.store_cells.specs.ClassNumbers.{same_class}
 use Rattle.store_cells.specs.RowPositions.{capped}
 use Rattle.store_cells.specs.AccessWindows.{window_between}
 use Rattle.store.specs.LeafSelection.{has_place_in}
-use Rattle.store_monotone.proofs.store.PlacesOfLeaves.{place_of_test}
+use Rattle.store_monotone.proofs.operations.PlacesOfLeaves.{place_of_test}
 use Rattle.store_struct_leaves.specs.declared.copy_places.Span.{Span}
 use Rattle.store_struct_leaves.specs.CopyPlaces.{any_below, span_width, span_size, is_apart, all_in_one, span_joined, one_place_meets, alike_meets, each_meets, several_meet, joined_meet, meets, is_reached, reached_count, span_has_stray}
 use Rattle.store_monotone.specs.Structs.LargerSpans.{SpanWithin}

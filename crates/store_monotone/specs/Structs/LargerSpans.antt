@@ -8,7 +8,7 @@ use Rattle.store_cells.specs.AccessWindows.{last_offset}
 use Rattle.store_struct_leaves.specs.declared.copy_places.Span.{Span}
 use Rattle.store_struct_leaves.specs.CopyPlaces.{is_reached, is_touched, span_has_stray}
 use Rattle.store_struct_leaves.specs.LeafCopies.{span_meets_padding}
-use Rattle.store_monotone.specs.Store.Placements.{EachFrom}
+use Rattle.store_monotone.specs.Operations.Placements.{EachFrom}
 
 -- as many windows as far apart, of which each has the offsets of the first span's; the places lie within 2^62 bytes
 pub record SpanWithin (s u : Span) : Type 0 where

@@ -4,7 +4,7 @@ ghost use Rattle.c_layout.specs.Models.{is_model};
 ghost use Rattle.c_layout.specs.declared.data_model.Model.{Model};
 ghost use Rattle.c_layout.specs.declared.shapes.BaseInfo.{BaseInfo};
 ghost use Rattle.cfg.specs.BaseShapes.{is_shaped};
-ghost use Rattle.store_monotone.specs.Store.Placements.{IsRegular};
+ghost use Rattle.store_monotone.specs.Operations.Placements.{IsRegular};
 
 /// Under a data model, bases whose leaves stand apart, those of folded arrays too, and whose first zeros lie over
 /// characters alone, are such that larger windows reach more.

@@ -12,8 +12,8 @@ use Rattle.store_cells.specs.FirstZeroWrites.{last_of, has_no_bytes, zero_target
 use Rattle.memory_model.specs.Memory.Bytes.{Content, Byte}
 use Rattle.memory_model.specs.Memory.Instances.{Memory, bytes_at, byte_at}
 use Rattle.store_sound.specs.Concretization.RowMeaning.{array_of, array_bytes}
-use Rattle.store_sound.proofs.store.Slices.{get_drop, get_set_same, get_set_other}
-use Rattle.store_sound.proofs.store.StoreZeros.{same_slices, take_by}
+use Rattle.store_sound.proofs.operations.Slices.{get_drop, get_set_same, get_set_other}
+use Rattle.store_sound.proofs.operations.StoreZeros.{same_slices, take_by}
 use Rattle.store_sound.proofs.chars.ByteStores.{IsByteStore}
 
 -- the offset is one of the array's

@@ -16,8 +16,8 @@ use Rattle.memory_model.specs.Memory.Numbers.{Labelled, number_of}
 use Rattle.store_sound.specs.Concretization.Matching.{Fits, Matched, number_in, Holds}
 use Rattle.store_sound.specs.Concretization.ValueMeaning.{Naming, StandsContent}
 use Rattle.store_sound.specs.Concretization.RowMeaning.{IsLiveOf, StandsCell}
-use Rattle.store_sound.proofs.store.Larger.{ValueBelow, content_larger}
-use Rattle.store_sound.proofs.store.Frames.{live_moves, content_moves}
+use Rattle.store_sound.proofs.operations.Larger.{ValueBelow, content_larger}
+use Rattle.store_sound.proofs.operations.Frames.{live_moves, content_moves}
 use Rattle.store_sound.proofs.chars.ByteStores.{IsByteStore, here_or_not, matched_out, matched_in}
 
 -- a place has the byte, or has not

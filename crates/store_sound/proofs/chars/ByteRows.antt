@@ -33,10 +33,10 @@ use Rattle.store_cells.specs.FirstZeroWrites.{zero_target, put_at, put_target, p
 use Rattle.store.specs.Loads.{reaches_class}
 use Rattle.store_cells.specs.Walks.{walk, turns}
 use Rattle.store.specs.Stores.{cell_value, is_strong, store_leaf_at, store_leaf, store_leaves, store_class_cell, store_own, store_other_leaf_at, store_other_leaf, store_other_leaves, store_other_class, store_other_classes, store_other_bytes, store_character, store_base, store_if, store_to, store_all}
-use Rattle.store_sound.specs.Store.Shapes.{AreLaid}
-use Rattle.store_sound.proofs.store.Only.{Leaves, Only, only_leaves, only_more, only_same, only_put, only_cond, only_if, only_then, only_walk, Turned, walk_turn, cell_put}
-use Rattle.store_sound.proofs.store.StoreRows.{Fits, leaf_is, class_is, zero_is, leaf_only, leaves_only, join_only, class_only, own_only, if_only}
-use Rattle.store_sound.proofs.store.StoreValues.{same_value, same_zero, written, cond_value, join_is, leaf_put, class_put}
+use Rattle.store_sound.specs.Operations.Shapes.{AreLaid}
+use Rattle.store_sound.proofs.operations.Only.{Leaves, Only, only_leaves, only_more, only_same, only_put, only_cond, only_if, only_then, only_walk, Turned, walk_turn, cell_put}
+use Rattle.store_sound.proofs.operations.StoreRows.{Fits, leaf_is, class_is, zero_is, leaf_only, leaves_only, join_only, class_only, own_only, if_only}
+use Rattle.store_sound.proofs.operations.StoreValues.{same_value, same_zero, written, cond_value, join_is, leaf_put, class_put}
 
 cond_on : {A : Type 0} (b : Bool) (x y : A) → b ≡ true → cond b x y ≡ x
 cond_on true x y e = refl

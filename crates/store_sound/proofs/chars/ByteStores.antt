@@ -22,11 +22,11 @@ use Rattle.memory_model.specs.Effects.ScalarBytes.{number_bytes, bits_in, scalar
 use Rattle.memory_model.specs.Effects.Touches.{Spot, touched, is_allocated, is_literal, storage_of, storage_at, set_bytes}
 use Rattle.memory_model.specs.Effects.Accesses.{class_in, stored_bytes, stored, store_at, store_through, store}
 use Rattle.memory_model.specs.Effects.Operands.{is_of_kind}
-use Rattle.store_sound.proofs.store.Classes.{same_class_is}
-use Rattle.store_sound.proofs.store.Slices.{get_there, get_set_same, get_set_other}
-use Rattle.store_sound.proofs.store.Reading.{behind_goes, touched_goes}
-use Rattle.store_sound.proofs.store.MachineStores.{set_is, instance_in, store_spot}
-use Rattle.store_sound.proofs.store.Refills.{IsRefill, is_refill}
+use Rattle.store_sound.proofs.operations.Classes.{same_class_is}
+use Rattle.store_sound.proofs.operations.Slices.{get_there, get_set_same, get_set_other}
+use Rattle.store_sound.proofs.operations.Reading.{behind_goes, touched_goes}
+use Rattle.store_sound.proofs.operations.MachineStores.{set_is, instance_in, store_spot}
+use Rattle.store_sound.proofs.operations.Refills.{IsRefill, is_refill}
 
 -- ---- one byte refilled
 

@@ -9,7 +9,7 @@ use Rattle.std.proofs.lemmas.Option.{same_Some}
 use Rattle.value_domain.specs.Strings.FirstZeros.{the_end}
 use Rattle.memory_model.specs.Memory.Bytes.{Content, Byte}
 use Rattle.store_sound.specs.Concretization.FirstZeroBytes.{Seen, unknown, end, character, seen_as, one_more, zero_by, first_zero, zero_offset}
-use Rattle.store_sound.proofs.store.StoreZeros.{zero_small}
+use Rattle.store_sound.proofs.operations.StoreZeros.{zero_small}
 use Rattle.domain_theorems.specs.Values.ZeroMeaning.{WroteZero, WroteOther}
 
 -- ---- a zero was written

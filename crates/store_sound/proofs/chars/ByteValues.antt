@@ -33,11 +33,11 @@ use Rattle.memory_model.specs.Effects.ScalarBytes.{number_bytes, bits_in, scalar
 use Rattle.store_sound.specs.Concretization.Matching.{Matched, number_in, Holds}
 use Rattle.store_sound.specs.Concretization.SeenLabels.{as_set}
 use Rattle.store_sound.specs.Concretization.ValueMeaning.{Naming, StandsContent}
-use Rattle.store_sound.proofs.store.Classes.{integer_class, class_above, class_size}
-use Rattle.store_sound.proofs.store.Rereading.{halves, unsigned_below}
-use Rattle.store_sound.proofs.store.FreshValues.{cell_of, as_labels, number_stands, type_near}
-use Rattle.store_sound.proofs.store.Near.{IsNearValue, near_number_from, near_number_none}
-use Rattle.store_sound.proofs.store.StoreZeros.{between_stands, some_between}
+use Rattle.store_sound.proofs.operations.Classes.{integer_class, class_above, class_size}
+use Rattle.store_sound.proofs.operations.Rereading.{halves, unsigned_below}
+use Rattle.store_sound.proofs.operations.FreshValues.{cell_of, as_labels, number_stands, type_near}
+use Rattle.store_sound.proofs.operations.Near.{IsNearValue, near_number_from, near_number_none}
+use Rattle.store_sound.proofs.operations.StoreZeros.{between_stands, some_between}
 use Rattle.store_sound.proofs.chars.ByteStores.{IsByteStore, byte_of, matched_in}
 
 -- ---- the numbers of so many bytes lie in their type

@@ -16,8 +16,8 @@ use Rattle.store_cells.specs.FirstZeroWrites.{offsets_of, sure_or_joined, put_at
 use Rattle.memory_model.specs.Memory.Bytes.{Content, number, Byte}
 use Rattle.memory_model.specs.Memory.Labels.{Labels}
 use Rattle.store_sound.specs.Concretization.FirstZeroBytes.{first_zero, zero_offset}
-use Rattle.store_sound.proofs.store.Near.{near_number_from}
-use Rattle.store_sound.proofs.store.StoreZeros.{between_stands, some_between}
+use Rattle.store_sound.proofs.operations.Near.{near_number_from}
+use Rattle.store_sound.proofs.operations.StoreZeros.{between_stands, some_between}
 use Rattle.domain_theorems.specs.Values.ZeroLaws.{IsCount}
 use Rattle.domain_theorems.proofs.values.ZeroStands.{zero_meaning}
 use Rattle.store_sound.proofs.chars.ByteTexts.{wrote_zero, wrote_other}

@@ -60,29 +60,29 @@ use Rattle.store_sound.specs.Concretization.SeenLabels.{as_set}
 use Rattle.store_sound.specs.Concretization.SoundMemory.{IsWithin, IsPointerIn, IsMemoryOf, IsInstanceOf, storage_for}
 use Rattle.store_sound.specs.Concretization.ValueMeaning.{Naming, StandsScalar, StandsInto, StandsPointer, StandsState, StandsZero}
 use Rattle.store_sound.specs.Concretization.RowMeaning.{IsLiveOf, MachineState, StandsFor, array_of, array_bytes}
-use Rattle.store_sound.specs.Store.Gives.{Gives}
-use Rattle.store_sound.specs.Store.Scalars.{signed_in, IsOfKind}
-use Rattle.store_sound.specs.Store.Shapes.{IsShaped, AreShaped, AreLaid, HasTexts, SeesPadding}
-use Rattle.store_sound.proofs.store.Classes.{is_same_class, same_class_is, class_small}
-use Rattle.store_sound.proofs.store.Frames.{scalar_moves, scalar_in_moves, live_moves}
-use Rattle.store_sound.proofs.store.FreshValues.{cell_of}
-use Rattle.store_sound.proofs.store.LoadSound.{instance_there}
-use Rattle.store_sound.proofs.store.Near.{IsNearValue}
-use Rattle.store_sound.proofs.store.Refills.{refill_sane}
-use Rattle.store_sound.proofs.store.Selected.{place_selected}
-use Rattle.store_sound.proofs.store.Sets.{in_reached}
-use Rattle.store_sound.proofs.store.Slices.{get_there}
-use Rattle.store_sound.proofs.store.StoreLeaves.{IsAlone, live_ended, not_older}
-use Rattle.store_sound.proofs.store.StorePlaces.{leaf_place, is_something}
-use Rattle.store_sound.proofs.store.StoreRows.{zero_is}
-use Rattle.store_sound.proofs.store.StoreSound.{into_live, live_here, not_literal, alone_is, named_moves}
-use Rattle.store_sound.proofs.store.StoreValues.{same_value, same_zero, same_state}
-use Rattle.store_sound.proofs.store.StoreZeros.{zero_small, offset_near}
-use Rattle.store_sound.proofs.store.TagPlaces.{is_tagged}
-use Rattle.store_sound.proofs.store.Texts.{zero_near}
-use Rattle.store_sound.proofs.store.TouchedRest.{near_stands}
-use Rattle.store_sound.proofs.store.Walks.{walk_meets}
-use Rattle.store_sound.proofs.store.Windows.{window_has}
+use Rattle.store_sound.specs.Operations.Gives.{Gives}
+use Rattle.store_sound.specs.Operations.Scalars.{signed_in, IsOfKind}
+use Rattle.store_sound.specs.Operations.Shapes.{IsShaped, AreShaped, AreLaid, HasTexts, SeesPadding}
+use Rattle.store_sound.proofs.operations.Classes.{is_same_class, same_class_is, class_small}
+use Rattle.store_sound.proofs.operations.Frames.{scalar_moves, scalar_in_moves, live_moves}
+use Rattle.store_sound.proofs.operations.FreshValues.{cell_of}
+use Rattle.store_sound.proofs.operations.LoadSound.{instance_there}
+use Rattle.store_sound.proofs.operations.Near.{IsNearValue}
+use Rattle.store_sound.proofs.operations.Refills.{refill_sane}
+use Rattle.store_sound.proofs.operations.Selected.{place_selected}
+use Rattle.store_sound.proofs.operations.Sets.{in_reached}
+use Rattle.store_sound.proofs.operations.Slices.{get_there}
+use Rattle.store_sound.proofs.operations.StoreLeaves.{IsAlone, live_ended, not_older}
+use Rattle.store_sound.proofs.operations.StorePlaces.{leaf_place, is_something}
+use Rattle.store_sound.proofs.operations.StoreRows.{zero_is}
+use Rattle.store_sound.proofs.operations.StoreSound.{into_live, live_here, not_literal, alone_is, named_moves}
+use Rattle.store_sound.proofs.operations.StoreValues.{same_value, same_zero, same_state}
+use Rattle.store_sound.proofs.operations.StoreZeros.{zero_small, offset_near}
+use Rattle.store_sound.proofs.operations.TagPlaces.{is_tagged}
+use Rattle.store_sound.proofs.operations.Texts.{zero_near}
+use Rattle.store_sound.proofs.operations.TouchedRest.{near_stands}
+use Rattle.store_sound.proofs.operations.Walks.{walk_meets}
+use Rattle.store_sound.proofs.operations.Windows.{window_has}
 use Rattle.store_sound.proofs.chars.ByteStores.{IsByteStore, byte_of, byte_goes}
 use Rattle.store_sound.proofs.chars.ByteValues.{byte_number}
 use Rattle.store_sound.proofs.chars.ByteRows.{zero_put, zero_of_write, behind_keeps, zero_value, state_after}

@@ -30,10 +30,10 @@ use Rattle.store_sound.specs.Concretization.SeenLabels.{as_set}
 use Rattle.store_sound.specs.Concretization.SoundMemory.{IsMemoryOf}
 use Rattle.store_sound.specs.Concretization.ValueMeaning.{Naming}
 use Rattle.store_sound.specs.Concretization.RowMeaning.{IsLiveOf, StandsCell}
-use Rattle.store_sound.proofs.store.Larger.{ValueBelow, value_below, content_larger}
-use Rattle.store_sound.proofs.store.Near.{IsNearValue, near_is, value_at_near, join_near}
-use Rattle.store_sound.proofs.store.FreshValues.{cell_of, cell_near}
-use Rattle.store_sound.proofs.store.StoreValues.{written}
+use Rattle.store_sound.proofs.operations.Larger.{ValueBelow, value_below, content_larger}
+use Rattle.store_sound.proofs.operations.Near.{IsNearValue, near_is, value_at_near, join_near}
+use Rattle.store_sound.proofs.operations.FreshValues.{cell_of, cell_near}
+use Rattle.store_sound.proofs.operations.StoreValues.{written}
 use Rattle.store_sound.proofs.chars.ByteStores.{IsByteStore, byte_of}
 use Rattle.store_sound.proofs.chars.ByteCells.{cell_put}
 use Rattle.store_sound.proofs.chars.ByteValues.{held_number, byte_content, written_number, written_content, written_near}

@@ -37,14 +37,14 @@ use Rattle.store_sound.specs.Concretization.SeenLabels.{as_set}
 use Rattle.store_sound.specs.Concretization.SoundMemory.{IsMemoryOf}
 use Rattle.store_sound.specs.Concretization.ValueMeaning.{Naming}
 use Rattle.store_sound.specs.Concretization.RowMeaning.{IsLiveOf, StandsCell, StandsLeaf, StandsClass, MachineState, StandsFor}
-use Rattle.store_sound.specs.Store.Shapes.{AreShaped, AreLaid, at_offset}
-use Rattle.store_sound.proofs.store.Classes.{is_same_class, same_class_is, class_small, class_number_back, class_above, integer_class}
-use Rattle.store_sound.proofs.store.Selected.{place_selected, is_stray, counted_place, single_in}
-use Rattle.store_sound.proofs.store.Near.{IsNearValue}
-use Rattle.store_sound.proofs.store.FreshValues.{cell_of}
-use Rattle.store_sound.proofs.store.StoreValues.{written}
-use Rattle.store_sound.proofs.store.StoreRows.{leaf_is, class_is}
-use Rattle.store_sound.proofs.store.StoreLeaves.{IsAlone, live_ended, not_older, zero_count}
+use Rattle.store_sound.specs.Operations.Shapes.{AreShaped, AreLaid, at_offset}
+use Rattle.store_sound.proofs.operations.Classes.{is_same_class, same_class_is, class_small, class_number_back, class_above, integer_class}
+use Rattle.store_sound.proofs.operations.Selected.{place_selected, is_stray, counted_place, single_in}
+use Rattle.store_sound.proofs.operations.Near.{IsNearValue}
+use Rattle.store_sound.proofs.operations.FreshValues.{cell_of}
+use Rattle.store_sound.proofs.operations.StoreValues.{written}
+use Rattle.store_sound.proofs.operations.StoreRows.{leaf_is, class_is}
+use Rattle.store_sound.proofs.operations.StoreLeaves.{IsAlone, live_ended, not_older, zero_count}
 use Rattle.store_sound.proofs.chars.ByteStores.{IsByteStore, byte_of}
 use Rattle.store_sound.proofs.chars.ByteRows.{leaf_value, char_value, other_value}
 use Rattle.store_sound.proofs.chars.WrittenCells.{cell_apart, cell_other, cell_char}

@@ -15,7 +15,7 @@ use Rattle.memory_model.specs.Memory.ScalarSizes.{class_bytes}
 use Rattle.store_cells.specs.Walks.{walk}
 use Rattle.store_cells.specs.RowPositions.{capped}
 use Rattle.store.specs.LeafSelection.{turn_bytes, bytes_behind, bytes_below, covered_more, covered_bytes}
-use Rattle.store_sound.proofs.store.Classes.{class_above}
+use Rattle.store_sound.proofs.operations.Classes.{class_above}
 use Rattle.store_sound.proofs.programs.Sizes.{same_bytes}
 use Rattle.store_sound.proofs.programs.Leaves.{each_proper, one_owner}
 use Rattle.store_sound.proofs.programs.Counts.{at_most_one}

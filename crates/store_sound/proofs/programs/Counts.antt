@@ -3,7 +3,7 @@ use Rattle.std.proofs.Common.{◌≡◌, ℕ, zero, suc, ◌≤◌, Bool, true, 
 use Rattle.std.specs.Prelude.{slice_get, count_by}
 use Rattle.std.proofs.lemmas.Bool.{cases_Bool}
 use Rattle.std.proofs.lemmas.List.Sums.{sum_by-cons}
-use Rattle.store_sound.proofs.store.Classes.{count_some}
+use Rattle.store_sound.proofs.operations.Classes.{count_some}
 
 module _ {X : Type 0} (p : X → Bool) where
   none_among : (xs : List X) (n : ℕ) → count_by p xs ≡ n → ((j : ℕ) (y : X) → slice_get xs j ≡ Some y → p y ≡ true → ⊥) → n ≡ 0

@@ -5,7 +5,7 @@ use Rattle.std.proofs.lemmas.Bool.{and_parts, eqb-true, cases_order}
 use Rattle.c_layout.specs.declared.shapes.BaseInfo.{BaseInfo}
 use Rattle.cfg.specs.BaseShapes.{is_extent}
 use Rattle.cfg.specs.WellFormed.{base_values, all_values, are_placed}
-use Rattle.store_sound.specs.Store.Shapes.{AreLaid}
+use Rattle.store_sound.specs.Operations.Shapes.{AreLaid}
 
 -- values from a first one on, none behind a last one
 record IsBetween (base : BaseInfo) (first behind : ℕ) : Type 0 where

@@ -15,8 +15,8 @@ use Rattle.memory_model.specs.Memory.ScalarSizes.{class_bytes}
 use Rattle.memory_model.specs.Memory.Bytes.{Tag}
 use Rattle.memory_model.specs.Memory.Tags.{tag_of, leaf_tag, or_tag, tag_at}
 use Rattle.store_sound.specs.Concretization.Places.{OwnedByLeaf}
-use Rattle.store_sound.proofs.store.Classes.{same_class_is}
-use Rattle.store_sound.proofs.store.TagPlaces.{is_tagged}
+use Rattle.store_sound.proofs.operations.Classes.{same_class_is}
+use Rattle.store_sound.proofs.operations.TagPlaces.{is_tagged}
 use Rattle.store_sound.proofs.programs.Sizes.{same_bytes}
 use Rattle.store_sound.proofs.programs.Leaves.{one_owner}
 

@@ -16,8 +16,8 @@ use Rattle.cfg.specs.BaseShapes.{is_extent, are_leaves, are_parts, lie_over, is_
 use Rattle.cfg.specs.ApartLeaves.{HasByte}
 use Rattle.memory_model.specs.Effects.Touches.{is_allocated}
 use Rattle.store_sound.specs.Concretization.SoundMemory.{storage_for}
-use Rattle.store_sound.specs.Store.Shapes.{at_offset, IsShaped, CountsOnce, HasTexts}
-use Rattle.store_sound.proofs.store.Classes.{class_above}
+use Rattle.store_sound.specs.Operations.Shapes.{at_offset, IsShaped, CountsOnce, HasTexts}
+use Rattle.store_sound.proofs.operations.Classes.{class_above}
 use Rattle.store_sound.proofs.programs.Sizes.{same_bytes}
 use Rattle.store_sound.proofs.programs.Leaves.{one_owner}
 use Rattle.store_sound.proofs.programs.Counts.{at_most_one}

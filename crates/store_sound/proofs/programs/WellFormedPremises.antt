@@ -14,8 +14,8 @@ use Rattle.cfg.specs.BaseShapes.{is_extent, is_shaped, are_sites, are_shaped}
 use Rattle.cfg.specs.StaticStarts.{are_started}
 use Rattle.cfg.specs.StructCounts.{are_counted}
 use Rattle.cfg.specs.WellFormed.{are_blocks, fits_edge, are_placed, base_values, all_values, all_cells, all_instructions, is_initial_object, is_parameter, is_within, names_of, are_few, is_laid_out, is_well_formed}
-use Rattle.store_sound.specs.Store.Shapes.{AreShaped, CountsOnce, IsLaidOut}
-use Rattle.store_sound.proofs.store.Padding.{padding_seen}
+use Rattle.store_sound.specs.Operations.Shapes.{AreShaped, CountsOnce, IsLaidOut}
+use Rattle.store_sound.proofs.operations.Padding.{padding_seen}
 use Rattle.store_sound.specs.Programs.Premises.{AreHeld, HasPremises}
 use Rattle.store_sound.proofs.programs.ShapedBases.{all_at, base_shaped, base_texts, base_once}
 use Rattle.store_sound.proofs.programs.Laid.{placed_laid}

@@ -19,12 +19,12 @@ use Rattle.memory_model.specs.Memory.Instances.{Memory, Life, live, ended, freed
 use Rattle.store_sound.specs.Concretization.SoundMemory.{IsMemoryOf}
 use Rattle.store_sound.specs.Concretization.ValueMeaning.{Naming, StandsScalar, StandsZero, StandsState}
 use Rattle.store_sound.specs.Concretization.RowMeaning.{MachineState, array_bytes, StandsLeaf, StandsClass, StandsFor}
-use Rattle.store_sound.specs.Store.Shapes.{IsLaidOut}
-use Rattle.store_sound.proofs.store.Frames.{live_moves, scalar_in_moves, scalar_moves}
-use Rattle.store_sound.proofs.store.StoreRows.{Fits, leaf_is, class_is, zero_is}
-use Rattle.store_sound.proofs.store.StoreSound.{named_moves}
-use Rattle.store_sound.proofs.store.StoreValues.{same_value, same_zero, same_state}
-use Rattle.store_sound.proofs.store.StoreZeros.{same_slices}
+use Rattle.store_sound.specs.Operations.Shapes.{IsLaidOut}
+use Rattle.store_sound.proofs.operations.Frames.{live_moves, scalar_in_moves, scalar_moves}
+use Rattle.store_sound.proofs.operations.StoreRows.{Fits, leaf_is, class_is, zero_is}
+use Rattle.store_sound.proofs.operations.StoreSound.{named_moves}
+use Rattle.store_sound.proofs.operations.StoreValues.{same_value, same_zero, same_state}
+use Rattle.store_sound.proofs.operations.StoreZeros.{same_slices}
 use Rattle.store_sound.specs.Regions.RegionWrites.{IsRegion, WritesWithin, write_base_of, write_bases, StandsBase}
 use Rattle.store_sound.proofs.regions.Regions.{alike_region, cell_apart}
 

@@ -23,12 +23,12 @@ use Rattle.memory_model.specs.Memory.Instances.{Memory}
 use Rattle.store_sound.specs.Concretization.Places.{IsPlaceOf, OwnedByLeaf, OwnedByClass, IsClassPlace, IsLeafPlace}
 use Rattle.store_sound.specs.Concretization.ValueMeaning.{Naming}
 use Rattle.store_sound.specs.Concretization.RowMeaning.{StandsLeaf, StandsClass}
-use Rattle.store_sound.specs.Store.Shapes.{IsShaped, at_offset}
-use Rattle.store_sound.proofs.store.Classes.{class_above}
-use Rattle.store_sound.proofs.store.Only.{Only, only_put, cell_put}
-use Rattle.store_sound.proofs.store.Selected.{place_selected, is_stray, counted_place}
-use Rattle.store_sound.proofs.store.StoreLeaves.{zero_count}
-use Rattle.store_sound.proofs.store.StoreValues.{written}
+use Rattle.store_sound.specs.Operations.Shapes.{IsShaped, at_offset}
+use Rattle.store_sound.proofs.operations.Classes.{class_above}
+use Rattle.store_sound.proofs.operations.Only.{Only, only_put, cell_put}
+use Rattle.store_sound.proofs.operations.Selected.{place_selected, is_stray, counted_place}
+use Rattle.store_sound.proofs.operations.StoreLeaves.{zero_count}
+use Rattle.store_sound.proofs.operations.StoreValues.{written}
 use Rattle.store_sound.specs.Regions.RegionWrites.{IsRegion}
 use Rattle.store_sound.proofs.regions.Regions.{cell_apart}
 

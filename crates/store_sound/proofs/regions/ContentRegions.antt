@@ -12,9 +12,9 @@ use Rattle.memory_model.specs.Effects.ScalarBytes.{filled, refilled}
 use Rattle.memory_model.specs.Effects.Touches.{set_bytes}
 use Rattle.store_sound.specs.Concretization.SoundMemory.{IsMemoryOf}
 use Rattle.store_sound.specs.Concretization.ValueMeaning.{Naming}
-use Rattle.store_sound.proofs.store.Slices.{get_drop, get_there, get_set_same, get_set_other}
-use Rattle.store_sound.proofs.store.MachineStores.{front_at, back_at, set_is}
-use Rattle.store_sound.proofs.store.Refills.{is_refill, refill_sane}
+use Rattle.store_sound.proofs.operations.Slices.{get_drop, get_there, get_set_same, get_set_other}
+use Rattle.store_sound.proofs.operations.MachineStores.{front_at, back_at, set_is}
+use Rattle.store_sound.proofs.operations.Refills.{is_refill, refill_sane}
 use Rattle.store_sound.specs.Regions.RegionWrites.{IsRegion}
 
 filled_in : (bs : List Byte) (cs : List Content) (k : ℕ) (b : Byte) (c : Content) → slice_get bs k ≡ Some b → slice_get cs k ≡ Some c → slice_get (filled bs cs) k ≡ Some (record b { content = c })

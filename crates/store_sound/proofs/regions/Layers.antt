@@ -19,9 +19,9 @@ use Rattle.store_cells.specs.Walks.{walk, turns}
 use Rattle.memory_model.specs.Memory.Instances.{Memory, bytes_at, life_at}
 use Rattle.store_sound.specs.Concretization.ValueMeaning.{Naming, StandsZero, StandsState}
 use Rattle.store_sound.specs.Concretization.RowMeaning.{array_bytes, IsLiveOf, StandsLeaf, StandsClass}
-use Rattle.store_sound.proofs.store.Only.{Leaves, Only, only_leaves, only_more, only_same, only_then, only_walk, Turned, walk_turn}
-use Rattle.store_sound.proofs.store.StoreRows.{Fits, leaf_is, class_is, zero_is}
-use Rattle.store_sound.proofs.store.StoreValues.{same_value, same_zero, same_state}
+use Rattle.store_sound.proofs.operations.Only.{Leaves, Only, only_leaves, only_more, only_same, only_then, only_walk, Turned, walk_turn}
+use Rattle.store_sound.proofs.operations.StoreRows.{Fits, leaf_is, class_is, zero_is}
+use Rattle.store_sound.proofs.operations.StoreValues.{same_value, same_zero, same_state}
 use Rattle.store_sound.specs.Regions.RegionWrites.{IsRegion, WritesWithin, StandsBase}
 use Rattle.store_sound.proofs.regions.BaseRows.{states_move}
 

@@ -20,10 +20,10 @@ use Rattle.memory_model.specs.Memory.Instances.{Memory, bytes_at, byte_at}
 use Rattle.store_sound.specs.Concretization.FirstZeroBytes.{Seen, unknown, end, character, seen_as, one_more, zero_by, first_zero, zero_offset}
 use Rattle.store_sound.specs.Concretization.ValueMeaning.{Naming, StandsZero}
 use Rattle.store_sound.specs.Concretization.RowMeaning.{array_of, array_bytes}
-use Rattle.store_sound.proofs.store.Only.{cell_put}
-use Rattle.store_sound.proofs.store.Slices.{get_drop}
-use Rattle.store_sound.proofs.store.StoreZeros.{same_slices, take_by, zero_small, offset_near, some_between, any_stands}
-use Rattle.store_sound.proofs.store.TouchedRest.{near_stands}
+use Rattle.store_sound.proofs.operations.Only.{cell_put}
+use Rattle.store_sound.proofs.operations.Slices.{get_drop}
+use Rattle.store_sound.proofs.operations.StoreZeros.{same_slices, take_by, zero_small, offset_near, some_between, any_stands}
+use Rattle.store_sound.proofs.operations.TouchedRest.{near_stands}
 use Rattle.store_sound.proofs.chars.ByteArrays.{IsIn, in_or_not}
 use Rattle.domain_theorems.specs.Values.ZeroMeaning.{WroteText}
 use Rattle.store_sound.specs.Regions.RegionWrites.{IsRegion}

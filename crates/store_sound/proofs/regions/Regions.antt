@@ -24,10 +24,10 @@ use Rattle.store_sound.specs.Concretization.SoundMemory.{IsMemoryOf}
 use Rattle.store_sound.specs.Concretization.ValueMeaning.{Naming, StandsContent}
 use Rattle.store_sound.specs.Concretization.RowMeaning.{IsLiveOf, StandsCell}
 use Rattle.store_sound.specs.Regions.RegionWrites.{IsRegion}
-use Rattle.store_sound.proofs.store.Frames.{IsAlike, live_moves, content_moves, in_or_out}
-use Rattle.store_sound.proofs.store.Larger.{ValueBelow, value_below, content_larger}
-use Rattle.store_sound.proofs.store.Near.{IsNearValue, near_is, join_near}
-use Rattle.store_sound.proofs.store.StoreValues.{written}
+use Rattle.store_sound.proofs.operations.Frames.{IsAlike, live_moves, content_moves, in_or_out}
+use Rattle.store_sound.proofs.operations.Larger.{ValueBelow, value_below, content_larger}
+use Rattle.store_sound.proofs.operations.Near.{IsNearValue, near_is, join_near}
+use Rattle.store_sound.proofs.operations.StoreValues.{written}
 use Rattle.store_sound.proofs.chars.ByteValues.{written_number, written_content, written_near}
 
 pub alike_region : {old new : Memory} {i offset size : ℕ} → IsRegion old new i offset size → IsAlike old new

@@ -18,10 +18,10 @@ use Rattle.memory_model.specs.Effects.Accesses.{class_in, store}
 use Rattle.store_sound.specs.Concretization.ValueMeaning.{Naming, StandsPointer, StandsScalar}
 use Rattle.store_sound.specs.Concretization.SoundMemory.{IsPointerIn}
 use Rattle.store_sound.specs.Concretization.RowMeaning.{StandsFor}
-use Rattle.store_sound.specs.Store.Gives.{Gives}
-use Rattle.store_sound.specs.Store.Scalars.{signed_in}
-use Rattle.store_sound.specs.Store.Shapes.{SeesPadding, IsLaidOut}
-use Rattle.store_sound.specs.Store.Statements.{state_in}
+use Rattle.store_sound.specs.Operations.Gives.{Gives}
+use Rattle.store_sound.specs.Operations.Scalars.{signed_in}
+use Rattle.store_sound.specs.Operations.Shapes.{SeesPadding, IsLaidOut}
+use Rattle.store_sound.specs.Operations.Statements.{state_in}
 
 module _ {I : Type 0} (l : LatticeOf I) (n : IntegersOf I) (stands : I → ℤ → Type 0) where
   -- a store of a character leaves a row that stands for the state behind it, where the counts of bytes see padding

@@ -6,7 +6,7 @@ use Rattle.c_layout.specs.declared.shapes.BaseInfo.{BaseInfo}
 use Rattle.cfg.specs.declared.programs.Flow.{Flow}
 use Rattle.cfg.specs.WellFormed.{is_well_formed}
 use Rattle.store_objects.specs.LiveBases.{most_bases}
-use Rattle.store_sound.specs.Store.Shapes.{AreShaped, CountsOnce, SeesPadding, IsLaidOut}
+use Rattle.store_sound.specs.Operations.Shapes.{AreShaped, CountsOnce, SeesPadding, IsLaidOut}
 
 -- sets of bases have a place for each base, and each value of the rows of a pool has a number of 64 bits
 pub record AreHeld (limits : Limits) : Type 0 where

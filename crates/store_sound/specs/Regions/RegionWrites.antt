@@ -17,7 +17,7 @@ use Rattle.memory_model.specs.Memory.Instances.{Memory, bytes_at, byte_at, life_
 use Rattle.store_sound.specs.Concretization.SoundMemory.{IsMemoryOf}
 use Rattle.store_sound.specs.Concretization.ValueMeaning.{Naming, StandsZero, StandsState}
 use Rattle.store_sound.specs.Concretization.RowMeaning.{MachineState, array_bytes, IsLiveOf, StandsLeaf, StandsClass, StandsFor}
-use Rattle.store_sound.specs.Store.Shapes.{IsLaidOut}
+use Rattle.store_sound.specs.Operations.Shapes.{IsLaidOut}
 
 -- memory in which some bytes of an instance, from an offset on, were written
 pub record IsRegion (old new : Memory) (i offset size : ℕ) : Type 0 where

@@ -19,8 +19,8 @@ use Rattle.store_cells.specs.ClassNumbers.{class_number, class_at, same_class}
 use Rattle.store_objects.specs.LiveBases.{has_base}
 use Rattle.store_cells.specs.RowPositions.{leaf_position, class_position, cell_at, value_at, join_value, write_value}
 use Rattle.store_cells.specs.Walks.{walk, turns}
-use Rattle.store_sound.proofs.store.Classes.{class_small}
-use Rattle.store_sound.proofs.store.Only.{only_put}
+use Rattle.store_sound.proofs.operations.Classes.{class_small}
+use Rattle.store_sound.proofs.operations.Only.{only_put}
 use Rattle.store_struct_leaves.specs.CopyPlaces.{is_reached, is_touched, span_has_stray}
 use Rattle.store_struct_leaves.specs.LeafCopies.{reaches_class, is_strong, with_flag, write_leaf_at, write_own_leaf, write_class_cell, write_leaves, write_own, write_other_at, write_other_leaf, write_class_byte, write_class_bytes, write_bytes, write_other_leaves, write_others, write_others_if, write_base, write_base_if, write_to, write_all}
 use Rattle.store_struct_leaves.specs.declared.leaf_copies.LeafAccess.{LeafAccess}

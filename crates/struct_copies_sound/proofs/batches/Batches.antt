@@ -9,8 +9,8 @@ use Rattle.c_layout.specs.declared.leaf_lists.Leaf.{Leaf}
 use Rattle.value_domain.specs.declared.values.row_cells.Cell.{Cell}
 use Rattle.store_cells.specs.RowPositions.{capped}
 use Rattle.store_cells.specs.Walks.{turns}
-use Rattle.store_sound.specs.Store.Gives.{Gives}
-use Rattle.store_sound.proofs.store.Slices.{get_there}
+use Rattle.store_sound.specs.Operations.Gives.{Gives}
+use Rattle.store_sound.proofs.operations.Slices.{get_there}
 use Rattle.store_structs.specs.LeafNumbers.{struct_leaf}
 use Rattle.store_structs.specs.StructCopies.{Route, batch_first, batch_count, most_at_once, read_source, copy_read, copy_step, copy_leaves, copy_batch, copy_all}
 

@@ -14,8 +14,8 @@ use Rattle.store_cells.specs.ClassNumbers.{class_at}
 use Rattle.store_cells.specs.FirstZeroWrites.{any_zero, zero_target, last_of}
 use Rattle.store_cells.specs.RowPositions.{leaf_position, class_position, zero_position, join_value, put_zero}
 use Rattle.store_cells.specs.Walks.{turns}
-use Rattle.store_sound.proofs.store.Only.{Only, only_put, only_cond, only_if, only_same, only_then, only_more}
-use Rattle.store_sound.proofs.store.StoreRows.{Fits, join_only}
+use Rattle.store_sound.proofs.operations.Only.{Only, only_put, only_cond, only_if, only_same, only_then, only_more}
+use Rattle.store_sound.proofs.operations.StoreRows.{Fits, join_only}
 use Rattle.store_sound.proofs.regions.Layers.{leaves_within, zeros_within, classes_within}
 use Rattle.store_structs.specs.CopyZeros.{Exact, copied_window, zero_copied, copy_part_at, copy_part, copy_zeros}
 use Rattle.store_structs.specs.PaddingWrites.{Padded, padding_meets, meets_leaf, unknown_value, pad_leaf_at, pad_leaf, pad_leaves, pad_class, pad_classes, pad_part_at, pad_part, pad_zeros, pad_cells, write_padding}

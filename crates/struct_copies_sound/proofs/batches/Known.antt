@@ -21,10 +21,10 @@ use Rattle.memory_model.specs.Effects.Touches.{is_allocated, storage_at}
 use Rattle.store_sound.specs.Concretization.Places.{OwnedByLeaf}
 use Rattle.store_sound.specs.Concretization.ValueMeaning.{Naming}
 use Rattle.store_sound.specs.Concretization.RowMeaning.{IsLiveOf}
-use Rattle.store_sound.specs.Store.Gives.{Gives}
-use Rattle.store_sound.proofs.store.Classes.{class_above}
-use Rattle.store_sound.proofs.store.Near.{near_is}
-use Rattle.store_sound.proofs.store.Slices.{get_there}
+use Rattle.store_sound.specs.Operations.Gives.{Gives}
+use Rattle.store_sound.proofs.operations.Classes.{class_above}
+use Rattle.store_sound.proofs.operations.Near.{near_is}
+use Rattle.store_sound.proofs.operations.Slices.{get_there}
 use Rattle.store_sound.specs.Regions.RegionWrites.{StandsBase}
 use Rattle.store_struct_leaves.specs.LeafCopies.{write_all, write_leaf}
 use Rattle.store_structs.specs.StructCopies.{leaf_access, read_source, write_target, copy_read, copy_leaves, copy_all}

@@ -29,12 +29,12 @@ use Rattle.store_sound.specs.Concretization.Matching.{number_in, Holds}
 use Rattle.store_sound.specs.Concretization.Places.{IsPlaceOf, OwnedByLeaf, IsLeafPlace}
 use Rattle.store_sound.specs.Concretization.SoundMemory.{IsContentIn}
 use Rattle.store_sound.specs.Concretization.ValueMeaning.{Naming, StandsContent}
-use Rattle.store_sound.specs.Store.Gives.{Gives}
-use Rattle.store_sound.specs.Store.Shapes.{at_offset}
-use Rattle.store_sound.proofs.store.Classes.{class_above, is_same_class}
-use Rattle.store_sound.proofs.store.Selected.{counted_place}
-use Rattle.store_sound.proofs.store.Slices.{get_there}
-use Rattle.store_sound.proofs.store.StoreLeaves.{number_at}
+use Rattle.store_sound.specs.Operations.Gives.{Gives}
+use Rattle.store_sound.specs.Operations.Shapes.{at_offset}
+use Rattle.store_sound.proofs.operations.Classes.{class_above, is_same_class}
+use Rattle.store_sound.proofs.operations.Selected.{counted_place}
+use Rattle.store_sound.proofs.operations.Slices.{get_there}
+use Rattle.store_sound.proofs.operations.StoreLeaves.{number_at}
 use Rattle.store_sound.proofs.chars.ByteValues.{written_number, written_content}
 use Rattle.store_sound.specs.Regions.RegionWrites.{StandsBase}
 use Rattle.store_struct_leaves.specs.CopyPlaces.{is_touched}

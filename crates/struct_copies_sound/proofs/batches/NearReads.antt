@@ -16,8 +16,8 @@ use Rattle.store_objects.specs.LiveBases.{has_base}
 use Rattle.store_cells.specs.RowPositions.{leaf_position, class_position, value_at}
 use Rattle.store_cells.specs.ScalarTypes.{kind_of}
 use Rattle.store_cells.specs.Walks.{turns}
-use Rattle.store_sound.proofs.store.Near.{value_at_near}
-use Rattle.store_sound.proofs.store.Walks.{walk_keeps, turns_keep}
+use Rattle.store_sound.proofs.operations.Near.{value_at_near}
+use Rattle.store_sound.proofs.operations.Walks.{walk_keeps, turns_keep}
 use Rattle.store_struct_leaves.specs.CopyPlaces.{is_reached, is_touched}
 use Rattle.store_struct_leaves.specs.LeafCopies.{span_meets_padding, reaches_class, own_leaf, read_own_leaf, read_class_cell, read_own, other_leaf, read_other_leaf, read_class_byte, read_class_bytes, read_padding, read_bytes, read_others, read_base, read_base_if, read_from, read_leaf}
 use Rattle.store_struct_leaves.specs.declared.leaf_copies.LeafAccess.{LeafAccess}

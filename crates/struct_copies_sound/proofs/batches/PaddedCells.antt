@@ -31,11 +31,11 @@ use Rattle.memory_model.specs.Memory.Labels.{Labels}
 use Rattle.memory_model.specs.Memory.Numbers.{Labelled, number_of}
 use Rattle.store_sound.specs.Concretization.SeenLabels.{as_set}
 use Rattle.store_sound.specs.Concretization.ValueMeaning.{Naming, StandsContent}
-use Rattle.store_sound.proofs.store.Near.{IsNearValue, near_number_none}
-use Rattle.store_sound.proofs.store.Only.{only_put}
-use Rattle.store_sound.proofs.store.StoreRows.{Fits}
-use Rattle.store_sound.proofs.store.StoreValues.{same_value}
-use Rattle.store_sound.proofs.store.Walks.{turns_keep}
+use Rattle.store_sound.proofs.operations.Near.{IsNearValue, near_number_none}
+use Rattle.store_sound.proofs.operations.Only.{only_put}
+use Rattle.store_sound.proofs.operations.StoreRows.{Fits}
+use Rattle.store_sound.proofs.operations.StoreValues.{same_value}
+use Rattle.store_sound.proofs.operations.Walks.{turns_keep}
 use Rattle.store_sound.proofs.chars.ByteValues.{written_near, written_number}
 use Rattle.store_structs.specs.CopyZeros.{Exact, copied_window, zero_copied, copy_part_at, copy_part, copy_zeros}
 use Rattle.store_structs.specs.PaddingWrites.{Padded, has_padding, padding_meets, meets_leaf, unknown_value, pad_leaf_at, pad_leaf, pad_leaves, pad_class, pad_classes, pad_part_at, pad_part, pad_zeros, pad_cells, write_padding}

@@ -19,9 +19,9 @@ use Rattle.memory_model.specs.Memory.Tags.{tag_at}
 use Rattle.store_monotone.proofs.shapes.LeafBytes.{Covers, leaf_step, few_bytes}
 use Rattle.store_sound.specs.Concretization.Places.{OwnedByLeaf}
 use Rattle.store_sound.specs.Concretization.ValueMeaning.{Naming}
-use Rattle.store_sound.specs.Store.Shapes.{IsShaped, AreShaped, CountsOnce}
-use Rattle.store_sound.proofs.store.Classes.{class_above}
-use Rattle.store_sound.proofs.store.Padding.{padding_seen}
+use Rattle.store_sound.specs.Operations.Shapes.{IsShaped, AreShaped, CountsOnce}
+use Rattle.store_sound.proofs.operations.Classes.{class_above}
+use Rattle.store_sound.proofs.operations.Padding.{padding_seen}
 use Rattle.store_structs.specs.LeafNumbers.{struct_leaf}
 use Rattle.store_structs.specs.PaddingWrites.{Padded, covered_by, covered_leaf, leaf_bytes, is_padded_in, padded_met, has_padding_in, has_padding, padding_meets, place_of, place_padded, meets_leaf}
 use Rattle.store_struct_leaves.proofs.Somewhere.{somewhere}

@@ -17,12 +17,12 @@ use Rattle.memory_model.specs.Effects.Touches.{is_allocated, storage_at}
 use Rattle.store_sound.specs.Concretization.Matching.{Fits}
 use Rattle.store_sound.specs.Concretization.Places.{IsPlaceOf, OwnedByLeaf}
 use Rattle.store_sound.specs.Concretization.ValueMeaning.{Naming}
-use Rattle.store_sound.specs.Store.Shapes.{IsShaped, at_offset}
-use Rattle.store_sound.proofs.store.Classes.{count_none, class_above, same_class_is}
-use Rattle.store_sound.proofs.store.Selected.{counted_place}
-use Rattle.store_sound.proofs.store.Slices.{get_there}
-use Rattle.store_sound.proofs.store.TagPlaces.{is_tagged}
-use Rattle.store_sound.proofs.store.Walks.{walk_meets}
+use Rattle.store_sound.specs.Operations.Shapes.{IsShaped, at_offset}
+use Rattle.store_sound.proofs.operations.Classes.{count_none, class_above, same_class_is}
+use Rattle.store_sound.proofs.operations.Selected.{counted_place}
+use Rattle.store_sound.proofs.operations.Slices.{get_there}
+use Rattle.store_sound.proofs.operations.TagPlaces.{is_tagged}
+use Rattle.store_sound.proofs.operations.Walks.{walk_meets}
 use Rattle.struct_copies_sound.proofs.leaves.Copies.{Copied, IsSide, target_spot, few_cells}
 use Rattle.struct_copies_sound.proofs.leaves.OwnPlaces.{OwnPlace, own_place}
 use Rattle.struct_copies_sound.proofs.leaves.ReadCells.{spot_reached, spot_touched, spot_stray, spot_padding}

@@ -13,9 +13,9 @@ use Rattle.value_domain.specs.declared.values.row_cells.Cell.TheVariants.{Value}
 use Rattle.store_cells.specs.NearValues.{near_value}
 use Rattle.store_cells.specs.RowPositions.{value_in, value_at, join_value, write_value}
 use Rattle.store_cells.specs.Walks.{walk}
-use Rattle.store_sound.proofs.store.Near.{IsNearValue, near_is, value_at_near, join_near}
-use Rattle.store_sound.proofs.store.Only.{only_put, cell_put}
-use Rattle.store_sound.proofs.store.StoreValues.{same_value, join_is}
+use Rattle.store_sound.proofs.operations.Near.{IsNearValue, near_is, value_at_near, join_near}
+use Rattle.store_sound.proofs.operations.Only.{only_put, cell_put}
+use Rattle.store_sound.proofs.operations.StoreValues.{same_value, join_is}
 
 -- ---- walks whose turns have their place in the list
 

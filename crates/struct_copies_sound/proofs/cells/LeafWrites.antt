@@ -7,8 +7,8 @@ use Rattle.c_layout.specs.declared.leaf_lists.Leaf.{Leaf}
 use Rattle.c_layout.specs.declared.shapes.BaseInfo.{BaseInfo}
 use Rattle.value_domain.specs.Values.Values.{value_lattice}
 use Rattle.value_domain.specs.declared.values.values.Value.{Value}
-use Rattle.store_sound.proofs.store.Larger.{value_below, content_larger}
-use Rattle.store_sound.proofs.store.NearParts.{near_parts}
+use Rattle.store_sound.proofs.operations.Larger.{value_below, content_larger}
+use Rattle.store_sound.proofs.operations.NearParts.{near_parts}
 use Rattle.struct_copies_sound.specs.Cells.LeafWrites.{IsReplacedAt, Fact, of_number, of_content, IsTold, LeafWritesStand}
 use Rattle.struct_copies_sound.proofs.cells.LeafWritten.{BringsNear, IsHit, all_keeps}
 use Rattle.struct_copies_sound.proofs.cells.LeafMade.{own_makes, class_makes, other_makes, byte_makes}

@@ -12,7 +12,7 @@ use Rattle.memory_model.specs.Memory.Scalars.{Scalar}
 use Rattle.store_sound.specs.Concretization.SoundMemory.{IsMemoryOf}
 use Rattle.store_sound.specs.Concretization.ValueMeaning.{Naming}
 use Rattle.store_sound.specs.Concretization.RowMeaning.{StandsFor}
-use Rattle.store_sound.specs.Store.Gives.{Gives}
+use Rattle.store_sound.specs.Operations.Gives.{Gives}
 use Rattle.store_sound.specs.Regions.RegionWrites.{StandsBase}
 use Rattle.store_sound.proofs.regions.BaseRows.{stands_base, bases_stand}
 use Rattle.store_structs.specs.StructCopies.{copy_all, finish, finish_reached, copy_route}

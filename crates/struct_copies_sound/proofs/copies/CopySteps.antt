@@ -47,15 +47,15 @@ use Rattle.semantics.specs.CfgMachine.FlowActs.{giving}
 use Rattle.store_sound.specs.Concretization.ValueMeaning.{Naming, StandsInto, StandsPointer, StandsScalar, StandsByLife}
 use Rattle.store_sound.specs.Concretization.SoundMemory.{IsMemoryOf, IsPointerIn, IsWithin, IsNamed}
 use Rattle.store_sound.specs.Concretization.RowMeaning.{StandsFor}
-use Rattle.store_sound.specs.Store.Gives.{Gives}
-use Rattle.store_sound.proofs.store.Frames.{pointer_in_moves, pointer_moves}
-use Rattle.store_sound.proofs.store.LoadSound.{instance_there}
-use Rattle.store_sound.proofs.store.Reading.{IsTouched, touched_goes}
-use Rattle.store_sound.proofs.store.Slices.{get_there}
-use Rattle.store_sound.proofs.store.StorePlaces.{not_empty}
-use Rattle.store_sound.proofs.store.TouchSound.{touch_admitted}
-use Rattle.store_sound.proofs.store.TouchedRest.{touch_stands}
-use Rattle.store_sound.proofs.store.Windows.{WindowHas, window_has}
+use Rattle.store_sound.specs.Operations.Gives.{Gives}
+use Rattle.store_sound.proofs.operations.Frames.{pointer_in_moves, pointer_moves}
+use Rattle.store_sound.proofs.operations.LoadSound.{instance_there}
+use Rattle.store_sound.proofs.operations.Reading.{IsTouched, touched_goes}
+use Rattle.store_sound.proofs.operations.Slices.{get_there}
+use Rattle.store_sound.proofs.operations.StorePlaces.{not_empty}
+use Rattle.store_sound.proofs.operations.TouchSound.{touch_admitted}
+use Rattle.store_sound.proofs.operations.TouchedRest.{touch_stands}
+use Rattle.store_sound.proofs.operations.Windows.{WindowHas, window_has}
 use Rattle.store_sound.specs.Programs.Premises.{HasPremises}
 use Rattle.store_sound.specs.Regions.RegionWrites.{IsRegion}
 use Rattle.store_sound.proofs.regions.Regions.{alike_region}

@@ -25,12 +25,12 @@ use Rattle.store_sound.specs.Concretization.RowMeaning.{array_bytes, IsLiveOf}
 use Rattle.store_sound.specs.Concretization.SoundMemory.{IsMemoryOf}
 use Rattle.store_sound.specs.Concretization.ValueMeaning.{Naming, StandsZero, StandsState}
 use Rattle.store_cells.specs.Walks.{walk}
-use Rattle.store_sound.proofs.store.Frames.{live_moves}
-use Rattle.store_sound.proofs.store.OneBases.{one_base}
-use Rattle.store_sound.proofs.store.Only.{only_put}
-use Rattle.store_sound.proofs.store.StoreRows.{zero_is}
-use Rattle.store_sound.proofs.store.StoreValues.{same_zero, same_state}
-use Rattle.store_sound.proofs.store.StoreZeros.{same_slices}
+use Rattle.store_sound.proofs.operations.Frames.{live_moves}
+use Rattle.store_sound.proofs.operations.OneBases.{one_base}
+use Rattle.store_sound.proofs.operations.Only.{only_put}
+use Rattle.store_sound.proofs.operations.StoreRows.{zero_is}
+use Rattle.store_sound.proofs.operations.StoreValues.{same_zero, same_state}
+use Rattle.store_sound.proofs.operations.StoreZeros.{same_slices}
 use Rattle.store_sound.specs.Regions.RegionWrites.{StandsBase}
 use Rattle.store_sound.proofs.regions.BaseRows.{states_move}
 use Rattle.store_sound.proofs.regions.RegionArrays.{array_short, put_zero_stands, any_zero_stands}

@@ -28,11 +28,11 @@ use Rattle.store_sound.specs.Concretization.Places.{OwnedByLeaf, IsLeafPlace}
 use Rattle.store_sound.specs.Concretization.SoundMemory.{IsMemoryOf}
 use Rattle.store_sound.specs.Concretization.ValueMeaning.{Naming}
 use Rattle.store_sound.specs.Concretization.RowMeaning.{IsLiveOf}
-use Rattle.store_sound.proofs.store.Classes.{class_above, same_class_is}
-use Rattle.store_sound.proofs.store.Frames.{in_or_out, live_moves, content_moves}
-use Rattle.store_sound.proofs.store.Slices.{get_there}
-use Rattle.store_sound.proofs.store.StoreRows.{zero_is}
-use Rattle.store_sound.proofs.store.TagPlaces.{is_tagged}
+use Rattle.store_sound.proofs.operations.Classes.{class_above, same_class_is}
+use Rattle.store_sound.proofs.operations.Frames.{in_or_out, live_moves, content_moves}
+use Rattle.store_sound.proofs.operations.Slices.{get_there}
+use Rattle.store_sound.proofs.operations.StoreRows.{zero_is}
+use Rattle.store_sound.proofs.operations.TagPlaces.{is_tagged}
 use Rattle.store_sound.specs.Regions.RegionWrites.{StandsBase}
 use Rattle.store_sound.proofs.regions.Regions.{alike_region}
 use Rattle.store_structs.specs.PaddingWrites.{unknown_value, write_padding}

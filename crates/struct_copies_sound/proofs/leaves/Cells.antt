@@ -16,7 +16,7 @@ use Rattle.memory_model.specs.Memory.Instances.{Memory}
 use Rattle.store_sound.specs.Concretization.Places.{IsPlaceOf, IsLeafPlace, OwnedByLeaf, OwnedByClass, IsClassPlace}
 use Rattle.store_sound.specs.Concretization.ValueMeaning.{Naming}
 use Rattle.store_sound.specs.Concretization.RowMeaning.{StandsCell}
-use Rattle.store_sound.proofs.store.Classes.{class_above}
+use Rattle.store_sound.proofs.operations.Classes.{class_above}
 use Rattle.store_sound.specs.Regions.RegionWrites.{StandsBase}
 
 -- the cell of a leaf, or a class cell

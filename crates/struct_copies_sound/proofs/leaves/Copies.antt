@@ -24,12 +24,12 @@ use Rattle.store_sound.specs.Concretization.Places.{IsPlaceOf, OwnedByLeaf}
 use Rattle.store_sound.specs.Concretization.SoundMemory.{IsMemoryOf}
 use Rattle.store_sound.specs.Concretization.ValueMeaning.{Naming}
 use Rattle.store_sound.specs.Concretization.RowMeaning.{IsLiveOf}
-use Rattle.store_sound.specs.Store.Shapes.{SeesPadding, IsLaidOut}
-use Rattle.store_sound.proofs.store.Classes.{class_above, same_class_is}
-use Rattle.store_sound.proofs.store.OneBases.{one_base}
-use Rattle.store_sound.proofs.store.Sets.{is_single}
-use Rattle.store_sound.proofs.store.StoreLeaves.{live_ended, not_older}
-use Rattle.store_sound.proofs.store.StoreRows.{Fits, leaf_is, class_is}
+use Rattle.store_sound.specs.Operations.Shapes.{SeesPadding, IsLaidOut}
+use Rattle.store_sound.proofs.operations.Classes.{class_above, same_class_is}
+use Rattle.store_sound.proofs.operations.OneBases.{one_base}
+use Rattle.store_sound.proofs.operations.Sets.{is_single}
+use Rattle.store_sound.proofs.operations.StoreLeaves.{live_ended, not_older}
+use Rattle.store_sound.proofs.operations.StoreRows.{Fits, leaf_is, class_is}
 use Rattle.store_sound.specs.Regions.RegionWrites.{IsRegion}
 use Rattle.struct_copies_sound.specs.Spans.SpanBytes.{IsInSpan, IsShortSpan}
 use Rattle.store_struct_leaves.specs.CopyPlaces.{span_of_leaf, span_is_one, is_apart, all_in_one, joined_meet, meets, is_reached}

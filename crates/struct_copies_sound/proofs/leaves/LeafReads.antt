@@ -29,11 +29,11 @@ use Rattle.store_sound.specs.Concretization.Matching.{Fits, Matched, number_in, 
 use Rattle.store_sound.specs.Concretization.Places.{IsPlaceOf, OwnedByLeaf}
 use Rattle.store_sound.specs.Concretization.SoundMemory.{IsContentIn}
 use Rattle.store_sound.specs.Concretization.ValueMeaning.{Naming, StandsContent}
-use Rattle.store_sound.specs.Store.Gives.{Gives}
-use Rattle.store_sound.proofs.store.CharValues.{byte_stands, padding_stands}
-use Rattle.store_sound.proofs.store.Classes.{same_class_is, class_above}
-use Rattle.store_sound.proofs.store.Larger.{value_below, content_larger}
-use Rattle.store_sound.proofs.store.Slices.{get_there}
+use Rattle.store_sound.specs.Operations.Gives.{Gives}
+use Rattle.store_sound.proofs.operations.CharValues.{byte_stands, padding_stands}
+use Rattle.store_sound.proofs.operations.Classes.{same_class_is, class_above}
+use Rattle.store_sound.proofs.operations.Larger.{value_below, content_larger}
+use Rattle.store_sound.proofs.operations.Slices.{get_there}
 use Rattle.store_struct_leaves.specs.LeafCopies.{read_base, read_leaf}
 use Rattle.store_structs.specs.StructCopies.{leaf_access, read_source}
 use Rattle.store_struct_leaves.specs.declared.leaf_copies.LeafAccess.{LeafAccess}

@@ -8,9 +8,9 @@ use Rattle.memory_model.specs.Memory.Bytes.{Tag}
 use Rattle.memory_model.specs.Memory.Tags.{tag_of, tag_at}
 use Rattle.store_sound.specs.Concretization.Matching.{Fits}
 use Rattle.store_sound.specs.Concretization.Places.{IsPlaceOf, IsLeafPlace}
-use Rattle.store_sound.specs.Store.Shapes.{IsShaped, at_offset}
-use Rattle.store_sound.proofs.store.Selected.{counted_place}
-use Rattle.store_sound.proofs.store.TagPlaces.{is_tagged}
+use Rattle.store_sound.specs.Operations.Shapes.{IsShaped, at_offset}
+use Rattle.store_sound.proofs.operations.Selected.{counted_place}
+use Rattle.store_sound.proofs.operations.TagPlaces.{is_tagged}
 
 -- a leaf of the class stands there, or none does and the base is one of the heap
 abbrev pub OwnPlace : BaseInfo → Class → ℕ → Type 0

@@ -24,11 +24,11 @@ use Rattle.store_cells.specs.ScalarTypes.{kind_of}
 use Rattle.store_cells.specs.Walks.{turns}
 use Rattle.store_cells.specs.declared.access_windows.Window.{Window}
 use Rattle.store_sound.specs.Concretization.Places.{IsPlaceOf, OwnedByLeaf, IsLeafPlace}
-use Rattle.store_sound.specs.Store.Gives.{Gives}
-use Rattle.store_sound.specs.Store.Shapes.{IsShaped, at_offset}
-use Rattle.store_sound.proofs.store.Classes.{is_same_class}
-use Rattle.store_sound.proofs.store.Found.{given_left, given_by_right, if_keeps, if_gives}
-use Rattle.store_sound.proofs.store.Walks.{walk_keeps, walk_meets, turns_meet}
+use Rattle.store_sound.specs.Operations.Gives.{Gives}
+use Rattle.store_sound.specs.Operations.Shapes.{IsShaped, at_offset}
+use Rattle.store_sound.proofs.operations.Classes.{is_same_class}
+use Rattle.store_sound.proofs.operations.Found.{given_left, given_by_right, if_keeps, if_gives}
+use Rattle.store_sound.proofs.operations.Walks.{walk_keeps, walk_meets, turns_meet}
 use Rattle.struct_copies_sound.specs.Spans.SpanBytes.{IsInSpan, IsShortSpan, SpanSees}
 use Rattle.struct_copies_sound.proofs.spans.SpanBytes.{spans_see, joined_has}
 use Rattle.store_monotone.proofs.shapes.LeafBytes.{few_bytes}

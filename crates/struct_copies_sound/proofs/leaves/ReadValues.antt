@@ -27,11 +27,11 @@ use Rattle.memory_model.specs.Memory.Labels.{Labels}
 use Rattle.memory_model.specs.Memory.Numbers.{Labelled, number_of}
 use Rattle.store_sound.specs.Concretization.SeenLabels.{as_set}
 use Rattle.store_sound.specs.Concretization.ValueMeaning.{Naming, StandsContent}
-use Rattle.store_sound.proofs.store.Classes.{class_above, class_size}
-use Rattle.store_sound.proofs.store.FreshValues.{type_near}
-use Rattle.store_sound.proofs.store.Near.{IsNearValue, join_near, near_number_from, near_number_none}
-use Rattle.store_sound.proofs.store.Rereading.{reread}
-use Rattle.store_sound.proofs.store.Texts.{byte_flag}
+use Rattle.store_sound.proofs.operations.Classes.{class_above, class_size}
+use Rattle.store_sound.proofs.operations.FreshValues.{type_near}
+use Rattle.store_sound.proofs.operations.Near.{IsNearValue, join_near, near_number_from, near_number_none}
+use Rattle.store_sound.proofs.operations.Rereading.{reread}
+use Rattle.store_sound.proofs.operations.Texts.{byte_flag}
 use Rattle.store_sound.proofs.chars.ByteValues.{written_near}
 
 -- no part of a pointer

@@ -28,12 +28,12 @@ use Rattle.store_sound.specs.Concretization.Matching.{Fits}
 use Rattle.store_sound.specs.Concretization.Places.{OwnedByLeaf, OwnedByClass, IsLeafPlace, IsClassPlace}
 use Rattle.store_sound.specs.Concretization.SoundMemory.{IsMemoryOf}
 use Rattle.store_sound.specs.Concretization.ValueMeaning.{Naming}
-use Rattle.store_sound.specs.Store.Gives.{Gives}
-use Rattle.store_sound.specs.Store.Shapes.{IsShaped, SeesPadding, at_offset}
-use Rattle.store_sound.proofs.store.Classes.{same_class_is, class_small, class_number_back}
-use Rattle.store_sound.proofs.store.LoadSound.{instance_there}
-use Rattle.store_sound.proofs.store.Selected.{counted_place, uncounted_place}
-use Rattle.store_sound.proofs.store.TagPlaces.{is_tagged}
+use Rattle.store_sound.specs.Operations.Gives.{Gives}
+use Rattle.store_sound.specs.Operations.Shapes.{IsShaped, SeesPadding, at_offset}
+use Rattle.store_sound.proofs.operations.Classes.{same_class_is, class_small, class_number_back}
+use Rattle.store_sound.proofs.operations.LoadSound.{instance_there}
+use Rattle.store_sound.proofs.operations.Selected.{counted_place, uncounted_place}
+use Rattle.store_sound.proofs.operations.TagPlaces.{is_tagged}
 use Rattle.store_struct_leaves.specs.LeafCopies.{read_base}
 use Rattle.store_struct_leaves.specs.declared.leaf_copies.LeafAccess.{LeafAccess}
 use Rattle.struct_copies_sound.proofs.leaves.OwnPlaces.{OwnPlace, own_place}

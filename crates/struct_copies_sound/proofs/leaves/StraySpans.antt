@@ -10,10 +10,10 @@ use Rattle.store_cells.specs.AccessWindows.{window_between}
 use Rattle.store_cells.specs.ClassNumbers.{same_class}
 use Rattle.store.specs.LeafSelection.{has_place_in}
 use Rattle.store_cells.specs.RowPositions.{capped}
-use Rattle.store_monotone.proofs.store.PlacesOfLeaves.{place_of_test}
+use Rattle.store_monotone.proofs.operations.PlacesOfLeaves.{place_of_test}
 use Rattle.store_monotone.proofs.structs.JoinedSpans.{joined_twice}
-use Rattle.store_sound.specs.Store.Shapes.{at_offset}
-use Rattle.store_sound.proofs.store.Classes.{count_some, count_either}
+use Rattle.store_sound.specs.Operations.Shapes.{at_offset}
+use Rattle.store_sound.proofs.operations.Classes.{count_some, count_either}
 use Rattle.struct_copies_sound.specs.Spans.SpanBytes.{IsInSpan, IsShortSpan}
 use Rattle.struct_copies_sound.proofs.spans.SpanBytes.{joined_has}
 use Rattle.store_struct_leaves.specs.CopyPlaces.{any_below, span_width, span_size, span_joined, one_place_meets, alike_meets, each_meets, several_meet, joined_meet, meets, is_reached, reached_count, span_has_stray}

@@ -10,7 +10,7 @@ use Rattle.memory_model.specs.Memory.ScalarSizes.{class_bytes}
 use Rattle.memory_model.specs.Memory.Bytes.{Tag}
 use Rattle.memory_model.specs.Memory.Tags.{tag_of, stride_tag, distance_tag, leaf_tag, or_tag, tag_at}
 use Rattle.store_sound.specs.Concretization.Places.{OwnedByLeaf}
-use Rattle.store_sound.proofs.store.TagPlaces.{is_tagged}
+use Rattle.store_sound.proofs.operations.TagPlaces.{is_tagged}
 use Rattle.struct_copies_sound.specs.Leaves.StructLeaves.{IsStruct}
 
 -- ---- one leaf

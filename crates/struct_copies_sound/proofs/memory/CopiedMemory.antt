@@ -17,13 +17,13 @@ use Rattle.memory_model.specs.Effects.StructCopies.{fits_leaf, fit_type, is_poin
 use Rattle.memory_model.specs.Effects.Touches.{is_allocated, storage_of, storage_at, set_bytes}
 use Rattle.store_sound.specs.Concretization.SoundMemory.{IsInstanceOf, IsFreedRightly, IsMemoryOf, IsContentIn, IsContentNamed}
 use Rattle.store_sound.specs.Concretization.ValueMeaning.{Naming}
-use Rattle.store_sound.specs.Store.Shapes.{AreShaped}
-use Rattle.store_sound.proofs.store.Classes.{same_class_is}
-use Rattle.store_sound.proofs.store.Frames.{IsAlike, pointer_in_moves, in_or_out}
-use Rattle.store_sound.proofs.store.Reading.{region_at, region_length}
-use Rattle.store_sound.proofs.store.Slices.{get_there}
-use Rattle.store_sound.proofs.store.StoreMemory.{content_in_moves, content_named_moves}
-use Rattle.store_sound.proofs.store.TagPlaces.{is_tagged}
+use Rattle.store_sound.specs.Operations.Shapes.{AreShaped}
+use Rattle.store_sound.proofs.operations.Classes.{same_class_is}
+use Rattle.store_sound.proofs.operations.Frames.{IsAlike, pointer_in_moves, in_or_out}
+use Rattle.store_sound.proofs.operations.Reading.{region_at, region_length}
+use Rattle.store_sound.proofs.operations.Slices.{get_there}
+use Rattle.store_sound.proofs.operations.StoreMemory.{content_in_moves, content_named_moves}
+use Rattle.store_sound.proofs.operations.TagPlaces.{is_tagged}
 use Rattle.store_sound.specs.Regions.RegionWrites.{IsRegion}
 use Rattle.store_sound.proofs.regions.Regions.{alike_region}
 use Rattle.memory_calls_sound.proofs.moves.MovedMemory.{IsReplaced, bytes_replaced, replaced_byte}

@@ -17,10 +17,10 @@ use Rattle.store_cells.specs.RowPositions.{capped, zero_position, zero_at, put_z
 use Rattle.memory_model.specs.Memory.Instances.{Memory, bytes_at, byte_at}
 use Rattle.store_sound.specs.Concretization.RowMeaning.{array_of, array_bytes, IsLiveOf}
 use Rattle.store_sound.specs.Concretization.ValueMeaning.{Naming, StandsZero}
-use Rattle.store_sound.specs.Store.Shapes.{AreLaid}
-use Rattle.store_sound.proofs.store.Only.{only_put}
-use Rattle.store_sound.proofs.store.StoreRows.{Fits, zero_is}
-use Rattle.store_sound.proofs.store.StoreValues.{same_zero}
+use Rattle.store_sound.specs.Operations.Shapes.{AreLaid}
+use Rattle.store_sound.proofs.operations.Only.{only_put}
+use Rattle.store_sound.proofs.operations.StoreRows.{Fits, zero_is}
+use Rattle.store_sound.proofs.operations.StoreValues.{same_zero}
 use Rattle.store_sound.proofs.chars.ByteArrays.{target_is, target_there}
 use Rattle.store_sound.proofs.regions.RegionArrays.{array_get, array_short, array_apart, put_zero_stands, any_zero_stands}
 use Rattle.store_structs.specs.CopyZeros.{Exact, source_offset, source_part, lies_within, lies_inside, zero_from, zero_copied, copy_part_at, copy_part, copy_zeros}

@@ -13,9 +13,9 @@ use Rattle.memory_model.specs.Effects.StructCopies.{overlap, same_spot, fit_type
 use Rattle.memory_model.specs.Effects.Touches.{Spot, touched, is_allocated, storage_at}
 use Rattle.memory_model.specs.Effects.Worlds.{World, goes, stops, behind, Left}
 use Rattle.store_sound.specs.Concretization.SoundMemory.{IsMemoryOf, IsPointerIn, IsNamed, IsWithin}
-use Rattle.store_sound.specs.Store.Shapes.{AreShaped}
-use Rattle.store_sound.proofs.store.LoadSound.{instance_there}
-use Rattle.store_sound.proofs.store.Reading.{behind_goes, IsTouched, touched_goes}
+use Rattle.store_sound.specs.Operations.Shapes.{AreShaped}
+use Rattle.store_sound.proofs.operations.LoadSound.{instance_there}
+use Rattle.store_sound.proofs.operations.Reading.{behind_goes, IsTouched, touched_goes}
 use Rattle.struct_copies_sound.specs.Memory.CopiedMemory.{CopyKeeps}
 use Rattle.struct_copies_sound.proofs.memory.CopiedMemory.{copied_sane}
 

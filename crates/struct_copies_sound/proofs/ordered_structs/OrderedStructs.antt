@@ -17,7 +17,7 @@ use Rattle.cfg.specs.StaticStarts.{are_started}
 use Rattle.cfg.specs.StructCounts.{are_counted}
 use Rattle.cfg.specs.WellFormed.{are_blocks, fits_edge, are_placed, all_values, is_initial_object, is_parameter, is_within, names_of, are_few, is_laid_out, is_well_formed}
 use Rattle.cfg.specs.declared.programs.Flow.{Flow}
-use Rattle.store_monotone.proofs.store.Loads.{some_bytes}
+use Rattle.store_monotone.proofs.operations.Loads.{some_bytes}
 use Rattle.store_monotone.proofs.shapes.LeafBytes.{same_bytes}
 use Rattle.store_sound.proofs.programs.WellFormedPremises.{well_formed_good}
 use Rattle.store_structs.specs.LeafNumbers.{struct_leaf}

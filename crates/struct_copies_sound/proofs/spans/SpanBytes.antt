@@ -13,7 +13,7 @@ use Rattle.store.specs.LeafSelection.{has_place_in}
 use Rattle.store_cells.specs.RowPositions.{capped}
 use Rattle.store_cells.specs.ScalarTypes.{class_bytes}
 use Rattle.store_sound.specs.Concretization.Places.{IsPlaceOf, OwnedByLeaf}
-use Rattle.store_sound.proofs.store.Selected.{place_selected}
+use Rattle.store_sound.proofs.operations.Selected.{place_selected}
 use Rattle.store_struct_leaves.specs.CopyPlaces.{any_below, shifted, span_width, is_apart, all_in_one, span_joined, span_window, span_raised, leaf_raised, one_place_meets, alike_meets, window_meets, each_meets, several_meet, joined_meet, meets, is_reached, is_touched}
 use Rattle.store_struct_leaves.specs.declared.copy_places.Span.{Span}
 use Rattle.struct_copies_sound.specs.Spans.SpanBytes.{IsInSpan, IsShortSpan, SpansSee}

@@ -6,7 +6,7 @@ use Rattle.std.proofs.lemmas.List.Sums.{sum_by-cons}
 use Rattle.c_layout.specs.declared.data_model.Model.{Model}
 use Rattle.c_layout.specs.declared.leaf_lists.Leaf.{Leaf}
 use Rattle.store_sound.specs.Concretization.Places.{OwnedByLeaf}
-use Rattle.store_sound.proofs.store.Classes.{class_above, count_some, count_either}
+use Rattle.store_sound.proofs.operations.Classes.{class_above, count_some, count_either}
 use Rattle.struct_copies_sound.specs.Leaves.StructLeaves.{IsStruct}
 
 module _ {X : Type 0} (p : X → Bool) where

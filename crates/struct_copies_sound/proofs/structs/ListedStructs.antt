@@ -16,7 +16,7 @@ use Rattle.c_layout.specs.declared.leaf_lists.Leaf.{Leaf}
 use Rattle.c_layout.specs.declared.shapes.BaseInfo.{BaseInfo}
 use Rattle.cfg.specs.BaseShapes.{is_extent, leaf_end, has_extents, is_stride, is_apart, follows, first_of, nowhere, are_apart, are_leaves, are_parts, lie_over, are_whole, is_heap, is_single, is_heap_base, is_declared_base, is_shaped}
 use Rattle.cfg.specs.ModelKinds as kinds
-use Rattle.store_monotone.proofs.store.Loads.{some_bytes}
+use Rattle.store_monotone.proofs.operations.Loads.{some_bytes}
 use Rattle.store_structs.specs.LaidApart.{are_laid_apart}
 use Rattle.store_monotone.proofs.layouts.Extents.{AreExtents}
 use Rattle.store_monotone.proofs.layouts.TypeExtents.{IsFolded, IsByte, folded_struct, struct_size}

@@ -12,7 +12,7 @@ use Rattle.memory_model.specs.Memory.Bytes.{Byte}
 use Rattle.memory_model.specs.Memory.Instances.{Memory, bytes_at, byte_at}
 use Rattle.store_sound.specs.Concretization.RowMeaning.{array_bytes, IsLiveOf}
 use Rattle.store_sound.specs.Concretization.ValueMeaning.{Naming, StandsZero}
-use Rattle.store_sound.specs.Store.Shapes.{AreLaid}
+use Rattle.store_sound.specs.Operations.Shapes.{AreLaid}
 use Rattle.store_sound.specs.Regions.RegionWrites.{IsRegion}
 use Rattle.store_structs.specs.CopyZeros.{Exact, copy_zeros}
 

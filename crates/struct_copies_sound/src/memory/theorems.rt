@@ -2,7 +2,7 @@
 ghost use Rattle.std.specs.Prelude.{List};
 ghost use Rattle.c_layout.specs.declared.data_model.Model.{Model};
 ghost use Rattle.c_layout.specs.declared.shapes.BaseInfo.{BaseInfo};
-ghost use Rattle.store_sound.specs.Store.Shapes.{AreShaped};
+ghost use Rattle.store_sound.specs.Operations.Shapes.{AreShaped};
 ghost use Rattle.struct_copies_sound.specs.Memory.CopiedMemory.{CopyKeeps};
 ghost use Rattle.struct_copies_sound.specs.Memory.CopiedZeros.{CopiedZerosStand};
 

@@ -16,7 +16,7 @@ use Rattle.cfg.specs.WellFormed.{names_of, fits_operation}
 use Rattle.value_domain.specs.declared.values.row_cells.Cell.{Cell}
 use Rattle.value_domain.specs.Values.Cells.{cell_lattice}
 use Rattle.domain_theorems.proofs.values.Flags.{Sets}
-use Rattle.store_monotone.specs.Store.TopRows.{top_row}
+use Rattle.store_monotone.specs.Operations.TopRows.{top_row}
 use Rattle.transfer_checks.specs.declared.violation_sets.Violations.{Violations}
 use Rattle.transfer_checks.specs.ViolationSets.{violates}
 use Rattle.transfer_system.specs.StepViolations.{operation_violations}

@@ -18,9 +18,9 @@ use Rattle.domain_theorems.proofs.values.Ranges.{RangeBelow, range_refl, bounds_
 use Rattle.store_cells.specs.declared.access_windows.Window.{Window}
 use Rattle.store_cells.specs.AccessWindows.{window_within}
 use Rattle.store_objects.specs.LiveBases.{writable_of}
-use Rattle.store_monotone.specs.Store.TopCells.{top_value}
-use Rattle.store_monotone.proofs.store.AddedRanges.{added_monotone}
-use Rattle.store_monotone.proofs.store.Windows.{within_monotone}
+use Rattle.store_monotone.specs.Operations.TopCells.{top_value}
+use Rattle.store_monotone.proofs.operations.AddedRanges.{added_monotone}
+use Rattle.store_monotone.proofs.operations.Windows.{within_monotone}
 use Rattle.transfer_checks.specs.declared.library_arguments.Argument.{Argument}
 use Rattle.transfer_checks.specs.declared.string_scans.Scanned.{Scanned}
 use Rattle.transfer_checks.specs.LibraryArguments.{touched_window, cut_by_room}

@@ -17,9 +17,9 @@ use Rattle.domain_theorems.proofs.values.Parts.{PointersBelow}
 use Rattle.domain_theorems.proofs.values.Ranges.{RangeBelow}
 use Rattle.store_cells.specs.declared.access_windows.Window.{Window}
 use Rattle.store_cells.specs.AccessWindows.{last_offset, window_between, window_within, window_met, added_ranges}
-use Rattle.store_monotone.specs.Store.Placements.{WindowWithin}
-use Rattle.store_monotone.specs.Store.TopCells.{top_value}
-use Rattle.store_monotone.proofs.store.Windows.{WindowsBelow}
+use Rattle.store_monotone.specs.Operations.Placements.{WindowWithin}
+use Rattle.store_monotone.specs.Operations.TopCells.{top_value}
+use Rattle.store_monotone.proofs.operations.Windows.{WindowsBelow}
 use Rattle.transfer_checks.specs.LibraryArguments.{touched_from, end_of, touched_window}
 use Rattle.transfer_library.specs.StringCalls.{window_from_place, window_from_offset, window_behind, append_start, append_window}
 use Rattle.system_monotone.proofs.library_writes.WriteTargets.{window_is_of, touched_first}

@@ -18,10 +18,10 @@ use Rattle.domain_theorems.proofs.values.Ranges.{RangeBelow, range_refl}
 use Rattle.store_cells.specs.declared.access_windows.Window.{Window}
 use Rattle.store_cells.specs.AccessWindows.{window_within}
 use Rattle.store_objects.specs.LiveBases.{writable_of}
-use Rattle.store_monotone.specs.Store.Placements.{WindowWithin}
-use Rattle.store_monotone.specs.Store.TopCells.{top_value}
-use Rattle.store_monotone.specs.Store.TopRows.{top_row}
-use Rattle.store_monotone.proofs.store.Windows.{WindowsBelow, within_monotone}
+use Rattle.store_monotone.specs.Operations.Placements.{WindowWithin}
+use Rattle.store_monotone.specs.Operations.TopCells.{top_value}
+use Rattle.store_monotone.specs.Operations.TopRows.{top_row}
+use Rattle.store_monotone.proofs.operations.Windows.{WindowsBelow, within_monotone}
 use Rattle.transfer_checks.specs.LibraryArguments.{after_write, writes_literal, last_touched, touched_from, end_of, touched_window, passes_room, cut_by_room}
 use Rattle.transfer_library_plans.specs.declared.call_plans.Effect.{Effect}
 use Rattle.transfer_library_plans.specs.declared.call_plans.Effect.TheVariants as effect

@@ -24,13 +24,13 @@ use Rattle.store.specs.LeafSelection.{is_overlapped, has_stray, meets_padding}
 use Rattle.store_objects.specs.LiveBases.{has_base}
 use Rattle.store_cells.specs.RowPositions.{leaf_position, class_position, value_at}
 use Rattle.store_cells.specs.Walks.{walk, turns}
-use Rattle.store_monotone.specs.Store.Placements.{EachFrom, WindowWithin, IsPlaced, IsRegular}
-use Rattle.store_monotone.specs.Store.TopCells.{top_value}
-use Rattle.store_monotone.proofs.store.CellReads.{labels_top}
-use Rattle.store_monotone.proofs.store.Consistent.{even_join}
-use Rattle.store_monotone.proofs.store.LiveSets.{has_monotone}
-use Rattle.store_monotone.proofs.store.PairedSteps.{Step, walk_step, turns_step, then_step, if_step, same_step, numbers_below}
-use Rattle.store_monotone.proofs.store.Windows.{WindowsBelow, overlapped_monotone}
+use Rattle.store_monotone.specs.Operations.Placements.{EachFrom, WindowWithin, IsPlaced, IsRegular}
+use Rattle.store_monotone.specs.Operations.TopCells.{top_value}
+use Rattle.store_monotone.proofs.operations.CellReads.{labels_top}
+use Rattle.store_monotone.proofs.operations.Consistent.{even_join}
+use Rattle.store_monotone.proofs.operations.LiveSets.{has_monotone}
+use Rattle.store_monotone.proofs.operations.PairedSteps.{Step, walk_step, turns_step, then_step, if_step, same_step, numbers_below}
+use Rattle.store_monotone.proofs.operations.Windows.{WindowsBelow, overlapped_monotone}
 use Rattle.transfer_library_writes.specs.declared.copied_bytes.CopiedBytes.{CopiedBytes}
 use Rattle.transfer_library_writes.specs.CopyWrites.{no_bytes, with_cell, with_padding, with_leaf, with_leaves, is_read_class, with_class, with_class_cells, as_numbers, with_rest, with_base, with_base_if, with_base_of, bytes_of_source}
 use Rattle.transfer_monotone.specs.Values.RisingRows.{PointersRise, ValuesRise, RowsRise}

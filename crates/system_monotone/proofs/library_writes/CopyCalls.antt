@@ -20,11 +20,11 @@ use Rattle.domain_theorems.proofs.values.Ranges.{RangeBelow, range_refl, bounds_
 use Rattle.store_cells.specs.declared.access_windows.Window.{Window}
 use Rattle.store_cells.specs.AccessWindows.{window_within}
 use Rattle.store_objects.specs.LiveBases.{writable_of}
-use Rattle.store_monotone.specs.Store.Placements.{EachFrom, WindowWithin, IsPlaced, IsRegular}
-use Rattle.store_monotone.specs.Store.TopRows.{top_row}
-use Rattle.store_monotone.proofs.store.LiveBases.{writable_monotone}
-use Rattle.store_monotone.proofs.store.Together.{each}
-use Rattle.store_monotone.proofs.store.Windows.{WindowsBelow, within_monotone}
+use Rattle.store_monotone.specs.Operations.Placements.{EachFrom, WindowWithin, IsPlaced, IsRegular}
+use Rattle.store_monotone.specs.Operations.TopRows.{top_row}
+use Rattle.store_monotone.proofs.operations.LiveBases.{writable_monotone}
+use Rattle.store_monotone.proofs.operations.Together.{each}
+use Rattle.store_monotone.proofs.operations.Windows.{WindowsBelow, within_monotone}
 use Rattle.transfer_checks.specs.declared.library_arguments.Argument.{Argument}
 use Rattle.transfer_checks.specs.IntegerChecks.{sink_violations}
 use Rattle.transfer_checks.specs.LibraryArguments.{passes_room, cut_by_room, last_touched, touched_from, end_of, touched_window}

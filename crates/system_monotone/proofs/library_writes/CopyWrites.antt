@@ -26,15 +26,15 @@ use Rattle.store.specs.LeafSelection.{is_overlapped, has_stray}
 use Rattle.store_objects.specs.LiveBases.{has_base}
 use Rattle.store_cells.specs.RowPositions.{cell_at, leaf_position, class_position, zero_position, join_value}
 use Rattle.store_cells.specs.ScalarTypes.{kind_of}
-use Rattle.store_monotone.specs.Store.ConsistentRows.{AreConsistent}
-use Rattle.store_monotone.specs.Store.Placements.{EachFrom, WindowWithin, IsPlaced, IsRegular}
-use Rattle.store_monotone.specs.Store.TopCells.{top_number, top_value}
-use Rattle.store_monotone.proofs.store.CellReads.{whole_monotone, whole_top, labels_top}
-use Rattle.store_monotone.proofs.store.Consistent.{IsEven, even_bare, set_keeps}
-use Rattle.store_monotone.proofs.store.LiveSets.{has_monotone}
-use Rattle.store_monotone.proofs.store.PairedSteps.{Step, walk_pair, walk_step, turns_step, then_step, if_step, same_step, numbers_below, any_each}
-use Rattle.store_monotone.proofs.store.Windows.{overlapped_monotone}
-use Rattle.store_monotone.proofs.store.ZeroTargets.{forget_step}
+use Rattle.store_monotone.specs.Operations.ConsistentRows.{AreConsistent}
+use Rattle.store_monotone.specs.Operations.Placements.{EachFrom, WindowWithin, IsPlaced, IsRegular}
+use Rattle.store_monotone.specs.Operations.TopCells.{top_number, top_value}
+use Rattle.store_monotone.proofs.operations.CellReads.{whole_monotone, whole_top, labels_top}
+use Rattle.store_monotone.proofs.operations.Consistent.{IsEven, even_bare, set_keeps}
+use Rattle.store_monotone.proofs.operations.LiveSets.{has_monotone}
+use Rattle.store_monotone.proofs.operations.PairedSteps.{Step, walk_pair, walk_step, turns_step, then_step, if_step, same_step, numbers_below, any_each}
+use Rattle.store_monotone.proofs.operations.Windows.{overlapped_monotone}
+use Rattle.store_monotone.proofs.operations.ZeroTargets.{forget_step}
 use Rattle.transfer_library_writes.specs.declared.copied_bytes.CopiedBytes.{CopiedBytes}
 use Rattle.transfer_library_writes.specs.declared.copied_bytes.CopyWrite.{CopyWrite}
 use Rattle.transfer_library_writes.specs.CopyWrites.{is_read_class, with_null, copied_value, copy_leaf, copy_leaf_of, copy_leaves, copy_class_of, copy_class_cells, copy_heap_part, copy_base, copy_base_if, copy_in, write_copy}

@@ -25,11 +25,11 @@ use Rattle.domain_theorems.proofs.values.Ranges.{RangeBelow, bounds_monotone}
 use Rattle.store_cells.specs.declared.access_windows.Window.{Window}
 use Rattle.store_cells.specs.AccessWindows.{window_within}
 use Rattle.store_objects.specs.LiveBases.{writable_of}
-use Rattle.store_monotone.specs.Store.TopCells.{top_value}
-use Rattle.store_monotone.specs.Store.TopRows.{top_row}
-use Rattle.store_monotone.proofs.store.LiveBases.{writable_monotone}
-use Rattle.store_monotone.proofs.store.Together.{each}
-use Rattle.store_monotone.proofs.store.Windows.{WindowsBelow}
+use Rattle.store_monotone.specs.Operations.TopCells.{top_value}
+use Rattle.store_monotone.specs.Operations.TopRows.{top_row}
+use Rattle.store_monotone.proofs.operations.LiveBases.{writable_monotone}
+use Rattle.store_monotone.proofs.operations.Together.{each}
+use Rattle.store_monotone.proofs.operations.Windows.{WindowsBelow}
 use Rattle.transfer_checks.specs.declared.library_arguments.Argument.{Argument}
 use Rattle.transfer_checks.specs.IntegerChecks.{sink_violations}
 use Rattle.transfer_checks.specs.LibraryArguments.{after_write, writes_literal, touched_window, passes_room, cut_by, cut_by_room}

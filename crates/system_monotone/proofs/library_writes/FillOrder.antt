@@ -4,8 +4,8 @@ use Rattle.pointer_domain.specs.BaseSets.{bases_within}
 use Rattle.value_domain.specs.Values.LabelSets.{labels_leq}
 use Rattle.domain_theorems.proofs.values.Flags.{Sets}
 use Rattle.store_cells.specs.declared.access_windows.Window.{Window}
-use Rattle.store_monotone.specs.Store.Placements.{WindowWithin}
-use Rattle.store_monotone.proofs.store.Windows.{WindowsBelow}
+use Rattle.store_monotone.specs.Operations.Placements.{WindowWithin}
+use Rattle.store_monotone.proofs.operations.Windows.{WindowsBelow}
 use Rattle.transfer_library_writes.specs.declared.fill_writes.FillWrite.{FillWrite}
 use Rattle.system_monotone.specs.LibraryWrites.TextOrder.{StartsBelow}
 

@@ -29,10 +29,10 @@ use Rattle.store_cells.specs.CellReads.{whole_range}
 use Rattle.store_cells.specs.ClassNumbers.{is_pointer}
 use Rattle.store.specs.LeafSelection.{has_place_in, is_overlapped, turns_into}
 use Rattle.store_cells.specs.ScalarTypes.{class_bytes, kind_of}
-use Rattle.store_monotone.specs.Store.TopCells.{top_value}
-use Rattle.store_monotone.proofs.store.CellReads.{written_monotone, written_top}
-use Rattle.store_monotone.proofs.store.Consistent.{IsEven, even_bare}
-use Rattle.store_monotone.proofs.store.Windows.{WindowsBelow}
+use Rattle.store_monotone.specs.Operations.TopCells.{top_value}
+use Rattle.store_monotone.proofs.operations.CellReads.{written_monotone, written_top}
+use Rattle.store_monotone.proofs.operations.Consistent.{IsEven, even_bare}
+use Rattle.store_monotone.proofs.operations.Windows.{WindowsBelow}
 use Rattle.transfer_library_writes.specs.declared.fill_writes.FillWrite.{FillWrite}
 use Rattle.transfer_library_writes.specs.FillWrites.{last_byte, is_covered_by, is_covered, zeroed, covered_value}
 use Rattle.system_monotone.proofs.library_writes.WrittenCells.{bytes_even}

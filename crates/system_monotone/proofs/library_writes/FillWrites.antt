@@ -31,16 +31,16 @@ use Rattle.store.specs.LeafSelection.{is_overlapped, has_stray}
 use Rattle.store_objects.specs.LiveBases.{has_base, is_one_instance}
 use Rattle.store_cells.specs.RowPositions.{cell_at, leaf_position, class_position, zero_position, state_position, zero_at, put_zero, state_at, write_value}
 use Rattle.store_cells.specs.Walks.{turns}
-use Rattle.store_monotone.specs.Store.Placements.{EachFrom, WindowWithin, IsPlaced, IsRegular}
-use Rattle.store_monotone.specs.Store.RowsBelow.{RowsBelow}
-use Rattle.store_monotone.specs.Store.TopCells.{top_value}
-use Rattle.store_monotone.proofs.store.Consistent.{IsEven}
-use Rattle.store_monotone.proofs.store.FirstZeros.{zero_at_monotone, zero_at_top}
-use Rattle.store_monotone.proofs.store.Freeing.{state_at_monotone}
-use Rattle.store_monotone.proofs.store.LiveSets.{has_monotone}
-use Rattle.store_monotone.proofs.store.PairedSteps.{Step, walk_step, turns_step, then_step, if_step, same_step, numbers_below}
-use Rattle.store_monotone.proofs.store.Windows.{overlapped_monotone}
-use Rattle.store_monotone.proofs.store.ZeroTargets.{TargetBelow, target_monotone}
+use Rattle.store_monotone.specs.Operations.Placements.{EachFrom, WindowWithin, IsPlaced, IsRegular}
+use Rattle.store_monotone.specs.Operations.RowsBelow.{RowsBelow}
+use Rattle.store_monotone.specs.Operations.TopCells.{top_value}
+use Rattle.store_monotone.proofs.operations.Consistent.{IsEven}
+use Rattle.store_monotone.proofs.operations.FirstZeros.{zero_at_monotone, zero_at_top}
+use Rattle.store_monotone.proofs.operations.Freeing.{state_at_monotone}
+use Rattle.store_monotone.proofs.operations.LiveSets.{has_monotone}
+use Rattle.store_monotone.proofs.operations.PairedSteps.{Step, walk_step, turns_step, then_step, if_step, same_step, numbers_below}
+use Rattle.store_monotone.proofs.operations.Windows.{overlapped_monotone}
+use Rattle.store_monotone.proofs.operations.ZeroTargets.{TargetBelow, target_monotone}
 use Rattle.transfer_library_writes.specs.declared.fill_writes.FillWrite.{FillWrite}
 use Rattle.transfer_library_writes.specs.TextWrites.{is_whole, lies_in_array}
 use Rattle.transfer_library_writes.specs.FillWrites.{is_covered, holds_whole, is_from_start, covered_value, fill_leaf, fill_leaf_of, fill_leaves, clears_instance, class_value, fill_stray, fill_class, fill_classes, fill_class_cells, zero_met_at, fill_zero, fill_zeros, fill_heap_part, fill_base, fill_base_if, fill_in, write_fill}

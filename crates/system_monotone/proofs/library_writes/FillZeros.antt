@@ -16,9 +16,9 @@ use Rattle.store_cells.specs.declared.access_windows.Window.{Window}
 use Rattle.store_cells.specs.declared.first_zero_writes.ZeroTarget.{ZeroTarget}
 use Rattle.store_cells.specs.AccessWindows.{last_offset, window_is_one}
 use Rattle.store_cells.specs.FirstZeroWrites.{any_zero, offsets_of, sure_or_joined}
-use Rattle.store_monotone.specs.Store.Placements.{WindowWithin}
-use Rattle.store_monotone.proofs.store.PutZeros.{put_monotone, put_top}
-use Rattle.store_monotone.proofs.store.ZeroTargets.{offsets_monotone, offsets_top}
+use Rattle.store_monotone.specs.Operations.Placements.{WindowWithin}
+use Rattle.store_monotone.proofs.operations.PutZeros.{put_monotone, put_top}
+use Rattle.store_monotone.proofs.operations.ZeroTargets.{offsets_monotone, offsets_top}
 use Rattle.transfer_library_writes.specs.declared.fill_writes.FillWrite.{FillWrite}
 use Rattle.transfer_library_writes.specs.TextWrites.{lies_in_array}
 use Rattle.transfer_library_writes.specs.FillWrites.{is_up_to_range, is_up_to, zero_met_at}

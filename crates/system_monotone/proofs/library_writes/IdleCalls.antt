@@ -13,7 +13,7 @@ use Rattle.value_domain.specs.declared.values.row_cells.Cell.{Cell}
 use Rattle.value_domain.specs.Values.ValueTables.{pointer_value}
 use Rattle.domain_theorems.proofs.values.Flags.{Sets}
 use Rattle.domain_theorems.proofs.values.Ranges.{RangeBelow}
-use Rattle.store_monotone.specs.Store.TopRows.{top_row}
+use Rattle.store_monotone.specs.Operations.TopRows.{top_row}
 use Rattle.transfer_library_plans.specs.declared.call_plans.Effect.{Effect}
 use Rattle.transfer_library_plans.specs.declared.call_plans.Effect.TheVariants as effect
 use Rattle.transfer_library.specs.declared.memory_calls.Target.{Target}

@@ -17,8 +17,8 @@ use Rattle.value_domain.specs.declared.values.row_cells.Cell.{Cell}
 use Rattle.value_domain.specs.Values.LabelSets.{is_unlabelled, labels_order}
 use Rattle.domain_theorems.proofs.values.Ranges.{RangeBelow, met_monotone, bounds_monotone}
 use Rattle.store_cells.specs.ScalarTypes.{kind_of}
-use Rattle.store_monotone.specs.Store.TopCells.{top_number}
-use Rattle.store_monotone.proofs.store.CellReads.{size_is}
+use Rattle.store_monotone.specs.Operations.TopCells.{top_number}
+use Rattle.store_monotone.proofs.operations.CellReads.{size_is}
 use Rattle.transfer_checks.specs.declared.library_arguments.Argument.{Argument}
 use Rattle.transfer_checks.specs.IntegerChecks.{sink_violations}
 use Rattle.transfer_checks.specs.LibraryArguments.{cut_by_room}

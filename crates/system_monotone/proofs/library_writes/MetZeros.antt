@@ -15,12 +15,12 @@ use Rattle.store_cells.specs.declared.first_zero_writes.ZeroTarget.{ZeroTarget}
 use Rattle.store_cells.specs.AccessWindows.{last_offset}
 use Rattle.store_cells.specs.FirstZeroWrites.{any_zero, sure_or_joined}
 use Rattle.store_cells.specs.RowPositions.{cell_at, zero_at, put_zero}
-use Rattle.store_monotone.specs.Store.Placements.{WindowWithin}
-use Rattle.store_monotone.specs.Store.RowsBelow.{RowsBelow}
-use Rattle.store_monotone.specs.Store.TopCells.{top_zero}
-use Rattle.store_monotone.proofs.store.CellSteps.{put_pair, put_above}
-use Rattle.store_monotone.proofs.store.FirstZeros.{zero_at_monotone, zero_at_top, first_below_at}
-use Rattle.store_monotone.proofs.store.ZeroTargets.{TargetBelow, sure_monotone, sure_top}
+use Rattle.store_monotone.specs.Operations.Placements.{WindowWithin}
+use Rattle.store_monotone.specs.Operations.RowsBelow.{RowsBelow}
+use Rattle.store_monotone.specs.Operations.TopCells.{top_zero}
+use Rattle.store_monotone.proofs.operations.CellSteps.{put_pair, put_above}
+use Rattle.store_monotone.proofs.operations.FirstZeros.{zero_at_monotone, zero_at_top, first_below_at}
+use Rattle.store_monotone.proofs.operations.ZeroTargets.{TargetBelow, sure_monotone, sure_top}
 
 -- a target's last offset is one
 abbrev pub IsNearTarget : Option ZeroTarget → Type 0

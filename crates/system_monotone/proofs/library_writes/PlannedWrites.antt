@@ -6,7 +6,7 @@ use Rattle.c_layout.specs.declared.library_functions.LibFn.{LibFn}
 use Rattle.cfg.specs.declared.programs.Flow.{Flow}
 use Rattle.pointer_domain.specs.declared.base_sets.Bases.{Bases}
 use Rattle.value_domain.specs.declared.values.row_cells.Cell.{Cell}
-use Rattle.store_monotone.specs.Store.TopRows.{top_row}
+use Rattle.store_monotone.specs.Operations.TopRows.{top_row}
 use Rattle.transfer_library_plans.specs.declared.call_plans.Effect.{Effect}
 use Rattle.transfer_library_plans.specs.declared.call_plans.Effect.TheVariants as effect
 use Rattle.transfer_library_plans.specs.declared.call_plans.Plan.{Plan}

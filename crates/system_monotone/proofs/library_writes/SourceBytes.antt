@@ -17,14 +17,14 @@ use Rattle.store_cells.specs.declared.access_windows.Window.{Window}
 use Rattle.store_cells.specs.CellReads.{joined}
 use Rattle.store_objects.specs.LiveBases.{has_base}
 use Rattle.store.specs.Loads.{load_base, load_character}
-use Rattle.store_monotone.specs.Store.Placements.{EachFrom, WindowWithin, IsPlaced, IsRegular}
-use Rattle.store_monotone.specs.Store.RowsBelow.{RowsBelow, ReadBelow}
-use Rattle.store_monotone.specs.Store.TopCells.{top_number, top_value}
-use Rattle.store_monotone.proofs.store.CellReads.{joined_monotone, joined_above}
-use Rattle.store_monotone.proofs.store.LiveSets.{has_monotone}
-use Rattle.store_monotone.proofs.store.Loads.{base_monotone, character_monotone}
-use Rattle.store_monotone.proofs.store.PairedSteps.{walk_pair, cond_pair}
-use Rattle.store_monotone.proofs.store.Windows.{WindowsBelow}
+use Rattle.store_monotone.specs.Operations.Placements.{EachFrom, WindowWithin, IsPlaced, IsRegular}
+use Rattle.store_monotone.specs.Operations.RowsBelow.{RowsBelow, ReadBelow}
+use Rattle.store_monotone.specs.Operations.TopCells.{top_number, top_value}
+use Rattle.store_monotone.proofs.operations.CellReads.{joined_monotone, joined_above}
+use Rattle.store_monotone.proofs.operations.LiveSets.{has_monotone}
+use Rattle.store_monotone.proofs.operations.Loads.{base_monotone, character_monotone}
+use Rattle.store_monotone.proofs.operations.PairedSteps.{walk_pair, cond_pair}
+use Rattle.store_monotone.proofs.operations.Windows.{WindowsBelow}
 use Rattle.transfer_monotone.proofs.edges.OwnLoads.{IsOwnRead, joined_own, one_read, base_own}
 use Rattle.transfer_library_writes.specs.Sources.{character_access, read_characters, characters_read, is_blank, is_blank_or, reads_blank, reads_blank_in, number_of, labels_of, characters_of}
 use Rattle.system_monotone.specs.LibraryWrites.TextOrder.{CharactersBelow}

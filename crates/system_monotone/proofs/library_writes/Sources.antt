@@ -12,8 +12,8 @@ use Rattle.value_domain.specs.Strings.FirstZeros.{the_end}
 use Rattle.value_domain.specs.declared.values.row_cells.Cell.{Cell}
 use Rattle.domain_theorems.proofs.values.Parts.{pointer_parts}
 use Rattle.domain_theorems.proofs.values.Ranges.{RangeBelow}
-use Rattle.store_monotone.specs.Store.TopRows.{top_row}
-use Rattle.store_monotone.proofs.store.Together.{each}
+use Rattle.store_monotone.specs.Operations.TopRows.{top_row}
+use Rattle.store_monotone.proofs.operations.Together.{each}
 use Rattle.transfer_checks.specs.declared.library_arguments.Argument.{Argument}
 use Rattle.transfer_checks.specs.declared.string_scans.Scanned.{Scanned}
 use Rattle.transfer_checks.specs.LibraryArguments.{touched_window, within_bases}

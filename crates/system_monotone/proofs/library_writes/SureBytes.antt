@@ -17,10 +17,10 @@ use Rattle.domain_theorems.proofs.values.Ranges.{RangeBelow}
 use Rattle.store_cells.specs.declared.access_windows.Window.{Window}
 use Rattle.store_cells.specs.AccessWindows.{last_offset, window_within}
 use Rattle.store_cells.specs.NearValues.{near_number, near_pointer}
-use Rattle.store_monotone.specs.Store.TopCells.{top_number, top_value}
-use Rattle.store_monotone.proofs.store.AddedRanges.{saturate_monotone}
-use Rattle.store_monotone.proofs.store.NearCells.{near_is}
-use Rattle.store_monotone.proofs.store.Windows.{WindowsBelow, within_monotone}
+use Rattle.store_monotone.specs.Operations.TopCells.{top_number, top_value}
+use Rattle.store_monotone.proofs.operations.AddedRanges.{saturate_monotone}
+use Rattle.store_monotone.proofs.operations.NearCells.{near_is}
+use Rattle.store_monotone.proofs.operations.Windows.{WindowsBelow, within_monotone}
 use Rattle.transfer_checks.specs.LibraryArguments.{within_bases, last_touched, touched_from, touched_window, cut_by}
 use Rattle.transfer_checks.specs.Touches.{is_nowhere}
 use Rattle.transfer_library.specs.MemoryCalls.{last_sure, sure_between, sure_window, lower_of}

@@ -15,10 +15,10 @@ use Rattle.domain_theorems.proofs.values.Parts.{pointer_parts}
 use Rattle.domain_theorems.proofs.values.Ranges.{RangeBelow}
 use Rattle.store_cells.specs.declared.access_windows.Window.{Window}
 use Rattle.store_objects.specs.LiveBases.{writable_of}
-use Rattle.store_monotone.specs.Store.TopRows.{top_row}
-use Rattle.store_monotone.proofs.store.LiveBases.{writable_monotone}
-use Rattle.store_monotone.proofs.store.Together.{each}
-use Rattle.store_monotone.proofs.store.Windows.{WindowsBelow}
+use Rattle.store_monotone.specs.Operations.TopRows.{top_row}
+use Rattle.store_monotone.proofs.operations.LiveBases.{writable_monotone}
+use Rattle.store_monotone.proofs.operations.Together.{each}
+use Rattle.store_monotone.proofs.operations.Windows.{WindowsBelow}
 use Rattle.transfer_library_plans.specs.declared.call_plans.Effect.{Effect}
 use Rattle.transfer_library_plans.specs.declared.call_plans.Effect.TheVariants as effect
 use Rattle.transfer_library.specs.declared.memory_calls.Target.{Target}

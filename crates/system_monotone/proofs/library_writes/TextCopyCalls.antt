@@ -18,8 +18,8 @@ use Rattle.domain_theorems.proofs.values.Bases.{empty_below}
 use Rattle.domain_theorems.proofs.values.Flags.{Sets, or_sets, and_sets, not_sets}
 use Rattle.domain_theorems.proofs.values.Parts.{pointer_parts}
 use Rattle.domain_theorems.proofs.values.Ranges.{RangeBelow, bounds_monotone}
-use Rattle.store_monotone.specs.Store.TopRows.{top_row}
-use Rattle.store_monotone.proofs.store.Together.{each}
+use Rattle.store_monotone.specs.Operations.TopRows.{top_row}
+use Rattle.store_monotone.proofs.operations.Together.{each}
 use Rattle.transfer_checks.specs.declared.library_arguments.Argument.{Argument}
 use Rattle.transfer_checks.specs.declared.string_scans.Scanned.{Scanned}
 use Rattle.transfer_checks.specs.IntegerChecks.{sink_violations}

@@ -17,13 +17,13 @@ use Rattle.store_cells.specs.AccessWindows.{added_ranges, last_offset}
 use Rattle.store_cells.specs.FirstZeroWrites.{offsets_of}
 use Rattle.store_objects.specs.LiveBases.{has_base}
 use Rattle.store_cells.specs.NearValues.{near_number}
-use Rattle.store_monotone.specs.Store.Placements.{WindowWithin}
-use Rattle.store_monotone.specs.Store.TopCells.{top_number}
-use Rattle.store_monotone.proofs.store.AddedRanges.{added_monotone}
-use Rattle.store_monotone.proofs.store.FirstZeros.{zero_near}
-use Rattle.store_monotone.proofs.store.LiveSets.{has_monotone}
-use Rattle.store_monotone.proofs.store.NearCells.{near_is}
-use Rattle.store_monotone.proofs.store.ZeroTargets.{offsets_monotone, offsets_top}
+use Rattle.store_monotone.specs.Operations.Placements.{WindowWithin}
+use Rattle.store_monotone.specs.Operations.TopCells.{top_number}
+use Rattle.store_monotone.proofs.operations.AddedRanges.{added_monotone}
+use Rattle.store_monotone.proofs.operations.FirstZeros.{zero_near}
+use Rattle.store_monotone.proofs.operations.LiveSets.{has_monotone}
+use Rattle.store_monotone.proofs.operations.NearCells.{near_is}
+use Rattle.store_monotone.proofs.operations.ZeroTargets.{offsets_monotone, offsets_top}
 use Rattle.system_monotone.specs.LibraryWrites.TextOrder.{HasLength, RuleBelow}
 use Rattle.transfer_library_writes.specs.TextWrites.{up_to_end_of, up_to_end, zero_after, rule_in}
 use Rattle.transfer_library_writes.specs.declared.text_writes.ZeroRule.{ZeroRule}

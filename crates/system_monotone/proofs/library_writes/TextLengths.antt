@@ -12,7 +12,7 @@ use Rattle.value_domain.specs.Strings.FirstZeros.{the_end}
 use Rattle.domain_theorems.proofs.values.Ranges.{RangeBelow, range_refl, met_monotone, bounds_monotone, of_range_monotone}
 use Rattle.store_cells.specs.AccessWindows.{added_ranges}
 use Rattle.store_cells.specs.NearValues.{near_number}
-use Rattle.store_monotone.proofs.store.AddedRanges.{saturate_monotone, added_monotone}
+use Rattle.store_monotone.proofs.operations.AddedRanges.{saturate_monotone, added_monotone}
 use Rattle.transfer_checks.specs.LibraryArguments.{cut_by}
 use Rattle.transfer_library.specs.MemoryCalls.{lower_of}
 use Rattle.transfer_library.specs.StringCalls.{less_one, most_appended, one_more, one_less, appended}

@@ -28,16 +28,16 @@ use Rattle.store.specs.LeafSelection.{is_overlapped, has_stray}
 use Rattle.store_objects.specs.LiveBases.{has_base, is_one_instance}
 use Rattle.store_cells.specs.RowPositions.{leaf_position, class_position, zero_position, zero_at}
 use Rattle.store_cells.specs.Walks.{turns}
-use Rattle.store_monotone.specs.Store.Placements.{EachFrom, IsPlaced, IsRegular}
-use Rattle.store_monotone.specs.Store.RowsBelow.{RowsBelow}
-use Rattle.store_monotone.specs.Store.TopCells.{top_number, top_value}
-use Rattle.store_monotone.proofs.store.CellReads.{labels_top, written_monotone, written_top}
-use Rattle.store_monotone.proofs.store.Consistent.{IsEven, even_bare}
-use Rattle.store_monotone.proofs.store.FirstZeros.{zero_at_monotone, zero_at_top}
-use Rattle.store_monotone.proofs.store.LiveSets.{has_monotone}
-use Rattle.store_monotone.proofs.store.PairedSteps.{Step, walk_step, turns_step, then_step, if_step, same_step, numbers_below}
-use Rattle.store_monotone.proofs.store.Windows.{overlapped_monotone}
-use Rattle.store_monotone.proofs.store.ZeroTargets.{target_monotone}
+use Rattle.store_monotone.specs.Operations.Placements.{EachFrom, IsPlaced, IsRegular}
+use Rattle.store_monotone.specs.Operations.RowsBelow.{RowsBelow}
+use Rattle.store_monotone.specs.Operations.TopCells.{top_number, top_value}
+use Rattle.store_monotone.proofs.operations.CellReads.{labels_top, written_monotone, written_top}
+use Rattle.store_monotone.proofs.operations.Consistent.{IsEven, even_bare}
+use Rattle.store_monotone.proofs.operations.FirstZeros.{zero_at_monotone, zero_at_top}
+use Rattle.store_monotone.proofs.operations.LiveSets.{has_monotone}
+use Rattle.store_monotone.proofs.operations.PairedSteps.{Step, walk_step, turns_step, then_step, if_step, same_step, numbers_below}
+use Rattle.store_monotone.proofs.operations.Windows.{overlapped_monotone}
+use Rattle.store_monotone.proofs.operations.ZeroTargets.{target_monotone}
 use Rattle.transfer_library_writes.specs.declared.source_bytes.Characters.{Characters}
 use Rattle.transfer_library_writes.specs.declared.text_writes.TextWrite.{TextWrite}
 use Rattle.transfer_library_writes.specs.declared.text_writes.ZeroRule.TheVariants.{Any}

@@ -10,8 +10,8 @@ use Rattle.store_cells.specs.declared.access_windows.Window.{Window}
 use Rattle.store_cells.specs.declared.first_zero_writes.ZeroTarget.{ZeroTarget}
 use Rattle.store_cells.specs.AccessWindows.{window_between}
 use Rattle.store_cells.specs.FirstZeroWrites.{last_of, has_no_bytes, target_at, zero_target}
-use Rattle.store_monotone.specs.Store.Placements.{WindowWithin}
-use Rattle.store_monotone.proofs.store.ZeroTargets.{TargetBelow, target_monotone}
+use Rattle.store_monotone.specs.Operations.Placements.{WindowWithin}
+use Rattle.store_monotone.proofs.operations.ZeroTargets.{TargetBelow, target_monotone}
 use Rattle.transfer_library_writes.specs.TextWrites.{is_whole, lies_in_array, text_lies_in_array}
 use Rattle.transfer_library_writes.specs.declared.text_writes.ZeroRule.{ZeroRule}
 use Rattle.transfer_library_writes.specs.declared.text_writes.ZeroRule.TheVariants.{Text, Append, Any}

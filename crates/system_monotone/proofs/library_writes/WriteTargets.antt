@@ -22,12 +22,12 @@ use Rattle.domain_theorems.proofs.values.Ranges.{RangeBelow, met_monotone, bound
 use Rattle.store_cells.specs.declared.access_windows.Window.{Window}
 use Rattle.store_cells.specs.AccessWindows.{last_offset, window_between, window_of_range, window_within}
 use Rattle.store_objects.specs.LiveBases.{has_base, only_base, is_writable_in, add_writable, with_base_if, writable_of}
-use Rattle.store_monotone.specs.Store.TopCells.{top_value}
-use Rattle.store_monotone.proofs.store.AddedRanges.{saturate_monotone}
-use Rattle.store_monotone.proofs.store.Allocations.{with_into}
-use Rattle.store_monotone.proofs.store.LiveBases.{writable_monotone}
-use Rattle.store_monotone.proofs.store.PairedSteps.{walk_pair, any_each}
-use Rattle.store_monotone.proofs.store.Windows.{WindowsBelow, within_monotone}
+use Rattle.store_monotone.specs.Operations.TopCells.{top_value}
+use Rattle.store_monotone.proofs.operations.AddedRanges.{saturate_monotone}
+use Rattle.store_monotone.proofs.operations.Allocations.{with_into}
+use Rattle.store_monotone.proofs.operations.LiveBases.{writable_monotone}
+use Rattle.store_monotone.proofs.operations.PairedSteps.{walk_pair, any_each}
+use Rattle.store_monotone.proofs.operations.Windows.{WindowsBelow, within_monotone}
 use Rattle.transfer_checks.specs.LibraryArguments.{may_be_none, writes_literal, kept_after, after_write, sum_of, difference_of, last_touched, touched_from, end_of, touched_window, is_above_room, cut_by, passes_room, cut_by_room}
 use Rattle.transfer_library_plans.specs.declared.call_plans.Trail.{Trail}
 use Rattle.transfer_library.specs.declared.memory_calls.Target.{Target}

@@ -21,9 +21,9 @@ use Rattle.domain_theorems.proofs.values.Flags.{Sets}
 use Rattle.store_objects.specs.LiveBases.{most_bases, only_base, has_base, with_base_if, is_literal_kind, is_writable_in, add_writable, writable_of}
 use Rattle.store_cells.specs.NearValues.{near_pointer}
 use Rattle.store_cells.specs.Walks.{walk}
-use Rattle.store_monotone.specs.Store.Placements.{EachFrom}
-use Rattle.store_monotone.proofs.store.LiveSets.{has_monotone, with_if_monotone}
-use Rattle.store_monotone.proofs.store.PairedSteps.{walk_pair}
+use Rattle.store_monotone.specs.Operations.Placements.{EachFrom}
+use Rattle.store_monotone.proofs.operations.LiveSets.{has_monotone, with_if_monotone}
+use Rattle.store_monotone.proofs.operations.PairedSteps.{walk_pair}
 use Rattle.transfer_checks.specs.LibraryArguments.{kept_after, after_write, within_bases}
 use Rattle.transfer_checks.specs.Touches.{is_nowhere}
 use Rattle.transfer_library.specs.MemoryCalls.{lower_of}

@@ -19,12 +19,12 @@ use Rattle.store_cells.specs.CellReads.{whole_range}
 use Rattle.store_cells.specs.ClassNumbers.{is_pointer}
 use Rattle.store_cells.specs.RowPositions.{cell_at, put_zero, join_value, write_value}
 use Rattle.store_cells.specs.ScalarTypes.{kind_of}
-use Rattle.store_monotone.specs.Store.ConsistentRows.{AreConsistent}
-use Rattle.store_monotone.specs.Store.RowsBelow.{RowsBelow}
-use Rattle.store_monotone.specs.Store.TopCells.{top_value}
-use Rattle.store_monotone.proofs.store.CellSteps.{join_step, write_step}
-use Rattle.store_monotone.proofs.store.Consistent.{IsEven, even_bare, set_keeps}
-use Rattle.store_monotone.proofs.store.ConsistentStores.{IsKept, joined_kept, put_kept}
+use Rattle.store_monotone.specs.Operations.ConsistentRows.{AreConsistent}
+use Rattle.store_monotone.specs.Operations.RowsBelow.{RowsBelow}
+use Rattle.store_monotone.specs.Operations.TopCells.{top_value}
+use Rattle.store_monotone.proofs.operations.CellSteps.{join_step, write_step}
+use Rattle.store_monotone.proofs.operations.Consistent.{IsEven, even_bare, set_keeps}
+use Rattle.store_monotone.proofs.operations.ConsistentStores.{IsKept, joined_kept, put_kept}
 use Rattle.transfer_monotone.specs.Values.RisingRows.{RowsRise}
 
 module _ {I : Type 0} {l : LatticeOf I} {n : IntegersOf I} {stands : I → ℤ → Type 0} (o : OrderLaws l) (b : BoundLaws l n stands) (all : Bases) (top : List (Cell I)) where

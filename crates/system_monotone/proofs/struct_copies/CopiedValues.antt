@@ -18,10 +18,10 @@ use Rattle.store_cells.specs.ByteWrites.{labelled_null, byte_written}
 use Rattle.store_cells.specs.CellReads.{joined, whole_range, as_read, as_stored, only_flag, byte_read, same_sign}
 use Rattle.store_cells.specs.ClassNumbers.{is_pointer}
 use Rattle.store_cells.specs.ScalarTypes.{kind_of}
-use Rattle.store_monotone.specs.Store.TopCells.{top_value}
-use Rattle.store_monotone.proofs.store.CellReads.{read_monotone, read_top, stored_in_monotone, stored_in_top, byte_monotone, whole_monotone, whole_top, written_monotone, written_top}
-use Rattle.store_monotone.proofs.store.Consistent.{IsEven, even_join, even_bare}
-use Rattle.store_monotone.proofs.store.OwnValues.{blank_top}
+use Rattle.store_monotone.specs.Operations.TopCells.{top_value}
+use Rattle.store_monotone.proofs.operations.CellReads.{read_monotone, read_top, stored_in_monotone, stored_in_top, byte_monotone, whole_monotone, whole_top, written_monotone, written_top}
+use Rattle.store_monotone.proofs.operations.Consistent.{IsEven, even_join, even_bare}
+use Rattle.store_monotone.proofs.operations.OwnValues.{blank_top}
 use Rattle.store_struct_leaves.specs.LeafCopies.{with_flag}
 use Rattle.transfer_monotone.specs.Values.RisingRows.{ValuesRise}
 use Rattle.transfer_monotone.proofs.values.OwnBases.{words_less}

@@ -17,13 +17,13 @@ use Rattle.store_cells.specs.declared.access_windows.Window.{Window}
 use Rattle.store_cells.specs.declared.first_zero_writes.ZeroTarget.{ZeroTarget}
 use Rattle.store_cells.specs.FirstZeroWrites.{zero_target, any_zero}
 use Rattle.store_cells.specs.RowPositions.{cell_at, zero_position, zero_at, put_zero}
-use Rattle.store_monotone.specs.Store.Placements.{WindowWithin, IsPlaced}
-use Rattle.store_monotone.specs.Store.RowsBelow.{RowsBelow}
-use Rattle.store_monotone.specs.Store.TopCells.{top_zero}
-use Rattle.store_monotone.proofs.store.CellSteps.{put_pair, put_above}
-use Rattle.store_monotone.proofs.store.FirstZeros.{zero_at_monotone, zero_at_top, first_below_at}
-use Rattle.store_monotone.proofs.store.PairedSteps.{Step, walk_step, numbers_below}
-use Rattle.store_monotone.proofs.store.ZeroTargets.{TargetBelow, target_monotone}
+use Rattle.store_monotone.specs.Operations.Placements.{WindowWithin, IsPlaced}
+use Rattle.store_monotone.specs.Operations.RowsBelow.{RowsBelow}
+use Rattle.store_monotone.specs.Operations.TopCells.{top_zero}
+use Rattle.store_monotone.proofs.operations.CellSteps.{put_pair, put_above}
+use Rattle.store_monotone.proofs.operations.FirstZeros.{zero_at_monotone, zero_at_top, first_below_at}
+use Rattle.store_monotone.proofs.operations.PairedSteps.{Step, walk_step, numbers_below}
+use Rattle.store_monotone.proofs.operations.ZeroTargets.{TargetBelow, target_monotone}
 use Rattle.store_structs.specs.CopyZeros.{Exact, is_array_at, array_at, source_offset, source_part, lies_inside, zero_from, zero_exact, zero_copied, copy_part_at, copy_part, copy_zeros}
 use Rattle.transfer_monotone.specs.Values.RisingRows.{RowsRise}
 use Rattle.system_monotone.proofs.library_writes.WrittenCells.{zero_rises}

@@ -20,11 +20,11 @@ use Rattle.store_cells.specs.ClassNumbers.{class_number, class_at, same_class}
 use Rattle.store_objects.specs.LiveBases.{has_base}
 use Rattle.store_cells.specs.RowPositions.{leaf_position, class_position, value_at}
 use Rattle.store_cells.specs.ScalarTypes.{kind_of}
-use Rattle.store_monotone.specs.Store.Placements.{EachFrom, IsPlaced}
-use Rattle.store_monotone.proofs.store.LiveSets.{has_monotone}
-use Rattle.store_monotone.proofs.store.Loads.{class_small}
-use Rattle.store_monotone.proofs.store.PairedSteps.{walk_pair, turns_pair, cond_pair, cond_pair_if, same_pair, numbers_below}
-use Rattle.store_monotone.proofs.store.Together.{both_each}
+use Rattle.store_monotone.specs.Operations.Placements.{EachFrom, IsPlaced}
+use Rattle.store_monotone.proofs.operations.LiveSets.{has_monotone}
+use Rattle.store_monotone.proofs.operations.Loads.{class_small}
+use Rattle.store_monotone.proofs.operations.PairedSteps.{walk_pair, turns_pair, cond_pair, cond_pair_if, same_pair, numbers_below}
+use Rattle.store_monotone.proofs.operations.Together.{both_each}
 use Rattle.store_struct_leaves.specs.declared.copy_places.Span.{Span}
 use Rattle.store_struct_leaves.specs.declared.leaf_copies.LeafAccess.{LeafAccess}
 use Rattle.store_struct_leaves.specs.CopyPlaces.{is_reached, is_touched, span_has_stray}

@@ -25,13 +25,13 @@ use Rattle.store_cells.specs.ClassNumbers.{class_number, class_at, same_class}
 use Rattle.store_objects.specs.LiveBases.{has_base}
 use Rattle.store_cells.specs.NearValues.{near_value}
 use Rattle.store_cells.specs.RowPositions.{cell_at, leaf_position, class_position, join_value}
-use Rattle.store_monotone.specs.Store.Placements.{EachFrom, IsPlaced}
-use Rattle.store_monotone.specs.Store.TopCells.{top_value}
-use Rattle.store_monotone.proofs.store.LiveSets.{has_monotone}
-use Rattle.store_monotone.proofs.store.Loads.{class_small}
-use Rattle.store_monotone.proofs.store.NearCells.{near_value_is}
-use Rattle.store_monotone.proofs.store.PairedSteps.{Step, walk_pair, walk_step, turns_step, then_step, if_step, same_step}
-use Rattle.store_monotone.proofs.store.Windows.{window_is}
+use Rattle.store_monotone.specs.Operations.Placements.{EachFrom, IsPlaced}
+use Rattle.store_monotone.specs.Operations.TopCells.{top_value}
+use Rattle.store_monotone.proofs.operations.LiveSets.{has_monotone}
+use Rattle.store_monotone.proofs.operations.Loads.{class_small}
+use Rattle.store_monotone.proofs.operations.NearCells.{near_value_is}
+use Rattle.store_monotone.proofs.operations.PairedSteps.{Step, walk_pair, walk_step, turns_step, then_step, if_step, same_step}
+use Rattle.store_monotone.proofs.operations.Windows.{window_is}
 use Rattle.store_struct_leaves.specs.declared.copy_places.Span.{Span}
 use Rattle.store_struct_leaves.specs.declared.leaf_copies.LeafAccess.{LeafAccess}
 use Rattle.store_struct_leaves.specs.CopyPlaces.{span_is_one, is_reached, is_touched, reached_count}

@@ -31,14 +31,14 @@ use Rattle.store_cells.specs.declared.access_windows.Window.{Window}
 use Rattle.store_cells.specs.AccessWindows.{added_ranges, last_place, access_range, window_of, window_within, window_is_one}
 use Rattle.store_objects.specs.LiveBases.{has_base, is_one_instance, single_bases}
 use Rattle.store_cells.specs.RowPositions.{capped}
-use Rattle.store_monotone.specs.Store.Placements.{EachFrom, WindowWithin, IsPlaced}
-use Rattle.store_monotone.specs.Store.TopRows.{top_row}
-use Rattle.store_monotone.proofs.store.AddedRanges.{added_monotone, saturate_monotone}
-use Rattle.store_monotone.proofs.store.Consistent.{some_parts}
-use Rattle.store_monotone.proofs.store.LiveSets.{has_monotone}
-use Rattle.store_monotone.proofs.store.PairedSteps.{Step, walk_pair, turns_pair, then_step, if_step}
-use Rattle.store_monotone.proofs.store.Together.{both_each}
-use Rattle.store_monotone.proofs.store.Windows.{WindowsBelow, window_is, within_monotone}
+use Rattle.store_monotone.specs.Operations.Placements.{EachFrom, WindowWithin, IsPlaced}
+use Rattle.store_monotone.specs.Operations.TopRows.{top_row}
+use Rattle.store_monotone.proofs.operations.AddedRanges.{added_monotone, saturate_monotone}
+use Rattle.store_monotone.proofs.operations.Consistent.{some_parts}
+use Rattle.store_monotone.proofs.operations.LiveSets.{has_monotone}
+use Rattle.store_monotone.proofs.operations.PairedSteps.{Step, walk_pair, turns_pair, then_step, if_step}
+use Rattle.store_monotone.proofs.operations.Together.{both_each}
+use Rattle.store_monotone.proofs.operations.Windows.{WindowsBelow, window_is, within_monotone}
 use Rattle.store_struct_leaves.specs.CopyPlaces.{span_of_leaf}
 use Rattle.store_structs.specs.CopyZeros.{Exact, copied_window, copy_zeros}
 use Rattle.store_structs.specs.LeafNumbers.{struct_leaf}

@@ -25,10 +25,10 @@ use Rattle.store.specs.LeafSelection.{bytes_below}
 use Rattle.store_cells.specs.RowPositions.{capped, cell_at, leaf_position, class_position, zero_position, join_value}
 use Rattle.store_cells.specs.ScalarTypes.{class_bytes, kind_of}
 use Rattle.store_cells.specs.Walks.{turns}
-use Rattle.store_monotone.specs.Store.Placements.{WindowWithin, IsPlaced}
-use Rattle.store_monotone.specs.Store.TopCells.{top_number, top_value}
-use Rattle.store_monotone.proofs.store.CellReads.{labels_top}
-use Rattle.store_monotone.proofs.store.PairedSteps.{Step, walk_step, turns_step, then_step, same_step, numbers_below}
+use Rattle.store_monotone.specs.Operations.Placements.{WindowWithin, IsPlaced}
+use Rattle.store_monotone.specs.Operations.TopCells.{top_number, top_value}
+use Rattle.store_monotone.proofs.operations.CellReads.{labels_top}
+use Rattle.store_monotone.proofs.operations.PairedSteps.{Step, walk_step, turns_step, then_step, same_step, numbers_below}
 use Rattle.store_structs.specs.LeafNumbers.{struct_leaf}
 use Rattle.store_structs.specs.PaddingWrites.{Padded, covered_by, covered_leaf, leaf_bytes, is_padded_in, padded_met, has_padding_in, padding_meets, place_of, place_padded, meets_leaf, unknown_pointer, unknown_value, pad_leaf_at, pad_leaf, pad_leaves, pad_class, pad_classes, pad_part_at, pad_part, pad_zeros, pad_cells, write_padding}
 use Rattle.store_monotone.proofs.structs.Places.{any_more}

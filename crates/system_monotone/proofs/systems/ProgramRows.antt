@@ -16,9 +16,9 @@ use Rattle.value_domain.specs.declared.values.row_cells.Cell.TheVariants.{Nothin
 use Rattle.value_domain.specs.Values.Values.{value_lattice}
 use Rattle.value_domain.specs.Values.Cells.{cell_lattice, cell_order, cell_leq}
 use Rattle.domain_theorems.proofs.values.Parts.{pointer_parts, value_parts}
-use Rattle.store_monotone.specs.Store.TopCells.{top_value}
-use Rattle.store_monotone.specs.Store.TopRows.{top_row}
-use Rattle.store_monotone.specs.Store.ConsistentRows.{IsConsistentCell, AreConsistent}
+use Rattle.store_monotone.specs.Operations.TopCells.{top_value}
+use Rattle.store_monotone.specs.Operations.TopRows.{top_row}
+use Rattle.store_monotone.specs.Operations.ConsistentRows.{IsConsistentCell, AreConsistent}
 use Rattle.transfer_system.specs.declared.bounded_rows.cell_kinds.CellKind.{CellKind}
 use Rattle.transfer_system.specs.declared.bounded_rows.cell_kinds.CellKind.TheVariants as kind
 use Rattle.transfer_system.specs.declared.bounded_rows.own_cells.Reach.{Reach}

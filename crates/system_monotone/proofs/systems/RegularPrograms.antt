@@ -22,7 +22,7 @@ use Rattle.interval_domain.specs.Intervals.Spans.{between_or_empty}
 use Rattle.interval_domain.specs.Intervals.IntervalLattice.{interval_lattice}
 use Rattle.interval_domain.specs.Intervals.IntervalNumbers.{interval_numbers}
 use Rattle.value_domain.specs.Strings.FirstZeros.{the_end}
-use Rattle.store_monotone.specs.Store.StoreLaws.{AreBytes}
+use Rattle.store_monotone.specs.Operations.StoreLaws.{AreBytes}
 use Rattle.transfer_system.specs.BoundedRows.FittedRows.{list_ends}
 use Rattle.transfer_monotone.specs.Edges.ProgramLaws.{HasBytes, HasLeaf, NamesLeaf, TestsLeaves, MatchesLeaf, FollowsLeaves}
 use Rattle.transfer_system.specs.BoundedRows.NearLists.{is_near_number, IsNearList}

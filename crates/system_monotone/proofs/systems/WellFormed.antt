@@ -19,7 +19,7 @@ use Rattle.pointer_domain.specs.BaseLattice.{bases_lattice, bases_order, word_or
 use Rattle.domain_theorems.specs.Values.Consistency.{AreWords}
 use Rattle.domain_theorems.proofs.values.Renames.{with_within, with_rises, own_word}
 use Rattle.store_objects.specs.LiveBases.{only_base}
-use Rattle.store_monotone.specs.Store.Placements.{EachFrom, IsRegular}
+use Rattle.store_monotone.specs.Operations.Placements.{EachFrom, IsRegular}
 use Rattle.store_monotone.proofs.shapes.ShapedBases.{shaped_regular}
 use Rattle.transfer_system.specs.BoundedRows.OwnRows.{bases_below, program_bases}
 use Rattle.transfer_system.specs.BoundedRows.ProgramBases.{below_within}

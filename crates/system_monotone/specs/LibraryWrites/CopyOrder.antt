@@ -7,7 +7,7 @@ use Rattle.pointer_domain.specs.declared.base_sets.Bases.{Bases}
 use Rattle.pointer_domain.specs.BaseSets.{bases_within}
 use Rattle.value_domain.specs.Values.LabelSets.{labels_leq}
 use Rattle.value_domain.specs.declared.values.row_cells.Cell.{Cell}
-use Rattle.store_monotone.specs.Store.Placements.{WindowWithin}
+use Rattle.store_monotone.specs.Operations.Placements.{WindowWithin}
 use Rattle.transfer_library_writes.specs.declared.copied_bytes.CopiedBytes.{CopiedBytes}
 use Rattle.transfer_library_writes.specs.declared.copied_bytes.CopyWrite.{CopyWrite}
 use Rattle.transfer_library_writes.specs.CopyWrites.{write_copy}

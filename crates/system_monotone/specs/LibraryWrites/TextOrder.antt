@@ -9,8 +9,8 @@ use Rattle.value_domain.specs.Strings.FirstZeros.{the_end}
 use Rattle.value_domain.specs.Values.LabelSets.{labels_leq}
 use Rattle.value_domain.specs.declared.values.row_cells.Cell.{Cell}
 use Rattle.store_cells.specs.declared.access_windows.Window.{Window}
-use Rattle.store_monotone.specs.Store.Placements.{WindowWithin}
-use Rattle.store_monotone.specs.Store.TopCells.{top_number}
+use Rattle.store_monotone.specs.Operations.Placements.{WindowWithin}
+use Rattle.store_monotone.specs.Operations.TopCells.{top_number}
 use Rattle.transfer_library_writes.specs.declared.source_bytes.Characters.{Characters}
 use Rattle.transfer_library_writes.specs.declared.text_writes.TextWrite.{TextWrite}
 use Rattle.transfer_library_writes.specs.declared.text_writes.ZeroRule.{ZeroRule}

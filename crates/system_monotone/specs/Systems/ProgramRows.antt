@@ -8,8 +8,8 @@ use Rattle.value_domain.specs.declared.values.row_cells.Cell.{Cell}
 use Rattle.value_domain.specs.declared.values.row_cells.Cell.TheVariants.{Nothing, Value, First, State, Mixed}
 use Rattle.value_domain.specs.declared.values.values.Value as values
 use Rattle.value_domain.specs.Values.Cells.{cell_lattice}
-use Rattle.store_monotone.specs.Store.TopRows.{top_row}
-use Rattle.store_monotone.specs.Store.ConsistentRows.{AreConsistent}
+use Rattle.store_monotone.specs.Operations.TopRows.{top_row}
+use Rattle.store_monotone.specs.Operations.ConsistentRows.{AreConsistent}
 use Rattle.transfer_system.specs.BoundedRows.OwnRows.{program_bases}
 use Rattle.transfer_system.specs.declared.bounded_rows.own_cells.Reach.{Reach}
 use Rattle.transfer_monotone.specs.Edges.FilledRows.{AreFilled}

@@ -31,7 +31,7 @@ use Rattle.semantics.specs.CfgMachine.FlowEdges.{in_world, first_signed, integer
 use Rattle.lower_templates.specs.Views.ProgramViews.{flow_view}
 use Rattle.store_sound.specs.Concretization.ValueMeaning.{Naming}
 use Rattle.store_sound.specs.Concretization.Coverage.{state_of}
-use Rattle.store_sound.proofs.store.LoadSound.{instance_there}
+use Rattle.store_sound.proofs.operations.LoadSound.{instance_there}
 use Rattle.store_sound.specs.Programs.Premises.{HasPremises}
 use Rattle.transfer_sound.specs.Values.SoundSteps.{IsReached}
 use Rattle.transfer_sound.specs.Tests.ScalarObjects.{IsScalarObject, IsCaseObject}

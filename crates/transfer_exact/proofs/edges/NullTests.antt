@@ -42,11 +42,11 @@ use Rattle.lower_templates.specs.Views.ProgramViews.{flow_view}
 use Rattle.store_sound.specs.Concretization.Coverage.{state_of}
 use Rattle.store_sound.specs.Concretization.Places.{IsPlaceOf}
 use Rattle.store_sound.specs.Concretization.ValueMeaning.{Naming}
-use Rattle.store_sound.proofs.store.CellReads.{scalar_pointer_is}
-use Rattle.store_sound.proofs.store.Classes.{class_size}
-use Rattle.store_sound.proofs.store.Only.{cell_put}
-use Rattle.store_sound.proofs.store.Slices.{get_set_other}
-use Rattle.store_sound.proofs.store.StoreRows.{leaf_is}
+use Rattle.store_sound.proofs.operations.CellReads.{scalar_pointer_is}
+use Rattle.store_sound.proofs.operations.Classes.{class_size}
+use Rattle.store_sound.proofs.operations.Only.{cell_put}
+use Rattle.store_sound.proofs.operations.Slices.{get_set_other}
+use Rattle.store_sound.proofs.operations.StoreRows.{leaf_is}
 use Rattle.store_sound.specs.Programs.Premises.{HasPremises}
 use Rattle.transfer_sound.specs.Values.SoundSteps.{IsReached}
 use Rattle.transfer_sound.proofs.values.NearScalars.{IsNearNumber}
@@ -58,7 +58,7 @@ use Rattle.transfer_exact.specs.Values.SingleSteps.{IsDefined, TellsBehind, IsTo
 use Rattle.transfer_exact.proofs.values.NearTells.{near_one, near_none}
 use Rattle.transfer_exact.proofs.values.Told.{if_some_told}
 use Rattle.transfer_exact.proofs.values.Violated.{none_violated}
-use Rattle.transfer_exact.proofs.store.Moves.{change_tells}
+use Rattle.transfer_exact.proofs.accesses.Moves.{change_tells}
 
 -- ---- the pointer that is read is that of the first byte
 

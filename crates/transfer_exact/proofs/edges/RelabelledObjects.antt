@@ -29,9 +29,9 @@ use Rattle.store_sound.specs.Concretization.Places.{IsPlaceOf}
 use Rattle.store_sound.specs.Concretization.RowMeaning.{MachineState}
 use Rattle.store_sound.specs.Concretization.SeenLabels.{as_set}
 use Rattle.store_sound.specs.Concretization.ValueMeaning.{Naming}
-use Rattle.store_sound.proofs.store.Only.{cell_put}
-use Rattle.store_sound.proofs.store.Slices.{get_there, get_map, get_set_other}
-use Rattle.store_sound.proofs.store.StoreRows.{leaf_is}
+use Rattle.store_sound.proofs.operations.Only.{cell_put}
+use Rattle.store_sound.proofs.operations.Slices.{get_there, get_map, get_set_other}
+use Rattle.store_sound.proofs.operations.StoreRows.{leaf_is}
 use Rattle.store_sound.specs.Programs.Premises.{HasPremises}
 use Rattle.transfer_sound.specs.Tests.ScalarObjects.{IsScalarObject}
 use Rattle.transfer_sound.proofs.tests.Relabelling.{IsRelabelling}
@@ -40,7 +40,7 @@ use Rattle.transfer_exact.specs.Values.SingleNumbers.{IsOne}
 use Rattle.transfer_exact.specs.Values.SingleValues.{TellsNumber, TellsHeld, TellsScalar}
 use Rattle.transfer_exact.specs.Values.SingleRows.{HoldsNumber, HoldsScalar, TellsLeaf, TellsState}
 use Rattle.transfer_exact.proofs.values.NearTells.{near_one}
-use Rattle.transfer_exact.proofs.store.Moves.{change_tells}
+use Rattle.transfer_exact.proofs.accesses.Moves.{change_tells}
 use Rattle.transfer_exact.proofs.edges.NullTests.{near_of}
 
 -- ---- bytes

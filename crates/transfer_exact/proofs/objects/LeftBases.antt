@@ -9,7 +9,7 @@ use Rattle.pointer_domain.specs.declared.base_sets.Bases.{Bases}
 use Rattle.pointer_domain.specs.BaseSets.{no_base, word_of, with_word, bases_has, bases_with, bases_without, bases_empty}
 use Rattle.pointer_domain.specs.BaseFacts.{word_of_same}
 use Rattle.store_objects.specs.LiveBases.{most_bases, only_base}
-use Rattle.store_sound.proofs.store.Sets.{only_is}
+use Rattle.store_sound.proofs.operations.Sets.{only_is}
 use Rattle.domain_theorems.proofs.values.BaseChanges.{no_word_is}
 use Rattle.transfer_exact.proofs.places.OneBase.{has_own}
 

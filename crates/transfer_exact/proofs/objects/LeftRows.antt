@@ -16,7 +16,7 @@ use Rattle.store_objects.specs.LiveBases.{most_bases}
 use Rattle.store_cells.specs.NearValues.{near_value}
 use Rattle.store_objects.specs.ObjectLives.{set_values, ended_cell, leave_object}
 use Rattle.store_cells.specs.RowPositions.{leaf_position, zero_position, value_count, cell_at, value_in, value_at}
-use Rattle.store_sound.proofs.store.StoreRows.{leaf_is, zero_is}
+use Rattle.store_sound.proofs.operations.StoreRows.{leaf_is, zero_is}
 use Rattle.store_sound.specs.Programs.Premises.{HasPremises}
 use Rattle.transfer_sound.proofs.objects.BlankRows as blank
 use Rattle.transfer_sound.proofs.objects.SetCells.{set_keeps}

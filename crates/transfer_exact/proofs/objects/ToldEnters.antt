@@ -39,10 +39,10 @@ use Rattle.store_sound.specs.Concretization.Places.{IsPlaceOf}
 use Rattle.store_sound.specs.Concretization.RowMeaning.{MachineState}
 use Rattle.store_sound.specs.Concretization.SoundMemory.{IsScalarIn, IsMemoryOf}
 use Rattle.store_sound.specs.Concretization.ValueMeaning.{Naming}
-use Rattle.store_sound.proofs.store.Classes.{class_above}
-use Rattle.store_sound.proofs.store.Slices.{get_there}
-use Rattle.store_sound.proofs.store.StoreRows.{leaf_is}
-use Rattle.store_sound.proofs.store.StoreValues.{same_value}
+use Rattle.store_sound.proofs.operations.Classes.{class_above}
+use Rattle.store_sound.proofs.operations.Slices.{get_there}
+use Rattle.store_sound.proofs.operations.StoreRows.{leaf_is}
+use Rattle.store_sound.proofs.operations.StoreValues.{same_value}
 use Rattle.store_sound.specs.Programs.Premises.{HasPremises}
 use Rattle.transfer_sound.specs.Values.SoundSteps.{IsReached}
 use Rattle.struct_copies_sound.proofs.leaves.Structs.{owned_at}
@@ -55,9 +55,9 @@ use Rattle.transfer_exact.specs.Values.SingleSteps.{IsDefined, TellsBehind, IsTo
 use Rattle.transfer_exact.specs.Values.SingleValues.{IsBlank, TellsByLife, TellsScalar, TellsHeld}
 use Rattle.transfer_exact.proofs.values.NearTells.{near_none}
 use Rattle.transfer_exact.proofs.values.Violated.{none_violated}
-use Rattle.transfer_exact.specs.Store.StoreLaws.{IsEntered}
-use Rattle.transfer_exact.specs.Store.TypedAccesses.{HasObjects}
-use Rattle.transfer_exact.proofs.store.Moves.{holds_moves}
+use Rattle.transfer_exact.specs.Accesses.StoreLaws.{IsEntered}
+use Rattle.transfer_exact.specs.Accesses.TypedAccesses.{HasObjects}
+use Rattle.transfer_exact.proofs.accesses.Moves.{holds_moves}
 use Rattle.transfer_exact.proofs.places.OneLeaf.{owned, place_is}
 
 put_own : {A : Type 0} (f : ℕ → Option A) (b : ℕ) (x : A) → put_at f b x b ≡ Some x

@@ -30,8 +30,8 @@ use Rattle.store_sound.specs.Concretization.Coverage.{state_of}
 use Rattle.store_sound.specs.Concretization.Places.{IsPlaceOf}
 use Rattle.store_sound.specs.Concretization.RowMeaning.{MachineState}
 use Rattle.store_sound.specs.Concretization.ValueMeaning.{Naming}
-use Rattle.store_sound.proofs.store.LoadSound.{instance_there}
-use Rattle.store_sound.proofs.store.StoreRows.{leaf_is}
+use Rattle.store_sound.proofs.operations.LoadSound.{instance_there}
+use Rattle.store_sound.proofs.operations.StoreRows.{leaf_is}
 use Rattle.store_sound.specs.Programs.Premises.{HasPremises}
 use Rattle.transfer_sound.specs.Values.SoundSteps.{IsReached}
 use Rattle.transfer_sound.proofs.leave.LeftMemory.{IsEnded, life_ends, byte_was}
@@ -41,8 +41,8 @@ use Rattle.transfer_exact.specs.Values.SingleSteps.{IsDefined, TellsBehind, Step
 use Rattle.transfer_exact.specs.Values.SingleValues.{TellsScalar}
 use Rattle.transfer_exact.proofs.values.Told.{if_some_told}
 use Rattle.transfer_exact.proofs.values.Violated.{none_violated}
-use Rattle.transfer_exact.specs.Store.StoreLaws.{IsLeft}
-use Rattle.transfer_exact.proofs.store.Moves.{holds_moves}
+use Rattle.transfer_exact.specs.Accesses.StoreLaws.{IsLeft}
+use Rattle.transfer_exact.proofs.accesses.Moves.{holds_moves}
 use Rattle.transfer_exact.proofs.objects.LeftValues.{scalar_left, held_left}
 use Rattle.transfer_exact.proofs.objects.LeftRows.{small, value_left}
 

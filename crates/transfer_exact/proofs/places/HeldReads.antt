@@ -26,11 +26,11 @@ use Rattle.memory_model.specs.Effects.Worlds.{World, Reply, stops, Left}
 use Rattle.store_sound.specs.Concretization.Matching.{Matched, number_in}
 use Rattle.store_sound.specs.Concretization.SoundMemory.{IsMemoryOf, IsInstanceOf}
 use Rattle.store_sound.specs.Concretization.ValueMeaning.{Naming}
-use Rattle.store_sound.specs.Store.Scalars.{signed_in}
-use Rattle.store_sound.proofs.store.Classes.{class_above, is_same_class, integer_class}
-use Rattle.store_sound.proofs.store.LoadSound.{instance_there}
-use Rattle.store_sound.proofs.store.Reading.{region_at, region_length}
-use Rattle.store_sound.proofs.store.Slices.{get_map}
+use Rattle.store_sound.specs.Operations.Scalars.{signed_in}
+use Rattle.store_sound.proofs.operations.Classes.{class_above, is_same_class, integer_class}
+use Rattle.store_sound.proofs.operations.LoadSound.{instance_there}
+use Rattle.store_sound.proofs.operations.Reading.{region_at, region_length}
+use Rattle.store_sound.proofs.operations.Slices.{get_map}
 use Rattle.struct_copies_sound.specs.Leaves.StructLeaves.{IsStruct}
 use Rattle.struct_copies_sound.proofs.leaves.Structs.{owned_at}
 use Rattle.transfer_exact.specs.Values.SingleRows.{AreAll, HoldsNumber, HoldsPointing, HoldsScalar}

@@ -15,7 +15,7 @@ use Rattle.domain_theorems.proofs.values.Bases.{empty_within}
 use Rattle.domain_theorems.proofs.values.EqualityStands.{has_some}
 use Rattle.store_objects.specs.LiveBases.{most_bases, is_literal_kind, only_base, has_base, with_base_if, add_writable, writable_of, may_be_live, add_live, live_of, is_freed_or, any_freed}
 use Rattle.transfer_checks.specs.Touches.{is_literal_or, any_literal}
-use Rattle.store_sound.proofs.store.Sets.{only_is}
+use Rattle.store_sound.proofs.operations.Sets.{only_is}
 use Rattle.transfer_exact.proofs.places.OneTurn.{walk_idle, walk_once}
 
 abbrev pub AreObjects : List BaseInfo → Type 0

@@ -16,8 +16,8 @@ use Rattle.domain_theorems.proofs.values.Renames.{with_within, own_word}
 use Rattle.store_objects.specs.LiveBases.{most_bases, is_single_kind, only_base, has_base, add_single, single_bases, is_one_instance}
 use Rattle.memory_model.specs.Effects.Touches.{is_allocated}
 use Rattle.store_sound.specs.Concretization.SoundMemory.{storage_for}
-use Rattle.store_sound.proofs.store.Sets.{if_keeps, if_adds}
-use Rattle.store_sound.proofs.store.Walks.{walk_meets}
+use Rattle.store_sound.proofs.operations.Sets.{if_keeps, if_adds}
+use Rattle.store_sound.proofs.operations.Walks.{walk_meets}
 
 no_ones : count_ones 0 ≡ 0
 unfolding ones

@@ -16,9 +16,9 @@ use Rattle.store_cells.specs.RowPositions.{capped}
 use Rattle.store.specs.LeafSelection.{has_place_in, is_selected, is_overlapped, is_other, turn_bytes, bytes_behind, bytes_below, covered_more, covered_bytes, window_end, meets_padding}
 use Rattle.memory_model.specs.Memory.ScalarSizes.{class_bytes}
 use Rattle.store_sound.specs.Concretization.Places.{IsPlaceOf, OwnedByLeaf}
-use Rattle.store_sound.proofs.store.Classes.{class_above, is_same_class}
-use Rattle.store_sound.proofs.store.Selected.{place_selected, single_in}
-use Rattle.store_sound.proofs.store.Walks.{walk_meets}
+use Rattle.store_sound.proofs.operations.Classes.{class_above, is_same_class}
+use Rattle.store_sound.proofs.operations.Selected.{place_selected, single_in}
+use Rattle.store_sound.proofs.operations.Walks.{walk_meets}
 use Rattle.struct_copies_sound.specs.Leaves.StructLeaves.{IsStruct}
 
 pub same_size : (m : Model) (c : Class) → table.class_bytes m c ≡ class_bytes m c

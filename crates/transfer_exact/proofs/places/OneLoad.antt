@@ -19,7 +19,7 @@ use Rattle.store_cells.specs.AccessWindows.{window_of, window_between}
 use Rattle.store_cells.specs.CellReads.{same_sign, as_read}
 use Rattle.store_objects.specs.LiveBases.{most_bases, only_base}
 use Rattle.store.specs.Loads.{labels_of, load_leaves, read_leaf, load_class_cell, load_other_leaves, read_other_leaf, load_padding, load_other_bytes, is_text, load_own, load_others, load_character, load_base, read_base, load_bases, loaded, load}
-use Rattle.store_sound.proofs.store.Classes.{same_class_is}
+use Rattle.store_sound.proofs.operations.Classes.{same_class_is}
 use Rattle.struct_copies_sound.specs.Leaves.StructLeaves.{IsStruct}
 use Rattle.transfer_exact.proofs.places.OneTurn.{walk_idle, walk_once}
 use Rattle.transfer_exact.proofs.places.OneBase.{has_own, has_no_other}

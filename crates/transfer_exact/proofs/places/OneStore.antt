@@ -31,10 +31,10 @@ use Rattle.store_objects.specs.LiveBases.{most_bases, only_base, is_literal_kind
 use Rattle.store.specs.Stores.{has_place_or, has_place, has_own_place, any_place, is_nothing, stored_value, cell_value, store_leaf_at, store_leaf, store_leaves, store_class_cell, store_other_leaf_at, store_other_leaf, store_other_leaves, store_other_bytes, store_own, store_character, store_wider, store_base, store_if, store_to, store_all, write_to, can_store, store_access, reached_of, store}
 use Rattle.memory_model.specs.Effects.Touches.{is_allocated}
 use Rattle.store_sound.specs.Concretization.SoundMemory.{storage_for}
-use Rattle.store_sound.proofs.store.Classes.{same_class_is, count_none}
-use Rattle.store_sound.proofs.store.Only.{Only, only_same, only_put, only_more, only_walk}
-use Rattle.store_sound.proofs.store.StoreRows.{Fits, zero_is}
-use Rattle.store_sound.proofs.store.Walks.{walk_meets}
+use Rattle.store_sound.proofs.operations.Classes.{same_class_is, count_none}
+use Rattle.store_sound.proofs.operations.Only.{Only, only_same, only_put, only_more, only_walk}
+use Rattle.store_sound.proofs.operations.StoreRows.{Fits, zero_is}
+use Rattle.store_sound.proofs.operations.Walks.{walk_meets}
 use Rattle.struct_copies_sound.specs.Leaves.StructLeaves.{IsStruct}
 use Rattle.transfer_exact.proofs.places.OneTurn.{walk_idle, walk_once}
 use Rattle.transfer_exact.proofs.places.OneBase.{has_own, has_no_other, live_is, writable_is}

@@ -16,8 +16,8 @@ use Rattle.memory_model.specs.Memory.ScalarSizes.{class_bytes, is_pointer}
 use Rattle.memory_model.specs.Memory.Scalars.{integer, pointer}
 use Rattle.memory_model.specs.Effects.ScalarBytes.{number_bytes, parts_from, bits_in, scalar_bytes}
 use Rattle.store_sound.specs.Concretization.Matching.{Matched, number_in}
-use Rattle.store_sound.proofs.store.Classes.{class_above}
-use Rattle.store_sound.proofs.store.Fresh.{converted_back}
+use Rattle.store_sound.proofs.operations.Classes.{class_above}
+use Rattle.store_sound.proofs.operations.Fresh.{converted_back}
 use Rattle.transfer_exact.specs.Values.SingleRows.{HoldsNumber, HoldsPointing}
 use Rattle.transfer_exact.proofs.places.OneLeaf.{same_size}
 

@@ -62,8 +62,8 @@ use Rattle.semantics.specs.CfgMachine.FlowSteps.{act_step}
 use Rattle.store_sound.specs.Concretization.ValueMeaning.{Naming}
 use Rattle.store_sound.specs.Concretization.SoundMemory.{IsWithin, IsPointerIn, storage_for}
 use Rattle.store_sound.specs.Concretization.Coverage.{state_of}
-use Rattle.store_sound.proofs.store.Sets.{only_is}
-use Rattle.store_sound.proofs.store.Slices.{get_there}
+use Rattle.store_sound.proofs.operations.Sets.{only_is}
+use Rattle.store_sound.proofs.operations.Slices.{get_there}
 use Rattle.store_sound.specs.Programs.Premises.{HasPremises}
 use Rattle.transfer_sound.specs.Values.SoundSteps.{IsReached}
 use Rattle.transfer_sound.proofs.values.ResultRows.{truth_near}

@@ -12,7 +12,7 @@ use Rattle.value_domain.specs.declared.values.row_cells.Cell.{Cell}
 use Rattle.memory_model.specs.Memory.Instances.{live, bytes_at, bytes_of, life_at}
 use Rattle.semantics.specs.CfgMachine.FlowStates.{Standing}
 use Rattle.store_sound.specs.Concretization.ValueMeaning.{Naming}
-use Rattle.store_sound.proofs.store.LoadSound.{instance_there}
+use Rattle.store_sound.proofs.operations.LoadSound.{instance_there}
 use Rattle.store_sound.specs.Programs.Premises.{HasPremises}
 use Rattle.transfer_sound.specs.Values.SoundSteps.{IsReached}
 use Rattle.transfer_sound.proofs.values.PartSteps.{declared_storage}

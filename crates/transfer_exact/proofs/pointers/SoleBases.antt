@@ -10,8 +10,8 @@ use lib.Count.{ones_step}
 use Rattle.c_layout.specs.declared.shapes.BaseInfo.{BaseInfo}
 use Rattle.pointer_domain.specs.declared.base_sets.Bases.{Bases}
 use Rattle.pointer_domain.specs.BaseSets.{no_base, word_of, with_word, bases_has, bases_within, bases_meet, bases_count, word_meets, word_within}
-use Rattle.store_sound.proofs.store.Sets.{if_keeps, if_adds, none_has, only_is}
-use Rattle.store_sound.proofs.store.Walks.{walk_meets}
+use Rattle.store_sound.proofs.operations.Sets.{if_keeps, if_adds, none_has, only_is}
+use Rattle.store_sound.proofs.operations.Walks.{walk_meets}
 use Rattle.store_objects.specs.LiveBases.{most_bases, is_single_kind, only_base, has_base, add_single, single_bases}
 use Rattle.domain_theorems.proofs.values.BaseChanges.{no_word_is, bit_of, or_below}
 

@@ -12,7 +12,7 @@ use Rattle.c_layout.specs.declared.leaf_lists.Leaf.{Leaf}
 use Rattle.cfg.specs.declared.programs.Flow.{Flow}
 use Rattle.store_cells.specs.NearValues.{near_value}
 use Rattle.store.specs.Spelling.{character, character_number, one_character}
-use Rattle.store_monotone.specs.Store.StoreLaws.{AreBytes}
+use Rattle.store_monotone.specs.Operations.StoreLaws.{AreBytes}
 use Rattle.memory_model.specs.Memory.Bytes.{number}
 use Rattle.memory_model.specs.Memory.Labels.{no_labels}
 use Rattle.memory_model.specs.Memory.Numbers.{Labelled}

@@ -27,10 +27,10 @@ use Rattle.memory_model.specs.Effects.Touches.{set_bytes}
 use Rattle.store_sound.specs.Concretization.Matching.{Matched}
 use Rattle.store_sound.specs.Concretization.RowMeaning.{MachineState}
 use Rattle.store_sound.specs.Concretization.SoundMemory.{IsInstanceOf}
-use Rattle.store_sound.proofs.store.Classes.{class_above, same_class_is, is_same_class}
-use Rattle.store_sound.proofs.store.Selected.{place_selected, single_in}
-use Rattle.store_sound.proofs.store.Slices.{get_there}
-use Rattle.store_sound.proofs.store.StoreRows.{Fits}
+use Rattle.store_sound.proofs.operations.Classes.{class_above, same_class_is, is_same_class}
+use Rattle.store_sound.proofs.operations.Selected.{place_selected, single_in}
+use Rattle.store_sound.proofs.operations.Slices.{get_there}
+use Rattle.store_sound.proofs.operations.StoreRows.{Fits}
 use Rattle.store_sound.specs.Programs.Premises.{HasPremises}
 use Rattle.store_sound.proofs.regions.ContentRegions.{IsWritten, contents_written}
 use Rattle.struct_copies_sound.proofs.leaves.Structs.{owned_at}
@@ -40,8 +40,8 @@ use Rattle.struct_copies_sound.proofs.SpelledZeros.{ends_inside}
 use Rattle.transfer_exact.specs.Values.SingleRows.{IsPlainProgram, TellsLeaf}
 use Rattle.transfer_exact.proofs.places.HeldReads.{inside}
 use Rattle.transfer_exact.proofs.places.OneLeaf.{owned}
-use Rattle.transfer_exact.specs.Store.TypedAccesses.{HasObjects}
-use Rattle.transfer_exact.proofs.store.Moves.{held_moves, holds_moves}
+use Rattle.transfer_exact.specs.Accesses.TypedAccesses.{HasObjects}
+use Rattle.transfer_exact.proofs.accesses.Moves.{held_moves, holds_moves}
 use Rattle.transfer_exact.proofs.spelling.CharacterLeaves.{tag_of_character, character_leaf}
 use Rattle.transfer_exact.proofs.spelling.SpelledRows.{spelled_value}
 

@@ -17,9 +17,9 @@ use Rattle.store_cells.specs.NearValues.{near_value}
 use Rattle.store_cells.specs.RowPositions.{leaf_position, zero_position, value_in, value_at}
 use Rattle.store.specs.Spelling.{written_count, is_one_place, is_spelled, one_character, characters, spell_cell, spell_leaf_at, spell_leaf, spell_leaves, first_zero_of, spell_part, spell_zero, spell_object}
 use Rattle.store_cells.specs.Walks.{walk}
-use Rattle.store_sound.proofs.store.Only.{Only, only_same, only_put, only_cond, cell_put}
-use Rattle.store_sound.proofs.store.StoreRows.{Fits, leaf_is, join_only}
-use Rattle.store_sound.proofs.store.StoreValues.{same_value}
+use Rattle.store_sound.proofs.operations.Only.{Only, only_same, only_put, only_cond, cell_put}
+use Rattle.store_sound.proofs.operations.StoreRows.{Fits, leaf_is, join_only}
+use Rattle.store_sound.proofs.operations.StoreValues.{same_value}
 use Rattle.store_sound.specs.Regions.RegionWrites.{WritesWithin}
 use Rattle.store_sound.proofs.regions.Layers.{leaves_within, leaf_turn, zeros_within, layers_within, value_turn}
 

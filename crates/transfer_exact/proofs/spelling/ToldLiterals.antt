@@ -27,19 +27,19 @@ use Rattle.store_sound.specs.Concretization.Places.{IsPlaceOf}
 use Rattle.store_sound.specs.Concretization.RowMeaning.{MachineState}
 use Rattle.store_sound.specs.Concretization.SoundMemory.{IsMemoryOf, IsInstanceOf, storage_for}
 use Rattle.store_sound.specs.Concretization.ValueMeaning.{Naming}
-use Rattle.store_sound.proofs.store.Classes.{class_above, is_same_class}
-use Rattle.store_sound.proofs.store.LoadSound.{instance_there}
-use Rattle.store_sound.proofs.store.MachineStores.{take_at}
-use Rattle.store_sound.proofs.store.Selected.{place_selected}
-use Rattle.store_sound.proofs.store.Slices.{get_there, get_map}
-use Rattle.store_sound.proofs.store.StoreRows.{Fits}
+use Rattle.store_sound.proofs.operations.Classes.{class_above, is_same_class}
+use Rattle.store_sound.proofs.operations.LoadSound.{instance_there}
+use Rattle.store_sound.proofs.operations.MachineStores.{take_at}
+use Rattle.store_sound.proofs.operations.Selected.{place_selected}
+use Rattle.store_sound.proofs.operations.Slices.{get_there, get_map}
+use Rattle.store_sound.proofs.operations.StoreRows.{Fits}
 use Rattle.store_sound.specs.Programs.Premises.{HasPremises}
 use Rattle.struct_copies_sound.proofs.leaves.Structs.{owned_at}
 use Rattle.struct_copies_sound.proofs.Texts.{content_is}
 use Rattle.entry_sound.specs.Starts.Literals.{IsLiteralObject}
 use Rattle.transfer_exact.specs.Values.SingleRows.{IsPlainProgram, TellsLeaf}
 use Rattle.transfer_exact.proofs.places.OneLeaf.{owned, place_is}
-use Rattle.transfer_exact.specs.Store.TypedAccesses.{HasObjects}
+use Rattle.transfer_exact.specs.Accesses.TypedAccesses.{HasObjects}
 use Rattle.transfer_exact.proofs.spelling.CharacterLeaves.{tag_of_character, character_leaf}
 use Rattle.transfer_exact.proofs.spelling.SpelledRows.{spelled_value}
 

@@ -32,8 +32,8 @@ use Rattle.store_sound.specs.Concretization.Coverage.{state_of}
 use Rattle.store_sound.specs.Concretization.RowMeaning.{MachineState}
 use Rattle.store_sound.specs.Concretization.SoundMemory.{IsInstanceOf}
 use Rattle.store_sound.specs.Concretization.ValueMeaning.{Naming}
-use Rattle.store_sound.proofs.store.LoadSound.{instance_there}
-use Rattle.store_sound.proofs.store.StoreRows.{Fits}
+use Rattle.store_sound.proofs.operations.LoadSound.{instance_there}
+use Rattle.store_sound.proofs.operations.StoreRows.{Fits}
 use Rattle.store_sound.specs.Programs.Premises.{HasPremises}
 use Rattle.store_sound.proofs.regions.ContentRegions.{IsWritten}
 use Rattle.transfer_sound.specs.Values.SoundSteps.{IsReached}
@@ -45,8 +45,8 @@ use Rattle.transfer_exact.specs.Values.SingleSteps.{IsDefined, TellsBehind, Step
 use Rattle.transfer_exact.proofs.values.Told.{if_some_told}
 use Rattle.transfer_exact.proofs.values.Violated.{none_violated}
 use Rattle.transfer_exact.proofs.places.OneLeaf.{place_is}
-use Rattle.transfer_exact.specs.Store.TypedAccesses.{HasObjects}
-use Rattle.transfer_exact.proofs.store.Moves.{change_tells}
+use Rattle.transfer_exact.specs.Accesses.TypedAccesses.{HasObjects}
+use Rattle.transfer_exact.proofs.accesses.Moves.{change_tells}
 use Rattle.transfer_exact.specs.Spelling.CopyLaws.{IsSpelled}
 use Rattle.transfer_exact.proofs.spelling.SpelledRows.{spelled_within}
 use Rattle.transfer_exact.proofs.spelling.SpelledLeaves.{written, spelled_leaves}

@@ -32,8 +32,8 @@ use Rattle.store_sound.specs.Concretization.Matching.{number_in}
 use Rattle.store_sound.specs.Concretization.RowMeaning.{MachineState}
 use Rattle.store_sound.specs.Concretization.SeenLabels.{as_set}
 use Rattle.store_sound.specs.Concretization.ValueMeaning.{Naming}
-use Rattle.store_sound.proofs.store.Classes.{class_size}
-use Rattle.store_sound.proofs.store.Slices.{get_there, get_take}
+use Rattle.store_sound.proofs.operations.Classes.{class_size}
+use Rattle.store_sound.proofs.operations.Slices.{get_there, get_take}
 use Rattle.store_sound.specs.Programs.Premises.{HasPremises}
 use Rattle.transfer_sound.proofs.values.TypeRanges.{le_from}
 use Rattle.transfer_sound.specs.Tests.ScalarObjects.{IsScalarObject}

@@ -67,7 +67,7 @@ use Rattle.store_sound.specs.Concretization.SeenLabels.{as_set}
 use Rattle.store_sound.specs.Concretization.ValueMeaning.{Naming}
 use Rattle.store_sound.specs.Concretization.SoundMemory.{IsPointerIn, IsScalarIn}
 use Rattle.store_sound.specs.Concretization.Coverage.{state_of}
-use Rattle.store_sound.specs.Store.Scalars.{IsOfKind}
+use Rattle.store_sound.specs.Operations.Scalars.{IsOfKind}
 use Rattle.store_sound.specs.Programs.Premises.{HasPremises}
 use Rattle.transfer_sound.specs.Values.OperandTypes.{HasNumberOf, HasKind, HasOperands}
 use Rattle.transfer_sound.specs.Values.SoundSteps.{IsReached}

@@ -18,8 +18,8 @@ use Rattle.struct_copies_sound.specs.Structs.StructTables.{HasStructs}
 use Rattle.struct_copies_sound.specs.SpellSteps.{SpellsCharacters}
 use Rattle.entry_sound.specs.Starts.StartedRows.{HasBeginnings}
 use Rattle.transfer_exact.specs.Values.SingleRows.{IsPlainProgram, TellsState}
-use Rattle.transfer_exact.specs.Store.StoreLaws.{AreToldAt}
-use Rattle.transfer_exact.specs.Store.TypedAccesses.{HasObjects}
+use Rattle.transfer_exact.specs.Accesses.StoreLaws.{AreToldAt}
+use Rattle.transfer_exact.specs.Accesses.TypedAccesses.{HasObjects}
 use Rattle.transfer_exact.specs.Spelling.TypedCopies.{IsTypedCopy}
 
 abbrev pub IsSpelled : Flow → Operation → Standing → Type 0

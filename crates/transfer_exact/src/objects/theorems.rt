@@ -1,7 +1,7 @@
 //! Where a row tells exactly what a state is, the row behind an instruction that begins or ends the lifetime of an
 //! object tells the state behind it.
 ghost use Rattle.cfg.specs.declared.programs.Flow.{Flow};
-ghost use Rattle.transfer_exact.specs.Store.StoreLaws.{EntersAreTold, LeavesAreTold};
+ghost use Rattle.transfer_exact.specs.Accesses.StoreLaws.{EntersAreTold, LeavesAreTold};
 
 use cc_base::IntDomain;
 

@@ -26,7 +26,7 @@ use Rattle.domain_theorems.proofs.values.Flags.{Sets, holds_sets, fails_sets}
 use Rattle.domain_theorems.proofs.values.Ranges.{RangeBelow, bounds_monotone}
 use Rattle.domain_theorems.proofs.values.Leaving.{AreOrdered}
 use Rattle.domain_theorems.proofs.values.ValueOperations.{truth_monotone}
-use Rattle.store_monotone.specs.Store.TopRows.{top_row}
+use Rattle.store_monotone.specs.Operations.TopRows.{top_row}
 use Rattle.transfer_checks.specs.Temporaries.{temp_value}
 use Rattle.transfer_system.specs.Edges.{deciding_temp, line_call, truth_can_be, includes, has_label, is_other_than, can_be, put_kept, refine_if, kept_behind, behind_test, branch_edge, put_null, switched, refine_named_case, refine_object, case_edge, no_line_edge, line_edge, follow, follow_if, edge}
 use Rattle.transfer_monotone.specs.Values.RisingRows.{LeftRise}

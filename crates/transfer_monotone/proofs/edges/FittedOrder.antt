@@ -32,12 +32,12 @@ use Rattle.domain_theorems.proofs.values.Flags.{Sets, and_sets, not_sets, or_lef
 use Rattle.domain_theorems.proofs.values.Parts.{PointersBelow, pointer_parts, pointers_below, value_parts, value_below}
 use Rattle.domain_theorems.proofs.values.Ranges.{RangeBelow, met_monotone, bounds_monotone, of_range_monotone}
 use Rattle.domain_theorems.proofs.values.Bases.{empty_below, empty_within}
-use Rattle.store_monotone.specs.Store.TopCells.{top_number, top_value, top_zero, top_state}
-use Rattle.store_monotone.specs.Store.TopRows.{top_base, top_bases, top_row}
-use Rattle.store_monotone.specs.Store.ConsistentRows.{IsConsistentCell, AreConsistent}
-use Rattle.store_monotone.proofs.store.AddedRanges.{below_of_bounds}
-use Rattle.store_monotone.proofs.store.CellReads.{labels_top}
-use Rattle.store_monotone.proofs.store.FirstZeros.{zero_near}
+use Rattle.store_monotone.specs.Operations.TopCells.{top_number, top_value, top_zero, top_state}
+use Rattle.store_monotone.specs.Operations.TopRows.{top_base, top_bases, top_row}
+use Rattle.store_monotone.specs.Operations.ConsistentRows.{IsConsistentCell, AreConsistent}
+use Rattle.store_monotone.proofs.operations.AddedRanges.{below_of_bounds}
+use Rattle.store_monotone.proofs.operations.CellReads.{labels_top}
+use Rattle.store_monotone.proofs.operations.FirstZeros.{zero_near}
 use Rattle.transfer_system.specs.declared.bounded_rows.cell_kinds.CellKind.{CellKind}
 use Rattle.transfer_system.specs.declared.bounded_rows.cell_kinds.CellKind.TheVariants as kind
 use Rattle.transfer_system.specs.declared.bounded_rows.own_cells.Reach.{Reach}

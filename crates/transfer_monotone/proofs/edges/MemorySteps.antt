@@ -21,10 +21,10 @@ use Rattle.store.specs.Stores.{store}
 use Rattle.domain_theorems.proofs.values.Flags.{Sets, flag_sets, and_sets}
 use Rattle.domain_theorems.proofs.values.Parts.{value_parts, pointer_parts}
 use Rattle.domain_theorems.proofs.values.Bases.{empty_below}
-use Rattle.store_monotone.specs.Store.TopRows.{top_row}
-use Rattle.store_monotone.specs.Store.RowsBelow.{ReadBelow, StoresBelow}
-use Rattle.store_monotone.specs.Store.ConsistentRows.{IsLeftConsistent}
-use Rattle.store_monotone.proofs.store.Together.{loads, stores, stores_consistent}
+use Rattle.store_monotone.specs.Operations.TopRows.{top_row}
+use Rattle.store_monotone.specs.Operations.RowsBelow.{ReadBelow, StoresBelow}
+use Rattle.store_monotone.specs.Operations.ConsistentRows.{IsLeftConsistent}
+use Rattle.store_monotone.proofs.operations.Together.{loads, stores, stores_consistent}
 use Rattle.transfer_checks.specs.declared.touches.Touched.{Touched}
 use Rattle.transfer_checks.specs.ViolationSets.{violations_union}
 use Rattle.transfer_checks.specs.Touches.{touch}

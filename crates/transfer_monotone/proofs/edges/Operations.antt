@@ -20,12 +20,12 @@ use Rattle.cfg.specs.WellFormed.{names_of, is_number, is_site, is_optional_exten
 use Rattle.pointer_domain.specs.declared.base_sets.Bases.{Bases}
 use Rattle.store_objects.specs.ObjectLives.{forget, leave, clear}
 use Rattle.store.specs.Spelling.{spell}
-use Rattle.store_monotone.specs.Store.TopRows.{top_row}
-use Rattle.store_monotone.specs.Store.StoreLaws.{AreBytes}
-use Rattle.store_monotone.specs.Store.Placements.{EachFrom}
-use Rattle.store_monotone.proofs.store.OwnValues.{each_get}
-use Rattle.store_monotone.proofs.store.Together.{forgets, clears, leaves, spells, spells_consistent}
-use Rattle.store_monotone.proofs.store.ConsistentLives.{forget_even, clear_even, leave_even}
+use Rattle.store_monotone.specs.Operations.TopRows.{top_row}
+use Rattle.store_monotone.specs.Operations.StoreLaws.{AreBytes}
+use Rattle.store_monotone.specs.Operations.Placements.{EachFrom}
+use Rattle.store_monotone.proofs.operations.OwnValues.{each_get}
+use Rattle.store_monotone.proofs.operations.Together.{forgets, clears, leaves, spells, spells_consistent}
+use Rattle.store_monotone.proofs.operations.ConsistentLives.{forget_even, clear_even, leave_even}
 use Rattle.transfer_checks.specs.ViolationSets.{no_violations}
 use Rattle.transfer_system.specs.CallSteps.{line_goes_on}
 use Rattle.transfer_system.specs.Steps.{operate, operate_if, step_in, step}

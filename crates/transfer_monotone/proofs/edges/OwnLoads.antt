@@ -29,16 +29,16 @@ use Rattle.store_objects.specs.LiveBases.{is_live_in}
 use Rattle.store.specs.Loads.{reaches_class, joined_if, read_leaf, load_leaves, load_class_cell, read_other_leaf, load_other_leaves, read_class_cell, load_other_class_cells, load_padding, load_other_bytes, is_text, determinate_if, load_own, load_others, load_character, load_base, labels_of, read_base, load_bases, loaded, load_within, load}
 use Rattle.cc_base.specs.Rows.{row_leq}
 use Rattle.value_domain.specs.Values.Cells.{cell_lattice}
-use Rattle.store_monotone.specs.Store.ConsistentRows.{AreConsistent}
-use Rattle.store_monotone.specs.Store.TopCells.{top_value}
-use Rattle.store_monotone.specs.Store.Placements.{EachFrom, IsPlaced}
-use Rattle.store_monotone.proofs.store.PairedSteps.{walk_pair, turns_pair, numbers_below}
-use Rattle.store_monotone.proofs.store.NearCells.{value_at_top}
-use Rattle.store_monotone.proofs.store.OwnValues.{blank_top}
-use Rattle.store_monotone.proofs.store.CellReads.{labels_top, whole_top, read_top}
-use Rattle.store_monotone.proofs.store.Loads.{class_small}
-use Rattle.store_monotone.proofs.store.Consistent.{IsEven, even_join, even_bare}
-use Rattle.store_monotone.proofs.store.ConsistentStores.{row_reflexive, at_even, either_even}
+use Rattle.store_monotone.specs.Operations.ConsistentRows.{AreConsistent}
+use Rattle.store_monotone.specs.Operations.TopCells.{top_value}
+use Rattle.store_monotone.specs.Operations.Placements.{EachFrom, IsPlaced}
+use Rattle.store_monotone.proofs.operations.PairedSteps.{walk_pair, turns_pair, numbers_below}
+use Rattle.store_monotone.proofs.operations.NearCells.{value_at_top}
+use Rattle.store_monotone.proofs.operations.OwnValues.{blank_top}
+use Rattle.store_monotone.proofs.operations.CellReads.{labels_top, whole_top, read_top}
+use Rattle.store_monotone.proofs.operations.Loads.{class_small}
+use Rattle.store_monotone.proofs.operations.Consistent.{IsEven, even_join, even_bare}
+use Rattle.store_monotone.proofs.operations.ConsistentStores.{row_reflexive, at_even, either_even}
 
 flag_top : (p : Bool) → flag_leq p true ≡ true
 flag_top true = refl

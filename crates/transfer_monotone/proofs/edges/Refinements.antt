@@ -30,12 +30,12 @@ use Rattle.domain_theorems.proofs.values.Parts.{LabelsBelow, label_parts, labels
 use Rattle.domain_theorems.proofs.values.Ranges.{RangeBelow, met_monotone, bounds_monotone, of_range_monotone}
 use Rattle.domain_theorems.proofs.values.Leaving.{AreOrdered, fits_less}
 use Rattle.domain_theorems.proofs.values.LabelRules.{dropped_monotone}
-use Rattle.store_monotone.specs.Store.TopCells.{top_number, top_value}
-use Rattle.store_monotone.specs.Store.TopRows.{top_row}
-use Rattle.store_monotone.specs.Store.Placements.{IsPlaced}
-use Rattle.store_monotone.proofs.store.CellReads.{labels_top}
-use Rattle.store_monotone.proofs.store.NearCells.{near_value_is}
-use Rattle.store_monotone.proofs.store.OwnValues.{each_get}
+use Rattle.store_monotone.specs.Operations.TopCells.{top_number, top_value}
+use Rattle.store_monotone.specs.Operations.TopRows.{top_row}
+use Rattle.store_monotone.specs.Operations.Placements.{IsPlaced}
+use Rattle.store_monotone.proofs.operations.CellReads.{labels_top}
+use Rattle.store_monotone.proofs.operations.NearCells.{near_value_is}
+use Rattle.store_monotone.proofs.operations.OwnValues.{each_get}
 use Rattle.transfer_system.specs.Refinements.{position_of, object_position, mirrored, refined_labels, common_labels, is_same_object, named_by, number_side, value_of_object, side_value, fits, refined_number, refined, met_number, met, put_at, put_side, has_number, refine_one, refine_two, refine_sides, refine_values, refine_integers, only_null, not_null, tested_pointer, tested_value, refine_pointer_at, refine_pointer, refine_named, refine_in, refine, labelled_number, with_number, put_case, refine_value, refine_case_at, refine_case}
 use Rattle.transfer_monotone.specs.Values.RisingRows.{LeftRise, PointersRise, ValuesRise}
 use Rattle.transfer_monotone.specs.Values.LaidOut.{IsLaidOut}

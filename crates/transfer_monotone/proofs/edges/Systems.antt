@@ -13,7 +13,7 @@ use Rattle.cfg.specs.declared.machine_instructions.Instruction.{Instruction}
 use Rattle.cfg.specs.WellFormed.{names_of, fits_operation}
 use Rattle.value_domain.specs.declared.values.row_cells.Cell.{Cell}
 use Rattle.value_domain.specs.Values.Cells.{cell_lattice}
-use Rattle.store_monotone.specs.Store.TopRows.{top_row}
+use Rattle.store_monotone.specs.Operations.TopRows.{top_row}
 use Rattle.transfer_system.specs.Steps.{operate}
 use Rattle.transfer_system.specs.BoundedRows.CellKinds.{all_kinds}
 use Rattle.transfer_system.specs.BoundedRows.EndLaws.{EndLaws}

@@ -35,14 +35,14 @@ use Rattle.domain_theorems.proofs.values.BaseChanges.{has_none}
 use Rattle.domain_theorems.proofs.values.Flags.{Sets, and_sets}
 use Rattle.domain_theorems.proofs.values.Parts.{pointers_below}
 use Rattle.domain_theorems.proofs.values.Ranges.{RangeBelow, met_monotone, bounds_monotone, of_range_monotone}
-use Rattle.store_monotone.specs.Store.StoreLaws.{FreshBelow, IsFreshOfWords}
-use Rattle.store_monotone.specs.Store.TopCells.{top_number, top_value}
-use Rattle.store_monotone.specs.Store.TopRows.{top_row}
-use Rattle.store_monotone.proofs.store.CellReads.{size_is}
-use Rattle.store_monotone.proofs.store.Consistent.{from_some}
-use Rattle.store_monotone.proofs.store.FirstZeros.{zero_near}
-use Rattle.store_monotone.proofs.store.NearCells.{near_is}
-use Rattle.store_monotone.proofs.store.Together.{renews, renews_consistent}
+use Rattle.store_monotone.specs.Operations.StoreLaws.{FreshBelow, IsFreshOfWords}
+use Rattle.store_monotone.specs.Operations.TopCells.{top_number, top_value}
+use Rattle.store_monotone.specs.Operations.TopRows.{top_row}
+use Rattle.store_monotone.proofs.operations.CellReads.{size_is}
+use Rattle.store_monotone.proofs.operations.Consistent.{from_some}
+use Rattle.store_monotone.proofs.operations.FirstZeros.{zero_near}
+use Rattle.store_monotone.proofs.operations.NearCells.{near_is}
+use Rattle.store_monotone.proofs.operations.Together.{renews, renews_consistent}
 use Rattle.transfer_checks.specs.ViolationSets.{no_violations}
 use Rattle.transfer_checks.specs.AllocationChecks.{is_too_small, allocation_violations}
 use Rattle.transfer_library_plans.specs.Allocations.{sized_trail, instance_size, plan_malloc}

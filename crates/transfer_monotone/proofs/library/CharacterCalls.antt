@@ -19,7 +19,7 @@ use Rattle.value_domain.specs.declared.values.values.Value.{Value}
 use Rattle.value_domain.specs.Values.LabelSets.{no_labels, labels_order}
 use Rattle.value_domain.specs.Values.ValueTables.{number_value}
 use Rattle.domain_theorems.proofs.values.Ranges.{RangeBelow, met_monotone, bounds_monotone, of_range_monotone}
-use Rattle.store_monotone.proofs.store.OwnValues.{one_within}
+use Rattle.store_monotone.proofs.operations.OwnValues.{one_within}
 use Rattle.transfer_checks.specs.IntegerChecks.{is_no_character}
 use Rattle.transfer_library_plans.specs.Arguments.{argument_value}
 use Rattle.transfer_library_plans.specs.Characters.{is_lower, is_upper, has_class, meets, sum_of, difference_of, tested_number, raised, lowered, answer, plan_in, plan_character}

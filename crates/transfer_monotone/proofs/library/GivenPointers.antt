@@ -18,11 +18,11 @@ use Rattle.domain_theorems.proofs.values.Parts.{PointersBelow, pointer_parts}
 use Rattle.store_cells.specs.declared.access_windows.Window.{Window}
 use Rattle.store_cells.specs.AccessWindows.{window_within}
 use Rattle.store_objects.specs.LiveBases.{live_of, any_freed}
-use Rattle.store_monotone.specs.Store.TopCells.{top_value}
-use Rattle.store_monotone.specs.Store.TopRows.{top_row}
-use Rattle.store_monotone.proofs.store.LiveBases.{live_of_monotone}
-use Rattle.store_monotone.proofs.store.NearCells.{near_pointer_is}
-use Rattle.store_monotone.proofs.store.Windows.{WindowsBelow, within_monotone}
+use Rattle.store_monotone.specs.Operations.TopCells.{top_value}
+use Rattle.store_monotone.specs.Operations.TopRows.{top_row}
+use Rattle.store_monotone.proofs.operations.LiveBases.{live_of_monotone}
+use Rattle.store_monotone.proofs.operations.NearCells.{near_pointer_is}
+use Rattle.store_monotone.proofs.operations.Windows.{WindowsBelow, within_monotone}
 use Rattle.transfer_checks.specs.declared.library_arguments.Argument.{Argument}
 use Rattle.transfer_checks.specs.LibraryArguments.{within_bases, check_argument}
 use Rattle.transfer_checks.specs.Touches.{into_bases}

@@ -12,7 +12,7 @@ use Rattle.domain_theorems.proofs.values.Bases.{empty_below}
 use Rattle.store_objects.specs.Freeing.{is_heap_in}
 use Rattle.store_objects.specs.LiveBases.{most_bases, only_base, has_base, with_base_if}
 use Rattle.store_cells.specs.Walks.{walk}
-use Rattle.store_monotone.proofs.store.LiveSets.{has_monotone}
+use Rattle.store_monotone.proofs.operations.LiveSets.{has_monotone}
 use Rattle.transfer_checks.specs.AllocationChecks.{heap_of}
 use Rattle.transfer_monotone.proofs.values.PointerSteps.{found_below}
 

@@ -20,8 +20,8 @@ use Rattle.value_domain.specs.Values.LabelSets.{is_unlabelled, labels_leq, label
 use Rattle.store_objects.specs.declared.allocation.Fresh.TheVariants as fresh
 use Rattle.domain_theorems.proofs.values.Flags.{Sets}
 use Rattle.domain_theorems.proofs.values.Ranges.{RangeBelow, met_monotone, bounds_monotone}
-use Rattle.store_monotone.specs.Store.TopRows.{top_row}
-use Rattle.store_monotone.proofs.store.AddedRanges.{saturate_monotone}
+use Rattle.store_monotone.specs.Operations.TopRows.{top_row}
+use Rattle.store_monotone.proofs.operations.AddedRanges.{saturate_monotone}
 use Rattle.transfer_checks.specs.ViolationSets.{no_violations}
 use Rattle.transfer_checks.specs.AllocationChecks.{is_too_small, allocation_violations}
 use Rattle.transfer_library_plans.specs.Allocations.{from_zero, product_of, products_of, products, sized_trail, instance_size, plan_calloc}

@@ -25,12 +25,12 @@ use Rattle.domain_theorems.proofs.values.Flags.{Sets, flag_sets, or_sets, and_se
 use Rattle.domain_theorems.proofs.values.Moves.{offsets_monotone}
 use Rattle.domain_theorems.proofs.values.Parts.{PointersBelow, pointer_parts, pointers_below}
 use Rattle.domain_theorems.proofs.values.Ranges.{RangeBelow, bounds_monotone}
-use Rattle.store_monotone.specs.Store.TopCells.{top_value}
-use Rattle.store_monotone.specs.Store.TopRows.{top_row}
-use Rattle.store_monotone.proofs.store.ConsistentLives.{free_even}
-use Rattle.store_monotone.proofs.store.LiveBases.{live_of_monotone}
-use Rattle.store_monotone.proofs.store.StorePlaces.{any_monotone}
-use Rattle.store_monotone.proofs.store.Together.{frees}
+use Rattle.store_monotone.specs.Operations.TopCells.{top_value}
+use Rattle.store_monotone.specs.Operations.TopRows.{top_row}
+use Rattle.store_monotone.proofs.operations.ConsistentLives.{free_even}
+use Rattle.store_monotone.proofs.operations.LiveBases.{live_of_monotone}
+use Rattle.store_monotone.proofs.operations.StorePlaces.{any_monotone}
+use Rattle.store_monotone.proofs.operations.Together.{frees}
 use Rattle.transfer_checks.specs.declared.allocation_checks.Released.{Released}
 use Rattle.transfer_checks.specs.declared.violation_sets.Violations.{Violations}
 use Rattle.transfer_checks.specs.AllocationChecks.{allocation_violations, heap_of, may_be_zero, may_differ, is_misplaced, to_starts, check_release}

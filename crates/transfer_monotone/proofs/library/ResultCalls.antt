@@ -18,10 +18,10 @@ use Rattle.value_domain.specs.Values.ValueTables.{number_value}
 use Rattle.store_cells.specs.ScalarTypes.{kind_of}
 use Rattle.domain_theorems.proofs.values.Flags.{Sets, or_sets}
 use Rattle.domain_theorems.proofs.values.Ranges.{RangeBelow}
-use Rattle.store_monotone.specs.Store.TopCells.{top_number}
-use Rattle.store_monotone.specs.Store.TopRows.{top_row}
-use Rattle.store_monotone.proofs.store.CellReads.{size_is}
-use Rattle.store_monotone.proofs.store.StorePlaces.{bounds_some}
+use Rattle.store_monotone.specs.Operations.TopCells.{top_number}
+use Rattle.store_monotone.specs.Operations.TopRows.{top_row}
+use Rattle.store_monotone.proofs.operations.CellReads.{size_is}
+use Rattle.store_monotone.proofs.operations.StorePlaces.{bounds_some}
 use Rattle.transfer_checks.specs.ViolationSets.{no_violations}
 use Rattle.transfer_checks.specs.IntegerChecks.{is_no_character}
 use Rattle.transfer_library_plans.specs.declared.call_plans.Effect.{Effect}

@@ -32,17 +32,17 @@ use Rattle.store_cells.specs.FirstZeroWrites.{covering_part, offsets_of}
 use Rattle.store_objects.specs.LiveBases.{has_base, only_base}
 use Rattle.store_cells.specs.NearValues.{near_number}
 use Rattle.store_cells.specs.RowPositions.{zero_at, zero_position}
-use Rattle.store_monotone.specs.Store.Placements.{EachFrom, WindowWithin, IsPlaced, IsRegular, CoversToo}
-use Rattle.store_monotone.specs.Store.RowsBelow.{RowsBelow}
-use Rattle.store_monotone.specs.Store.TopCells.{top_number, top_zero}
-use Rattle.store_monotone.specs.Store.TopRows.{top_row}
-use Rattle.store_monotone.proofs.store.AddedRanges.{saturate_monotone}
-use Rattle.store_monotone.proofs.store.FirstZeros.{zero_near, zero_at_top, zero_at_monotone}
-use Rattle.store_monotone.proofs.store.NearCells.{near_is, near_monotone}
-use Rattle.store_monotone.proofs.store.PairedSteps.{walk_pair, numbers_below, any_each}
-use Rattle.store_monotone.proofs.store.Together.{both_each, each}
-use Rattle.store_monotone.proofs.store.Windows.{WindowsBelow, within_monotone}
-use Rattle.store_monotone.proofs.store.ZeroTargets.{offsets_monotone}
+use Rattle.store_monotone.specs.Operations.Placements.{EachFrom, WindowWithin, IsPlaced, IsRegular, CoversToo}
+use Rattle.store_monotone.specs.Operations.RowsBelow.{RowsBelow}
+use Rattle.store_monotone.specs.Operations.TopCells.{top_number, top_zero}
+use Rattle.store_monotone.specs.Operations.TopRows.{top_row}
+use Rattle.store_monotone.proofs.operations.AddedRanges.{saturate_monotone}
+use Rattle.store_monotone.proofs.operations.FirstZeros.{zero_near, zero_at_top, zero_at_monotone}
+use Rattle.store_monotone.proofs.operations.NearCells.{near_is, near_monotone}
+use Rattle.store_monotone.proofs.operations.PairedSteps.{walk_pair, numbers_below, any_each}
+use Rattle.store_monotone.proofs.operations.Together.{both_each, each}
+use Rattle.store_monotone.proofs.operations.Windows.{WindowsBelow, within_monotone}
+use Rattle.store_monotone.proofs.operations.ZeroTargets.{offsets_monotone}
 use Rattle.transfer_checks.specs.declared.string_scans.Scanned.{Scanned}
 use Rattle.transfer_checks.specs.StringScans.{scan_start, last_of_room, unknown_length, length_in, length_at, length_from, known_length, known_or, scan_base, goes_on_in, with_base, with_base_if, scan_more, nothing_scanned, scan_bases, scan}
 use Rattle.transfer_monotone.proofs.edges.MemorySteps.{row_near}

@@ -21,9 +21,9 @@ use Rattle.domain_theorems.proofs.values.Bases.{empty_below}
 use Rattle.domain_theorems.proofs.values.Flags.{Sets, or_sets, not_sets}
 use Rattle.domain_theorems.proofs.values.Ranges.{met_monotone, bounds_monotone, of_range_monotone}
 use Rattle.store_cells.specs.ScalarTypes.{kind_of}
-use Rattle.store_monotone.specs.Store.TopCells.{top_number}
-use Rattle.store_monotone.proofs.store.CellReads.{size_is}
-use Rattle.store_monotone.proofs.store.FirstZeros.{zero_near}
+use Rattle.store_monotone.specs.Operations.TopCells.{top_number}
+use Rattle.store_monotone.proofs.operations.CellReads.{size_is}
+use Rattle.store_monotone.proofs.operations.FirstZeros.{zero_near}
 use Rattle.transfer_checks.specs.declared.library_arguments.Argument.{Argument}
 use Rattle.transfer_checks.specs.declared.string_scans.Scanned.{Scanned}
 use Rattle.transfer_checks.specs.LibraryArguments.{check_argument}

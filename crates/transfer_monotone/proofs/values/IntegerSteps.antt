@@ -30,11 +30,11 @@ use Rattle.domain_theorems.proofs.values.Flags.{sets_flag, holds_sets, fails_set
 use Rattle.domain_theorems.proofs.values.Parts.{value_parts}
 use Rattle.domain_theorems.proofs.values.Ranges.{RangeBelow}
 use Rattle.domain_theorems.proofs.values.ValueOperations.{arith_monotone, unary_monotone, convert_monotone, truth_monotone}
-use Rattle.store_monotone.specs.Store.TopCells.{top_number}
-use Rattle.store_monotone.specs.Store.TopRows.{top_row}
-use Rattle.store_monotone.proofs.store.AddedRanges.{below_of_bounds}
-use Rattle.store_monotone.proofs.store.NearCells.{near_value_is}
-use Rattle.store_monotone.proofs.store.OwnValues.{one_within}
+use Rattle.store_monotone.specs.Operations.TopCells.{top_number}
+use Rattle.store_monotone.specs.Operations.TopRows.{top_row}
+use Rattle.store_monotone.proofs.operations.AddedRanges.{below_of_bounds}
+use Rattle.store_monotone.proofs.operations.NearCells.{near_value_is}
+use Rattle.store_monotone.proofs.operations.OwnValues.{one_within}
 use Rattle.transfer_checks.specs.Temporaries.{temp_value, amount_value}
 use Rattle.transfer_system.specs.ResultTemps.{negated}
 use Rattle.transfer_system.specs.IntegerSteps.{constant_step, binary_step, unary_step, compare_step, not_step, put_converted, converted_pointer, convert_value, convert_step}

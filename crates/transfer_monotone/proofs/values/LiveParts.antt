@@ -12,11 +12,11 @@ use Rattle.pointer_domain.specs.BaseLattice.{bases_order}
 use Rattle.value_domain.specs.declared.values.row_cells.Cell.{Cell}
 use Rattle.store_cells.specs.RowPositions.{state_at, state_position}
 use Rattle.store_objects.specs.LiveBases.{only_base, has_base, with_base_if, is_literal_kind, is_live_in, add_live, live_of, is_writable_in, add_writable, writable_of, may_be_freed, is_freed_or, any_freed}
-use Rattle.store_monotone.specs.Store.Placements.{EachFrom, IsPlaced}
-use Rattle.store_monotone.specs.Store.RowsBelow.{RowsBelow}
-use Rattle.store_monotone.proofs.store.PairedSteps.{walk_pair, numbers_below, any_each}
-use Rattle.store_monotone.proofs.store.LiveSets.{has_monotone}
-use Rattle.store_monotone.proofs.store.Freeing.{state_at_monotone}
+use Rattle.store_monotone.specs.Operations.Placements.{EachFrom, IsPlaced}
+use Rattle.store_monotone.specs.Operations.RowsBelow.{RowsBelow}
+use Rattle.store_monotone.proofs.operations.PairedSteps.{walk_pair, numbers_below, any_each}
+use Rattle.store_monotone.proofs.operations.LiveSets.{has_monotone}
+use Rattle.store_monotone.proofs.operations.Freeing.{state_at_monotone}
 use Rattle.domain_theorems.proofs.values.BaseChanges.{has_none}
 use Rattle.domain_theorems.proofs.values.Flags.{Sets, flag_sets, or_sets, and_sets}
 use Rattle.transfer_checks.specs.Touches.{is_literal_or, any_literal}

@@ -39,14 +39,14 @@ use Rattle.domain_theorems.proofs.values.Ranges.{RangeBelow, range_refl, sum_mon
 use Rattle.domain_theorems.proofs.values.Bases.{empty_below, one_base, no_count, sets_meet}
 use Rattle.domain_theorems.proofs.values.Moves.{shift_monotone, narrow_monotone, pointers_compared, difference_rises}
 use Rattle.domain_theorems.proofs.values.Equality.{equal_monotone}
-use Rattle.store_monotone.specs.Store.TopCells.{top_number, top_value}
-use Rattle.store_monotone.specs.Store.TopRows.{top_row}
-use Rattle.store_monotone.specs.Store.Placements.{EachFrom}
-use Rattle.store_monotone.proofs.store.CellReads.{size_is}
-use Rattle.store_monotone.proofs.store.Consistent.{some_parts, from_some, even_bare}
-use Rattle.store_monotone.proofs.store.NearCells.{near_monotone}
-use Rattle.store_monotone.proofs.store.OwnValues.{each_get}
-use Rattle.store_monotone.proofs.store.StorePlaces.{any_monotone}
+use Rattle.store_monotone.specs.Operations.TopCells.{top_number, top_value}
+use Rattle.store_monotone.specs.Operations.TopRows.{top_row}
+use Rattle.store_monotone.specs.Operations.Placements.{EachFrom}
+use Rattle.store_monotone.proofs.operations.CellReads.{size_is}
+use Rattle.store_monotone.proofs.operations.Consistent.{some_parts, from_some, even_bare}
+use Rattle.store_monotone.proofs.operations.NearCells.{near_monotone}
+use Rattle.store_monotone.proofs.operations.OwnValues.{each_get}
+use Rattle.store_monotone.proofs.operations.StorePlaces.{any_monotone}
 use Rattle.transfer_checks.specs.PointerChecks.{moves_outside, shift_violations, are_alike, check_same_instance}
 use Rattle.transfer_checks.specs.ViolationSets.{no_violations}
 use Rattle.transfer_checks.specs.Temporaries.{temp_value, amount_value}

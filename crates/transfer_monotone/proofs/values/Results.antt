@@ -24,12 +24,12 @@ use Rattle.store_cells.specs.ByteWrites.{null_pointer}
 use Rattle.domain_theorems.proofs.values.Flags.{flag_sets, or_sets}
 use Rattle.domain_theorems.proofs.values.Parts.{PointersBelow, pointer_parts, pointers_below, value_parts, value_below}
 use Rattle.domain_theorems.proofs.values.ValueOperations.{of_truth_monotone}
-use Rattle.store_monotone.specs.Store.TopCells.{top_number, top_value}
-use Rattle.store_monotone.specs.Store.TopRows.{top_row}
-use Rattle.store_monotone.proofs.store.Consistent.{even_bare}
-use Rattle.store_monotone.proofs.store.CellReads.{labels_top}
-use Rattle.store_monotone.proofs.store.OwnValues.{one_within}
-use Rattle.store_monotone.proofs.store.StorePlaces.{any_monotone, bounds_some}
+use Rattle.store_monotone.specs.Operations.TopCells.{top_number, top_value}
+use Rattle.store_monotone.specs.Operations.TopRows.{top_row}
+use Rattle.store_monotone.proofs.operations.Consistent.{even_bare}
+use Rattle.store_monotone.proofs.operations.CellReads.{labels_top}
+use Rattle.store_monotone.proofs.operations.OwnValues.{one_within}
+use Rattle.store_monotone.proofs.operations.StorePlaces.{any_monotone, bounds_some}
 use Rattle.transfer_checks.specs.Temporaries.{temp_position, temp_value, put_temp}
 use Rattle.transfer_system.specs.ResultTemps.{put_number, put_truth, put_pointer}
 use Rattle.transfer_monotone.specs.Values.RisingRows.{RowsRise, LeftRise, PointersRise, ValuesRise}

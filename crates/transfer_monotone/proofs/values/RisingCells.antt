@@ -19,11 +19,11 @@ use Rattle.cc_base.specs.Rows.{row_leq}
 use Rattle.cc_base.specs.RowLaws.{row_leq-trans}
 use Rattle.store_cells.specs.NearValues.{near_value}
 use Rattle.store_cells.specs.RowPositions.{cell_at, value_in, value_at, put_value}
-use Rattle.store_monotone.specs.Store.TopCells.{top_value}
-use Rattle.store_monotone.proofs.store.NearCells.{near_value_is, value_at_top, value_at_monotone}
-use Rattle.store_monotone.proofs.store.OwnValues.{value_put}
-use Rattle.store_monotone.proofs.store.Consistent.{even_bare, set_keeps}
-use Rattle.store_monotone.proofs.store.ConsistentStores.{at_even}
+use Rattle.store_monotone.specs.Operations.TopCells.{top_value}
+use Rattle.store_monotone.proofs.operations.NearCells.{near_value_is, value_at_top, value_at_monotone}
+use Rattle.store_monotone.proofs.operations.OwnValues.{value_put}
+use Rattle.store_monotone.proofs.operations.Consistent.{even_bare, set_keeps}
+use Rattle.store_monotone.proofs.operations.ConsistentStores.{at_even}
 use Rattle.transfer_monotone.specs.Values.RisingRows.{RowsRise, LeftRise, ValuesRise}
 use Rattle.transfer_monotone.proofs.values.TempPlaces.{at_past}
 use Rattle.transfer_monotone.proofs.values.OwnBases.{words_less}

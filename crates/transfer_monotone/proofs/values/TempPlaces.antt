@@ -10,8 +10,8 @@ use Rattle.pointer_domain.specs.declared.base_sets.Bases.{Bases}
 use Rattle.value_domain.specs.declared.values.row_cells.Cell.{Cell}
 use Rattle.value_domain.specs.declared.values.row_cells.Cell.TheVariants.{Nothing, Value, First, State}
 use Rattle.store_cells.specs.RowPositions.{cell_at}
-use Rattle.store_monotone.specs.Store.TopCells.{top_value, top_zero, top_state}
-use Rattle.store_monotone.specs.Store.TopRows.{top_base, top_bases, top_row}
+use Rattle.store_monotone.specs.Operations.TopCells.{top_value, top_zero, top_state}
+use Rattle.store_monotone.specs.Operations.TopRows.{top_base, top_bases, top_row}
 use Rattle.transfer_checks.specs.Temporaries.{temp_position}
 use Rattle.transfer_monotone.specs.Values.LaidOut.{IsLaidOut}
 

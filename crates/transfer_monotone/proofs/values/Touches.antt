@@ -25,16 +25,16 @@ use Rattle.domain_theorems.proofs.values.Flags.{Sets, flag_sets, or_sets, and_se
 use Rattle.domain_theorems.proofs.values.Parts.{PointersBelow, pointer_parts, pointers_below}
 use Rattle.domain_theorems.proofs.values.Ranges.{RangeBelow, range_refl, sum_monotone, met_monotone, upper_monotone, bounds_monotone, of_range_monotone}
 use Rattle.domain_theorems.proofs.values.Bases.{empty_below}
-use Rattle.store_monotone.specs.Store.TopCells.{top_number, top_value}
-use Rattle.store_monotone.specs.Store.TopRows.{top_row}
-use Rattle.store_monotone.specs.Store.Placements.{EachFrom, IsPlaced}
-use Rattle.store_monotone.proofs.store.NearCells.{near_pointer_is}
-use Rattle.store_monotone.proofs.store.LiveBases.{live_of_monotone, writable_monotone}
-use Rattle.store_monotone.proofs.store.StorePlaces.{bounds_some}
-use Rattle.store_monotone.proofs.store.TopRows.{all_placed}
+use Rattle.store_monotone.specs.Operations.TopCells.{top_number, top_value}
+use Rattle.store_monotone.specs.Operations.TopRows.{top_row}
+use Rattle.store_monotone.specs.Operations.Placements.{EachFrom, IsPlaced}
+use Rattle.store_monotone.proofs.operations.NearCells.{near_pointer_is}
+use Rattle.store_monotone.proofs.operations.LiveBases.{live_of_monotone, writable_monotone}
+use Rattle.store_monotone.proofs.operations.StorePlaces.{bounds_some}
+use Rattle.store_monotone.proofs.operations.TopRows.{all_placed}
 use Rattle.transfer_monotone.specs.Values.LaidOut.{IsLaidOut}
 use Rattle.transfer_monotone.proofs.values.TempPlaces.{row_length}
-use Rattle.store_monotone.proofs.store.Consistent.{some_parts, from_some}
+use Rattle.store_monotone.proofs.operations.Consistent.{some_parts, from_some}
 use Rattle.transfer_checks.specs.Touches.{leaves_bounds_at, span_of, any_literal, kept_of, is_nowhere, into_bases, leaves_bounds, places_within, touched_inside, touch_violations, touched_rest, touch}
 use Rattle.transfer_monotone.specs.Values.RisingRows.{RowsRise, PointersRise}
 use Rattle.transfer_monotone.specs.Values.ViolationsBelow.{ViolationsBelow}

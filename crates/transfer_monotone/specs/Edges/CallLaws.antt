@@ -9,7 +9,7 @@ use Rattle.cfg.specs.WellFormed.{is_site}
 use Rattle.pointer_domain.specs.declared.base_sets.Bases.{Bases}
 use Rattle.pointer_domain.specs.declared.pointer_sets.Pointers.{Pointers}
 use Rattle.value_domain.specs.declared.values.row_cells.Cell.{Cell}
-use Rattle.store_monotone.specs.Store.TopRows.{top_row}
+use Rattle.store_monotone.specs.Operations.TopRows.{top_row}
 use Rattle.transfer_system.specs.CallSteps.{call_violations, call_step, line_violations, line_goes_on, write_line}
 use Rattle.transfer_system.specs.MemorySteps.{copy_touched}
 use Rattle.transfer_monotone.specs.Values.RisingRows.{LeftRise, PointersRise}

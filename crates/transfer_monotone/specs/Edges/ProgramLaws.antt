@@ -16,7 +16,7 @@ use Rattle.cfg.specs.declared.machine_instructions.Operation.{Operation}
 use Rattle.cfg.specs.declared.machine_instructions.Operation.TheVariants as op
 use Rattle.cfg.specs.WellFormed.{names_of, fits_operation, fits_edge}
 use Rattle.pointer_domain.specs.declared.base_sets.Bases.{Bases}
-use Rattle.store_monotone.specs.Store.StoreLaws.{AreBytes}
+use Rattle.store_monotone.specs.Operations.StoreLaws.{AreBytes}
 use Rattle.transfer_system.specs.Steps.{step}
 use Rattle.transfer_system.specs.StepViolations.{violations_at}
 use Rattle.transfer_system.specs.Edges.{edge}

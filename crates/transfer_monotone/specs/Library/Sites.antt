@@ -5,7 +5,7 @@ use Rattle.cfg.specs.declared.programs.Flow.{Flow}
 use Rattle.cfg.specs.WellFormed.{is_site}
 use Rattle.pointer_domain.specs.declared.base_sets.Bases.{Bases}
 use Rattle.pointer_domain.specs.BaseSets.{bases_has}
-use Rattle.store_monotone.specs.Store.StoreLaws.{IsSite}
+use Rattle.store_monotone.specs.Operations.StoreLaws.{IsSite}
 use Rattle.transfer_system.specs.Effects.{older_of}
 
 -- the older base is one of the set of all, and has a place for all that the newest has

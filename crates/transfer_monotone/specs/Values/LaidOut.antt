@@ -6,7 +6,7 @@ use Rattle.pointer_domain.specs.declared.base_sets.Bases.{Bases}
 use Rattle.pointer_domain.specs.BaseSets.{bases_within}
 use Rattle.domain_theorems.specs.Values.Consistency.{AreWords}
 use Rattle.store_objects.specs.LiveBases.{only_base}
-use Rattle.store_monotone.specs.Store.StoreLaws.{IsLayout}
+use Rattle.store_monotone.specs.Operations.StoreLaws.{IsLayout}
 
 -- bases of regular shapes that follow each other, all of them in a set of words, and the temporaries behind them
 pub record IsLaidOut (all : Bases) (flow : Flow) : Type 0 where

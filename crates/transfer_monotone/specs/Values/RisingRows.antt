@@ -9,9 +9,9 @@ use Rattle.value_domain.specs.declared.values.values.Value.{Value}
 use Rattle.value_domain.specs.declared.values.row_cells.Cell.{Cell}
 use Rattle.value_domain.specs.Values.Values.{value_lattice}
 use Rattle.domain_theorems.specs.Values.Consistency.{is_consistent}
-use Rattle.store_monotone.specs.Store.TopCells.{top_value}
-use Rattle.store_monotone.specs.Store.RowsBelow.{RowsBelow}
-use Rattle.store_monotone.specs.Store.ConsistentRows.{AreConsistent}
+use Rattle.store_monotone.specs.Operations.TopCells.{top_value}
+use Rattle.store_monotone.specs.Operations.RowsBelow.{RowsBelow}
+use Rattle.store_monotone.specs.Operations.ConsistentRows.{AreConsistent}
 
 module _ {I : Type 0} (l : LatticeOf I) (n : IntegersOf I) where
   -- a row of consistent pointer parts below a larger one, and that below the greatest

@@ -11,7 +11,7 @@ use Rattle.cfg.specs.declared.programs.Flow.{Flow}
 use Rattle.cfg.specs.declared.machine_instructions.Amount.{Amount}
 use Rattle.cfg.specs.declared.machine_instructions.Scalar.{Scalar}
 use Rattle.value_domain.specs.declared.values.row_cells.Cell.{Cell}
-use Rattle.store_monotone.specs.Store.TopRows.{top_row}
+use Rattle.store_monotone.specs.Operations.TopRows.{top_row}
 use Rattle.pointer_domain.specs.declared.base_sets.Bases.{Bases}
 use Rattle.transfer_checks.specs.declared.violation_sets.Violations.{Violations}
 use Rattle.transfer_system.specs.IntegerSteps.{constant_step, binary_step, binary_checks, unary_step, unary_checks, compare_step, not_step, convert_step}

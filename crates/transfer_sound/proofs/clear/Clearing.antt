@@ -45,10 +45,10 @@ use Rattle.store_sound.specs.Concretization.Matching.{number_in}
 use Rattle.store_sound.specs.Concretization.ValueMeaning.{Naming, StandsContent, StandsZero}
 use Rattle.store_sound.specs.Concretization.RowMeaning.{IsLiveOf, StandsLeaf, StandsFor, array_of, array_bytes}
 use Rattle.store_sound.specs.Concretization.Coverage.{state_of}
-use Rattle.store_sound.proofs.store.LoadSound.{instance_there}
-use Rattle.store_sound.proofs.store.Only.{cell_put}
-use Rattle.store_sound.proofs.store.Slices.{get_take, get_drop, get_set_other}
-use Rattle.store_sound.proofs.store.StoreRows.{leaf_is, zero_is}
+use Rattle.store_sound.proofs.operations.LoadSound.{instance_there}
+use Rattle.store_sound.proofs.operations.Only.{cell_put}
+use Rattle.store_sound.proofs.operations.Slices.{get_take, get_drop, get_set_other}
+use Rattle.store_sound.proofs.operations.StoreRows.{leaf_is, zero_is}
 use Rattle.store_sound.specs.Programs.Premises.{HasPremises}
 use Rattle.transfer_sound.specs.Values.SoundSteps.{IsReached, StandsBehind, StepIsSound}
 use Rattle.transfer_sound.proofs.values.Admitted.{none_admitted, same_admitted}

@@ -14,7 +14,7 @@ use Rattle.lower_templates.specs.Views.ProgramViews.{EdgeView, edge, block, flow
 use Rattle.semantics.specs.CfgMachine.FlowEdges.{is_taken, edge_taken, edges_of}
 use Rattle.semantics.specs.CfgMachine.FlowSteps.{block_or, block_of}
 use Rattle.memory_model.specs.Memory.Scalars.{Scalar}
-use Rattle.store_sound.proofs.store.Slices.{get_map, get_take, get_drop}
+use Rattle.store_sound.proofs.operations.Slices.{get_map, get_take, get_drop}
 use Rattle.store_sound.proofs.programs.ShapedBases.{all_at}
 use Rattle.transfer_sound.proofs.induction.Blocks.{IsBlock}
 

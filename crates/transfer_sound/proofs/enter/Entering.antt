@@ -48,10 +48,10 @@ use Rattle.store_sound.specs.Concretization.Matching.{number_in}
 use Rattle.store_sound.specs.Concretization.ValueMeaning.{Naming, StandsContent, StandsScalar, StandsZero, StandsState}
 use Rattle.store_sound.specs.Concretization.SoundMemory.{storage_for}
 use Rattle.store_sound.specs.Concretization.RowMeaning.{IsLiveOf, StandsLeaf, StandsClass, StandsFor, array_bytes}
-use Rattle.store_sound.proofs.store.Classes.{class_above}
-use Rattle.store_sound.proofs.store.Slices.{get_there}
-use Rattle.store_sound.proofs.store.StoreRows.{leaf_is, class_is, zero_is}
-use Rattle.store_sound.proofs.store.StoreValues.{same_value, same_zero, same_state}
+use Rattle.store_sound.proofs.operations.Classes.{class_above}
+use Rattle.store_sound.proofs.operations.Slices.{get_there}
+use Rattle.store_sound.proofs.operations.StoreRows.{leaf_is, class_is, zero_is}
+use Rattle.store_sound.proofs.operations.StoreValues.{same_value, same_zero, same_state}
 use Rattle.store_sound.specs.Programs.Premises.{HasPremises}
 use Rattle.transfer_sound.specs.Values.SoundSteps.{AreShort, IsReached, StandsBehind, IsStoodFor, StepIsSound}
 use Rattle.transfer_sound.proofs.values.Admitted.{none_admitted, same_admitted}

@@ -15,7 +15,7 @@ use Rattle.memory_model.specs.Memory.Tags.{tag_at}
 use Rattle.memory_model.specs.Effects.ObjectEffects.{blank_bytes, fresh}
 use Rattle.store_sound.specs.Concretization.SoundMemory.{storage_for, IsInstanceOf, IsFreedRightly, IsContentIn, IsContentNamed, IsMemoryOf}
 use Rattle.store_sound.specs.Concretization.ValueMeaning.{Naming}
-use Rattle.store_sound.proofs.store.TagPlaces.{is_tagged}
+use Rattle.store_sound.proofs.operations.TagPlaces.{is_tagged}
 use Rattle.transfer_sound.proofs.enter.GrownMemory.{IsGrown, NamesToo, life_stays, bytes_stay, byte_stays, content_in_grows, content_named_grows}
 
 -- ---- the bytes of a fresh object

@@ -13,7 +13,7 @@ use Rattle.cfg.specs.declared.programs.Flow.{Flow}
 use Rattle.lower_templates.specs.Worklist.Acts.{Step, step}
 use Rattle.lower_templates.specs.Views.ProgramViews.{BlockView, block, flow_view}
 use Rattle.semantics.specs.CfgMachine.FlowSteps.{block_or, block_of}
-use Rattle.store_sound.proofs.store.Slices.{get_map}
+use Rattle.store_sound.proofs.operations.Slices.{get_map}
 
 -- ---- the blocks
 

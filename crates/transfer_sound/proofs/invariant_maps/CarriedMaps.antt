@@ -12,7 +12,7 @@ use Rattle.cfg.specs.declared.flow_edges.Edge.{Edge}
 use Rattle.cfg.specs.declared.programs.Flow.{Flow}
 use Rattle.value_domain.specs.declared.values.row_cells.Cell.{Cell}
 use Rattle.value_domain.specs.Values.Cells.{cell_lattice, cell_order}
-use Rattle.store_monotone.specs.Store.TopRows.{top_row}
+use Rattle.store_monotone.specs.Operations.TopRows.{top_row}
 use Rattle.transfer_system.specs.BoundedRows.EndLaws.{EndLaws}
 use Rattle.transfer_system.specs.BoundedRows.OwnRows.{program_bases, is_own_row}
 use Rattle.transfer_system.specs.System.BlockPasses.{edge_end}

@@ -17,12 +17,12 @@ use Rattle.value_domain.specs.Values.AllocStates.{state_lattice, state_order}
 use Rattle.value_domain.specs.Values.Cells.{cell_lattice, cell_leq}
 use Rattle.store_cells.specs.NearValues.{near_pointer, near_value}
 use Rattle.store_cells.specs.RowPositions.{cell_at, value_in, zero_in, state_in, near_state, value_at, zero_at, state_at}
-use Rattle.store_monotone.proofs.store.Rows.{at_monotone}
+use Rattle.store_monotone.proofs.operations.Rows.{at_monotone}
 use Rattle.memory_model.specs.Memory.Bytes.{MachinePointer, null, into}
 use Rattle.memory_model.specs.Memory.Instances.{Memory, Life, live, ended, freed, life_at}
 use Rattle.store_sound.specs.Concretization.ValueMeaning.{Naming, StandsInto, StandsByLife, StandsPointer}
 use Rattle.store_sound.specs.Concretization.RowMeaning.{MachineState, StandsFor}
-use Rattle.store_sound.proofs.store.Larger.{PointerBelow, value_below}
+use Rattle.store_sound.proofs.operations.Larger.{PointerBelow, value_below}
 use Rattle.transfer_sound.specs.InvariantMaps.CarriedMaps.{IsUnmixed, AreUnmixed}
 use Rattle.transfer_sound.proofs.invariant_maps.NearBounds.{near_larger}
 use Rattle.transfer_sound.proofs.invariant_maps.ToldRows.{StateTells, ValueTells, row_told}

@@ -11,8 +11,8 @@ use Rattle.value_domain.specs.declared.values.row_cells.Cell.{Cell}
 use Rattle.value_domain.specs.declared.values.row_cells.Cell.TheVariants.{Nothing, Value, First, State, Mixed}
 use Rattle.value_domain.specs.Values.Cells.{cell_lattice, cell_leq}
 use Rattle.store_cells.specs.RowPositions.{cell_at}
-use Rattle.store_monotone.specs.Store.TopCells.{top_value, top_zero, top_state}
-use Rattle.store_monotone.specs.Store.TopRows.{top_base, top_bases, top_row}
+use Rattle.store_monotone.specs.Operations.TopCells.{top_value, top_zero, top_state}
+use Rattle.store_monotone.specs.Operations.TopRows.{top_base, top_bases, top_row}
 use Rattle.transfer_sound.specs.InvariantMaps.CarriedMaps.{IsUnmixed, AreUnmixed}
 
 module _ {I : Type 0} where

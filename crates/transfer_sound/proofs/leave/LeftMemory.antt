@@ -13,7 +13,7 @@ use Rattle.memory_model.specs.Effects.ObjectEffects.{set_life, with_life}
 use Rattle.memory_model.specs.Effects.Touches.{storage_of, storage_at}
 use Rattle.store_sound.specs.Concretization.ValueMeaning.{Naming}
 use Rattle.store_sound.specs.Concretization.SoundMemory.{IsInstanceOf, IsFreedRightly, IsMemoryOf, IsWithin, IsPointerIn, IsScalarIn, IsNamed, IsContentIn, IsContentNamed}
-use Rattle.store_sound.proofs.store.Slices.{get_there, get_set_same, get_set_other}
+use Rattle.store_sound.proofs.operations.Slices.{get_there, get_set_same, get_set_other}
 
 pub record IsEnded (old new : Memory) (i : ℕ) : Type 0 where
   pub own : life_at new i ≡ ended

@@ -42,15 +42,15 @@ use Rattle.semantics.specs.CfgMachine.FlowActs.{giving}
 use Rattle.store_sound.specs.Concretization.ValueMeaning.{Naming, StandsPointer, StandsScalar}
 use Rattle.store_sound.specs.Concretization.SoundMemory.{IsPointerIn, IsScalarIn}
 use Rattle.store_sound.specs.Concretization.Coverage.{state_of}
-use Rattle.store_sound.specs.Store.Gives.{Gives}
-use Rattle.store_sound.specs.Store.Scalars.{IsOfKind, signed_in}
-use Rattle.store_sound.proofs.store.CharSound.{char_stands, char_blank}
-use Rattle.store_sound.proofs.store.Freed.{freed_shows}
-use Rattle.store_sound.proofs.store.LoadSound.{load_stands, blank_flagged}
-use Rattle.store_sound.proofs.store.MemorySound.{loads_keep}
-use Rattle.store_sound.proofs.store.StoreSound.{scalar_named}
-use Rattle.store_sound.proofs.store.TouchSound.{touch_admitted}
-use Rattle.store_sound.proofs.store.TouchedRest.{touch_stands}
+use Rattle.store_sound.specs.Operations.Gives.{Gives}
+use Rattle.store_sound.specs.Operations.Scalars.{IsOfKind, signed_in}
+use Rattle.store_sound.proofs.operations.CharSound.{char_stands, char_blank}
+use Rattle.store_sound.proofs.operations.Freed.{freed_shows}
+use Rattle.store_sound.proofs.operations.LoadSound.{load_stands, blank_flagged}
+use Rattle.store_sound.proofs.operations.MemorySound.{loads_keep}
+use Rattle.store_sound.proofs.operations.StoreSound.{scalar_named}
+use Rattle.store_sound.proofs.operations.TouchSound.{touch_admitted}
+use Rattle.store_sound.proofs.operations.TouchedRest.{touch_stands}
 use Rattle.store_sound.specs.Programs.Premises.{HasPremises}
 use Rattle.transfer_sound.specs.Values.SoundSteps.{IsReached, IsStoodFor, StepIsSound}
 use Rattle.transfer_sound.proofs.values.Admitted.{AreAdmitted, none_admitted, one_admitted, both_admitted, same_admitted}

@@ -22,13 +22,13 @@ use Rattle.memory_model.specs.Effects.Worlds.{World, goes}
 use Rattle.store_sound.specs.Concretization.Matching.{number_in}
 use Rattle.store_sound.specs.Concretization.SoundMemory.{IsMemoryOf, IsContentIn}
 use Rattle.store_sound.specs.Concretization.ValueMeaning.{Naming}
-use Rattle.store_sound.specs.Store.Scalars.{IsOfKind}
-use Rattle.store_sound.proofs.store.Classes.{class_size}
-use Rattle.store_sound.proofs.store.CellReads.{integer_is, scalar_pointer_is}
-use Rattle.store_sound.proofs.store.MachineLoads.{load_goes}
-use Rattle.store_sound.proofs.store.Reading.{region_at, numbers_length, numbers_at}
-use Rattle.store_sound.proofs.store.Rereading.{unsigned_below}
-use Rattle.store_sound.proofs.store.Slices.{get_map}
+use Rattle.store_sound.specs.Operations.Scalars.{IsOfKind}
+use Rattle.store_sound.proofs.operations.Classes.{class_size}
+use Rattle.store_sound.proofs.operations.CellReads.{integer_is, scalar_pointer_is}
+use Rattle.store_sound.proofs.operations.MachineLoads.{load_goes}
+use Rattle.store_sound.proofs.operations.Reading.{region_at, numbers_length, numbers_at}
+use Rattle.store_sound.proofs.operations.Rereading.{unsigned_below}
+use Rattle.store_sound.proofs.operations.Slices.{get_map}
 use Rattle.transfer_sound.proofs.values.NearScalars.{IsNearNumber, IsNearScalar}
 
 few_bits : (n : ℕ) → n ≤ 8 → 2 ^ (8 * n) ≤ 2 ^ 64

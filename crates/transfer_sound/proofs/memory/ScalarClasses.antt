@@ -7,7 +7,7 @@ use Rattle.cfg.specs.declared.machine_instructions.Scalar.TheVariants as of
 use Rattle.cfg.specs.declared.machine_instructions.Scalar as declared
 use Rattle.transfer_system.specs.Scalars.{class_of_rank, class_of_kind, class_of}
 use Rattle.memory_model.specs.Effects.Accesses.{class_in}
-use Rattle.store_sound.specs.Store.Scalars.{signed_in}
+use Rattle.store_sound.specs.Operations.Scalars.{signed_in}
 
 by_rank : (bytes rank : ℕ) → class_of_rank rank ≡ layout.class_of (record { bytes = bytes; signed = true; rank = rank })
 by_rank bytes zero = refl

@@ -45,15 +45,15 @@ use Rattle.store_sound.specs.Concretization.ValueMeaning.{Naming, StandsPointer,
 use Rattle.store_sound.specs.Concretization.SoundMemory.{IsPointerIn, IsScalarIn}
 use Rattle.store_sound.specs.Concretization.Coverage.{state_of}
 use Rattle.store_sound.specs.Concretization.RowMeaning.{StandsFor}
-use Rattle.store_sound.specs.Store.Scalars.{signed_in}
-use Rattle.store_sound.specs.Store.Gives.{Gives}
-use Rattle.store_sound.proofs.store.MachineStores.{store_goes}
-use Rattle.store_sound.proofs.store.Near.{value_at_near}
-use Rattle.store_sound.proofs.store.StoreSound.{store_stands}
+use Rattle.store_sound.specs.Operations.Scalars.{signed_in}
+use Rattle.store_sound.specs.Operations.Gives.{Gives}
+use Rattle.store_sound.proofs.operations.MachineStores.{store_goes}
+use Rattle.store_sound.proofs.operations.Near.{value_at_near}
+use Rattle.store_sound.proofs.operations.StoreSound.{store_stands}
 use Rattle.store_sound.proofs.chars.ByteStores.{byte_goes}
 use Rattle.store_sound.proofs.chars.CharStoreSound.{any_char_store}
-use Rattle.store_sound.proofs.store.TouchSound.{touch_admitted}
-use Rattle.store_sound.proofs.store.TouchedRest.{touch_stands}
+use Rattle.store_sound.proofs.operations.TouchSound.{touch_admitted}
+use Rattle.store_sound.proofs.operations.TouchedRest.{touch_stands}
 use Rattle.store_sound.specs.Programs.Premises.{HasPremises}
 use Rattle.transfer_sound.specs.Values.SoundSteps.{IsReached, StandsBehind, IsStoodFor, StepIsSound}
 use Rattle.transfer_sound.proofs.values.Admitted.{AreAdmitted, none_admitted, one_admitted, both_admitted, same_admitted}

@@ -24,10 +24,10 @@ use Rattle.memory_model.specs.Memory.Scalars.{Scalar}
 use Rattle.store_sound.specs.Concretization.ValueMeaning.{Naming, StandsScalar, StandsZero, StandsState}
 use Rattle.store_sound.specs.Concretization.SoundMemory.{IsMemoryOf, IsNamed}
 use Rattle.store_sound.specs.Concretization.RowMeaning.{MachineState, IsLiveOf, StandsCell, StandsLeaf, StandsClass, StandsFor, array_bytes}
-use Rattle.store_sound.proofs.store.Frames.{live_moves, content_moves, scalar_moves, scalar_in_moves}
-use Rattle.store_sound.proofs.store.StoreRows.{leaf_is, class_is, zero_is}
-use Rattle.store_sound.proofs.store.StoreValues.{same_value, same_zero, same_state}
-use Rattle.store_sound.proofs.store.StoreZeros.{same_slices}
+use Rattle.store_sound.proofs.operations.Frames.{live_moves, content_moves, scalar_moves, scalar_in_moves}
+use Rattle.store_sound.proofs.operations.StoreRows.{leaf_is, class_is, zero_is}
+use Rattle.store_sound.proofs.operations.StoreValues.{same_value, same_zero, same_state}
+use Rattle.store_sound.proofs.operations.StoreZeros.{same_slices}
 use Rattle.store_sound.specs.Programs.Premises.{HasPremises}
 use Rattle.transfer_sound.proofs.objects.Rewrites.{IsRewrite}
 

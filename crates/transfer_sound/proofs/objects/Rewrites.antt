@@ -11,10 +11,10 @@ use Rattle.memory_model.specs.Memory.Instances.{Memory, Instance, bytes_of, byte
 use Rattle.memory_model.specs.Effects.Touches.{storage_of, storage_at, set_bytes}
 use Rattle.store_sound.specs.Concretization.ValueMeaning.{Naming}
 use Rattle.store_sound.specs.Concretization.SoundMemory.{IsInstanceOf, IsFreedRightly, IsMemoryOf, IsContentIn, IsContentNamed}
-use Rattle.store_sound.proofs.store.Slices.{get_there, get_set_same, get_set_other}
-use Rattle.store_sound.proofs.store.MachineStores.{set_is}
-use Rattle.store_sound.proofs.store.Frames.{IsAlike, pointer_in_moves}
-use Rattle.store_sound.proofs.store.StoreMemory.{content_in_moves, content_named_moves}
+use Rattle.store_sound.proofs.operations.Slices.{get_there, get_set_same, get_set_other}
+use Rattle.store_sound.proofs.operations.MachineStores.{set_is}
+use Rattle.store_sound.proofs.operations.Frames.{IsAlike, pointer_in_moves}
+use Rattle.store_sound.proofs.operations.StoreMemory.{content_in_moves, content_named_moves}
 
 -- a byte of the instance, with the one that was there
 pub record HasWas (was : Option Byte) (b : Byte) : Type 0 where

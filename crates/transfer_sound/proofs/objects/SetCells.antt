@@ -8,8 +8,8 @@ use Rattle.value_domain.specs.declared.values.row_cells.Cell.{Cell}
 use Rattle.value_domain.specs.declared.values.row_cells.Cell.TheVariants.{Nothing}
 use Rattle.store_cells.specs.RowPositions.{cell_at}
 use Rattle.store_cells.specs.Walks.{turns}
-use Rattle.store_sound.proofs.store.Only.{cell_put}
-use Rattle.store_sound.proofs.store.Slices.{get_set_other}
+use Rattle.store_sound.proofs.operations.Only.{cell_put}
+use Rattle.store_sound.proofs.operations.Slices.{get_set_other}
 
 module _ {I : Type 0} (position : ℕ → ℕ) (c : Cell I) where
   -- the cell at so many positions

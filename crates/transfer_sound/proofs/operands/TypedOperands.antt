@@ -29,7 +29,7 @@ use Rattle.memory_model.specs.Memory.Instances.{Memory, Life, live, ended, freed
 use Rattle.memory_model.specs.Memory.Scalars.{Scalar, integer, pointer}
 use Rattle.store_sound.specs.Concretization.ValueMeaning.{Naming, StandsByLife, StandsPointer, StandsScalar}
 use Rattle.store_sound.specs.Concretization.RowMeaning.{MachineState, StandsFor}
-use Rattle.store_sound.specs.Store.Scalars.{IsOfKind}
+use Rattle.store_sound.specs.Operations.Scalars.{IsOfKind}
 use Rattle.transfer_sound.specs.Values.OperandTypes.{HasSize, HasSizes, HasThirdSize, TakesSize, HasOperands}
 
 -- ---- ranges

@@ -40,7 +40,7 @@ use Rattle.lower_templates.specs.Views.ProgramViews.{flow_view}
 use Rattle.store_sound.specs.Concretization.ValueMeaning.{Naming}
 use Rattle.store_sound.specs.Concretization.RowMeaning.{StandsFor}
 use Rattle.store_sound.specs.Concretization.Coverage.{state_of}
-use Rattle.store_sound.proofs.store.LoadSound.{instance_there}
+use Rattle.store_sound.proofs.operations.LoadSound.{instance_there}
 use Rattle.store_sound.specs.Programs.Premises.{HasPremises}
 use Rattle.transfer_sound.specs.Values.SoundSteps.{IsReached, StandsBehind, IsStoodFor}
 use Rattle.transfer_sound.proofs.values.Admitted.{none_admitted, same_admitted}

@@ -43,11 +43,11 @@ use Rattle.store_sound.specs.Concretization.ValueMeaning.{Naming, StandsByLife, 
 use Rattle.store_sound.specs.Concretization.SoundMemory.{IsContentIn, IsPointerIn}
 use Rattle.store_sound.specs.Concretization.RowMeaning.{StandsLeaf, StandsFor, array_bytes}
 use Rattle.store_sound.specs.Concretization.Coverage.{state_of}
-use Rattle.store_sound.proofs.store.CellReads.{scalar_pointer_is}
-use Rattle.store_sound.proofs.store.Only.{cell_put}
-use Rattle.store_sound.proofs.store.Slices.{get_there, get_map, get_take, get_set_other}
-use Rattle.store_sound.proofs.store.StoreRows.{leaf_is, zero_is}
-use Rattle.store_sound.proofs.store.StoreValues.{same_zero}
+use Rattle.store_sound.proofs.operations.CellReads.{scalar_pointer_is}
+use Rattle.store_sound.proofs.operations.Only.{cell_put}
+use Rattle.store_sound.proofs.operations.Slices.{get_there, get_map, get_take, get_set_other}
+use Rattle.store_sound.proofs.operations.StoreRows.{leaf_is, zero_is}
+use Rattle.store_sound.proofs.operations.StoreValues.{same_zero}
 use Rattle.store_sound.specs.Programs.Premises.{HasPremises}
 use Rattle.transfer_sound.specs.Values.SoundSteps.{IsReached, StandsBehind, IsStoodFor}
 use Rattle.transfer_sound.proofs.values.Admitted.{none_admitted, same_admitted}

@@ -36,15 +36,15 @@ use Rattle.store_sound.specs.Concretization.SeenLabels.{as_set}
 use Rattle.store_sound.specs.Concretization.ValueMeaning.{Naming, StandsContent, StandsZero}
 use Rattle.store_sound.specs.Concretization.SoundMemory.{IsContentIn, IsContentNamed}
 use Rattle.store_sound.specs.Concretization.RowMeaning.{MachineState, StandsLeaf, StandsFor, array_of, array_bytes}
-use Rattle.store_sound.proofs.store.Frames.{pointer_moves, pointer_in_moves}
-use Rattle.store_sound.proofs.store.LoadSound.{instance_there}
-use Rattle.store_sound.proofs.store.Only.{cell_put}
-use Rattle.store_sound.proofs.store.Reading.{numbers_length, numbers_at}
-use Rattle.store_sound.proofs.store.Slices.{get_map, get_set_other, get_take, get_drop}
-use Rattle.store_sound.proofs.store.StoreMemory.{content_named_moves}
-use Rattle.store_sound.proofs.store.StoreRows.{leaf_is, zero_is}
-use Rattle.store_sound.proofs.store.StoreValues.{same_zero}
-use Rattle.store_sound.proofs.store.TagPlaces.{is_tagged}
+use Rattle.store_sound.proofs.operations.Frames.{pointer_moves, pointer_in_moves}
+use Rattle.store_sound.proofs.operations.LoadSound.{instance_there}
+use Rattle.store_sound.proofs.operations.Only.{cell_put}
+use Rattle.store_sound.proofs.operations.Reading.{numbers_length, numbers_at}
+use Rattle.store_sound.proofs.operations.Slices.{get_map, get_set_other, get_take, get_drop}
+use Rattle.store_sound.proofs.operations.StoreMemory.{content_named_moves}
+use Rattle.store_sound.proofs.operations.StoreRows.{leaf_is, zero_is}
+use Rattle.store_sound.proofs.operations.StoreValues.{same_zero}
+use Rattle.store_sound.proofs.operations.TagPlaces.{is_tagged}
 use Rattle.store_sound.specs.Programs.Premises.{HasPremises}
 use Rattle.transfer_sound.proofs.values.NearScalars.{IsNearNumber, near_number_stands, near_pointer_stands}
 use Rattle.transfer_sound.proofs.values.PartSteps.{declared_storage}

@@ -49,14 +49,14 @@ use Rattle.memory_model.specs.Memory.Bytes.{Content, indeterminate, number, part
 use Rattle.memory_model.specs.Memory.Numbers.{Labelled, number_of}
 use Rattle.memory_model.specs.Effects.ScalarBytes.{contents}
 use Rattle.store_sound.specs.Concretization.ValueMeaning.{StandsContent}
-use Rattle.store_sound.specs.Store.Scalars.{signed_in}
-use Rattle.store_sound.proofs.store.CellReads.{integer_is, scalar_pointer_is}
-use Rattle.store_sound.proofs.store.Classes.{integer_class}
-use Rattle.store_sound.proofs.store.LoadSound.{instance_there}
-use Rattle.store_sound.proofs.store.Rereading.{halves}
-use Rattle.store_sound.proofs.store.Slices.{get_take, get_set_other}
-use Rattle.store_sound.proofs.store.StoreRows.{leaf_is}
-use Rattle.store_sound.proofs.store.StoreZeros.{same_slices}
+use Rattle.store_sound.specs.Operations.Scalars.{signed_in}
+use Rattle.store_sound.proofs.operations.CellReads.{integer_is, scalar_pointer_is}
+use Rattle.store_sound.proofs.operations.Classes.{integer_class}
+use Rattle.store_sound.proofs.operations.LoadSound.{instance_there}
+use Rattle.store_sound.proofs.operations.Rereading.{halves}
+use Rattle.store_sound.proofs.operations.Slices.{get_take, get_set_other}
+use Rattle.store_sound.proofs.operations.StoreRows.{leaf_is}
+use Rattle.store_sound.proofs.operations.StoreZeros.{same_slices}
 use Rattle.transfer_sound.proofs.values.MoveSteps.{near_has}
 use Rattle.transfer_sound.proofs.values.NearScalars.{IsNearNumber}
 use Rattle.transfer_sound.proofs.values.TypeRanges.{le_from}

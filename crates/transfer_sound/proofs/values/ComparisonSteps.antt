@@ -58,9 +58,9 @@ use Rattle.semantics.specs.CfgMachine.FlowStates.{Standing}
 use Rattle.semantics.specs.CfgMachine.FlowActs.{giving}
 use Rattle.store_sound.specs.Concretization.ValueMeaning.{Naming, StandsInto, StandsByLife, StandsPointer, StandsScalar}
 use Rattle.store_sound.specs.Concretization.SoundMemory.{IsWithin, IsPointerIn}
-use Rattle.store_sound.proofs.store.OneBases.{one_base}
-use Rattle.store_sound.proofs.store.Sets.{is_single}
-use Rattle.store_sound.proofs.store.Slices.{get_there}
+use Rattle.store_sound.proofs.operations.OneBases.{one_base}
+use Rattle.store_sound.proofs.operations.Sets.{is_single}
+use Rattle.store_sound.proofs.operations.Slices.{get_there}
 use Rattle.store_sound.specs.Programs.Premises.{HasPremises}
 use Rattle.transfer_sound.specs.Values.SoundSteps.{IsReached, IsStoodFor, StepIsSound}
 use Rattle.transfer_sound.proofs.values.Admitted.{AreAdmitted, none_admitted, same_admitted}

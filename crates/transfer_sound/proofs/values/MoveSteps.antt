@@ -48,7 +48,7 @@ use Rattle.semantics.specs.CfgMachine.FlowActs.{giving, with_amount}
 use Rattle.store_sound.specs.Concretization.SeenLabels.{as_set}
 use Rattle.store_sound.specs.Concretization.ValueMeaning.{Naming, StandsInto, StandsByLife, StandsPointer, StandsScalar}
 use Rattle.store_sound.specs.Concretization.SoundMemory.{IsWithin, IsPointerIn}
-use Rattle.store_sound.proofs.store.Sets.{none_has}
+use Rattle.store_sound.proofs.operations.Sets.{none_has}
 use Rattle.store_sound.specs.Programs.Premises.{HasPremises}
 use Rattle.transfer_sound.specs.Values.SoundSteps.{IsReached, IsStoodFor, StepIsSound}
 use Rattle.transfer_sound.proofs.values.Admitted.{AreAdmitted, none_admitted, one_admitted, both_admitted, same_admitted}

@@ -22,13 +22,13 @@ use Rattle.memory_model.specs.Memory.Instances.{live, bytes_at, life_at}
 use Rattle.store_sound.specs.Concretization.ValueMeaning.{Naming, StandsInto, StandsState}
 use Rattle.store_sound.specs.Concretization.SoundMemory.{IsWithin}
 use Rattle.store_sound.specs.Concretization.RowMeaning.{MachineState, StandsFor}
-use Rattle.store_sound.specs.Store.Shapes.{AreShaped}
-use Rattle.store_sound.proofs.store.Slices.{get_there}
-use Rattle.store_sound.proofs.store.Windows.{RangeHas, met_has}
-use Rattle.store_sound.proofs.store.LoadSound.{live_if}
-use Rattle.store_sound.proofs.store.Sets.{in_live}
-use Rattle.store_sound.proofs.store.StorePlaces.{not_empty}
-use Rattle.store_sound.proofs.store.TouchSound.{range_stands, bounds_have, bounded, room_above, or_none}
+use Rattle.store_sound.specs.Operations.Shapes.{AreShaped}
+use Rattle.store_sound.proofs.operations.Slices.{get_there}
+use Rattle.store_sound.proofs.operations.Windows.{RangeHas, met_has}
+use Rattle.store_sound.proofs.operations.LoadSound.{live_if}
+use Rattle.store_sound.proofs.operations.Sets.{in_live}
+use Rattle.store_sound.proofs.operations.StorePlaces.{not_empty}
+use Rattle.store_sound.proofs.operations.TouchSound.{range_stands, bounds_have, bounded, room_above, or_none}
 use Rattle.transfer_sound.proofs.values.NearScalars.{near_offset, near_distance, near_number_stands}
 
 past_end : (a b c d : ℕ) → (nat_le a b && nat_le c d) ≡ false → a ≤ b → d < c

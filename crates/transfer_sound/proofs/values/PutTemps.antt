@@ -25,12 +25,12 @@ use Rattle.memory_model.specs.Effects.NumberedTables.{set_at, put_at}
 use Rattle.store_sound.specs.Concretization.ValueMeaning.{Naming, StandsScalar, StandsZero, StandsState}
 use Rattle.store_sound.specs.Concretization.SoundMemory.{IsScalarIn, IsNamed}
 use Rattle.store_sound.specs.Concretization.RowMeaning.{MachineState, array_bytes, StandsLeaf, StandsClass, StandsFor}
-use Rattle.store_sound.specs.Store.Scalars.{IsScalarNamed}
-use Rattle.store_sound.proofs.store.Only.{cell_put}
-use Rattle.store_sound.proofs.store.Slices.{get_set_other}
-use Rattle.store_sound.proofs.store.StoreRows.{leaf_is, class_is, zero_is}
-use Rattle.store_sound.proofs.store.StoreSound.{scalar_named}
-use Rattle.store_sound.proofs.store.StoreValues.{same_value, same_zero, same_state}
+use Rattle.store_sound.specs.Operations.Scalars.{IsScalarNamed}
+use Rattle.store_sound.proofs.operations.Only.{cell_put}
+use Rattle.store_sound.proofs.operations.Slices.{get_set_other}
+use Rattle.store_sound.proofs.operations.StoreRows.{leaf_is, class_is, zero_is}
+use Rattle.store_sound.proofs.operations.StoreSound.{scalar_named}
+use Rattle.store_sound.proofs.operations.StoreValues.{same_value, same_zero, same_state}
 use Rattle.store_sound.specs.Programs.Premises.{HasPremises}
 use Rattle.transfer_sound.proofs.values.NearScalars.{IsNearScalar, near_scalar_stands}
 

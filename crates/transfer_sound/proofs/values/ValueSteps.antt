@@ -56,7 +56,7 @@ use Rattle.semantics.specs.CfgMachine.FlowActs.{giving, with_amount}
 use Rattle.store_sound.specs.Concretization.SeenLabels.{as_set}
 use Rattle.store_sound.specs.Concretization.ValueMeaning.{Naming, StandsScalar, StandsPointer}
 use Rattle.store_sound.specs.Concretization.SoundMemory.{IsPointerIn, IsScalarIn}
-use Rattle.store_sound.specs.Store.Scalars.{IsOfKind}
+use Rattle.store_sound.specs.Operations.Scalars.{IsOfKind}
 use Rattle.store_sound.specs.Programs.Premises.{HasPremises}
 use Rattle.transfer_sound.specs.Values.OperandTypes.{HasNumberOf, HasKind, HasOperands}
 use Rattle.transfer_sound.specs.Values.SoundSteps.{IsReached, IsStoodFor, StepIsSound}

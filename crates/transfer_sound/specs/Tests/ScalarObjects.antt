@@ -17,7 +17,7 @@ use Rattle.transfer_system.specs.Refinements.{named_by}
 use Rattle.memory_model.specs.Memory.ScalarSizes.{class_bytes}
 use Rattle.memory_model.specs.Effects.Accesses.{class_in}
 use Rattle.memory_model.specs.Effects.Tests.{scalar_size}
-use Rattle.store_sound.specs.Store.Scalars.{signed_in}
+use Rattle.store_sound.specs.Operations.Scalars.{signed_in}
 use Rattle.store_sound.specs.Programs.Premises.{HasPremises}
 use Rattle.transfer_sound.specs.Edges.EdgeSteps.{TestIsSound, CaseIsSound}
 

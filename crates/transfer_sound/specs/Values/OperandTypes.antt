@@ -10,7 +10,7 @@ use Rattle.cfg.specs.declared.machine_instructions.Operation.{Operation}
 use Rattle.cfg.specs.declared.machine_instructions.Operation.TheVariants as op
 use Rattle.memory_model.specs.Memory.Labels.{Labels}
 use Rattle.memory_model.specs.Memory.Scalars.{Scalar, integer}
-use Rattle.store_sound.specs.Store.Scalars.{IsOfKind}
+use Rattle.store_sound.specs.Operations.Scalars.{IsOfKind}
 
 -- a number that the temporary has is one of the type
 abbrev pub HasNumberOf : IntType → Option Scalar → Type 0

@@ -14,7 +14,7 @@ use Rattle.typed_programs.specs.Types.TypedPrograms.{object_type, text_type, fir
 use Rattle.lower_templates.specs.Views.ProgramViews.{InitialView, flow_view}
 use Rattle.memory_model.specs.Effects.NumberedTables.{set_at, put_at, empty_table}
 use Rattle.memory_model.specs.Effects.UnitStarts.{base_instance, literal_instance}
-use Rattle.store_sound.proofs.store.Slices.{get_right}
+use Rattle.store_sound.proofs.operations.Slices.{get_right}
 use Rattle.simulation_layout.proofs.inlining.ListPlaces.{some_same, left_of}
 use Rattle.typed_lowering.specs.Conversions.TypedBases.{HasTypes}
 use Rattle.typed_lowering.specs.Bases.FirstObjects.{FirstObjectsAreTyped}

@@ -20,7 +20,7 @@ use Rattle.typed_programs.specs.Types.TypedPrograms.{structs_of, IsTypedOperatio
 use Rattle.typed_programs.specs.Types.TypedStates.{Temporaries}
 use Rattle.lower_templates.specs.Views.ProgramViews.{BlockView, block, EdgeView, edge, flow_view}
 use Rattle.diagnose.specs.Diagnostics.AdmittedRules.{instructions_in, instructions_of}
-use Rattle.store_sound.proofs.store.Slices.{get_take, get_drop, get_map}
+use Rattle.store_sound.proofs.operations.Slices.{get_take, get_drop, get_map}
 use Rattle.store_sound.proofs.programs.ShapedBases.{all_at}
 use Rattle.transfer_sound.proofs.induction.Blocks.{block_facts, last_is}
 use Rattle.typed_lowering.specs.Conversions.TypedActs.{IsTypedAct}

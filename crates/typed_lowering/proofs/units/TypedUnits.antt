@@ -56,7 +56,7 @@ use Rattle.simulation_layout.specs.Temporaries.LowPrograms.{WellFormedProgramsAr
 use Rattle.simulation_layout.specs.Normalized.SettledRuns.{LabelsStandOnce}
 use Rattle.simulation_units.specs.Units.UnitRuns.{IsProgramOf}
 use Rattle.typed_programs.specs.SingleRuns.{HasTypedAccesses}
-use Rattle.store_sound.proofs.store.Slices.{get_there}
+use Rattle.store_sound.proofs.operations.Slices.{get_there}
 use Rattle.typed_programs.specs.Types.StandingTypes.{AreLaidOut}
 use Rattle.typed_programs.specs.Types.TypedPrograms.{structs_of, IsObjectOf, first_types, IsTypedOperation, IsTypedProgram}
 use Rattle.typed_programs.specs.Runs.TypedRuns.{TypedProgramsHaveTypedAccesses}

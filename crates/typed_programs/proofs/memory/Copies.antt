@@ -16,8 +16,8 @@ use Rattle.memory_model.specs.Effects.Worlds.{World, Reply, goes, stops, world_o
 use Rattle.memory_model.specs.Effects.ScalarBytes.{replaced, region}
 use Rattle.memory_model.specs.Effects.StructCopies.{copied, may_copy, copy_made, copy_at, copy_between, copy_struct}
 use Rattle.memory_model.specs.Effects.Touches.{Spot, touched, is_allocated, storage_at}
-use Rattle.store_sound.proofs.store.Reading.{behind_goes, IsTouched, touched_goes, region_at}
-use Rattle.store_sound.proofs.store.Slices.{get_take, get_drop, get_left, get_right}
+use Rattle.store_sound.proofs.operations.Reading.{behind_goes, IsTouched, touched_goes, region_at}
+use Rattle.store_sound.proofs.operations.Slices.{get_take, get_drop, get_left, get_right}
 use Rattle.typed_programs.specs.Types.TypeBytes.{scalar_byte}
 use Rattle.typed_programs.specs.Types.PointedTypes.{Target, Element, target_type, Points}
 use Rattle.typed_programs.specs.Types.TypedStates.{IsTypedMemory}

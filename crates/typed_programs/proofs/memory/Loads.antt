@@ -16,10 +16,10 @@ use Rattle.memory_model.specs.Memory.Scalars.{Scalar, pointer}
 use Rattle.memory_model.specs.Effects.Worlds.{World, goes}
 use Rattle.memory_model.specs.Effects.Accesses.{same_pointer, is_part, are_parts, are_zeros, pointer_of_parts, pointer_in, pointer_scalar, scalar_in, load}
 use Rattle.memory_model.specs.Effects.ScalarBytes.{region}
-use Rattle.store_sound.proofs.store.Classes.{class_above}
-use Rattle.store_sound.proofs.store.MachineLoads.{load_goes, load_same}
-use Rattle.store_sound.proofs.store.Reading.{region_at}
-use Rattle.store_sound.proofs.store.Slices.{get_map}
+use Rattle.store_sound.proofs.operations.Classes.{class_above}
+use Rattle.store_sound.proofs.operations.MachineLoads.{load_goes, load_same}
+use Rattle.store_sound.proofs.operations.Reading.{region_at}
+use Rattle.store_sound.proofs.operations.Slices.{get_map}
 use Rattle.typed_programs.specs.Types.PointedTypes.{Target, Element, target_type, Known, Pointing, Points, Has, IsOfKind, number_kind, pointer_kind}
 use Rattle.typed_programs.specs.Types.StandingTypes.{Stands}
 use Rattle.typed_programs.specs.Types.TypedStates.{IsTypedMemory}

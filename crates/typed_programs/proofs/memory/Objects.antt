@@ -16,7 +16,7 @@ use Rattle.memory_model.specs.Effects.Worlds.{World}
 use Rattle.memory_model.specs.Effects.ObjectEffects.{blank_bytes, fresh, next_instance, with_life, holding, all_of, characters}
 use Rattle.memory_model.specs.Effects.ScalarBytes.{refilled}
 use Rattle.memory_model.specs.Effects.Touches.{storage_of, is_allocated, storage_at}
-use Rattle.store_sound.proofs.store.Slices.{get_left, get_right, get_set_same, get_set_other, get_map}
+use Rattle.store_sound.proofs.operations.Slices.{get_left, get_right, get_set_same, get_set_other, get_map}
 use Rattle.typed_programs.specs.Types.PointedTypes.{Element, Points}
 use Rattle.typed_programs.specs.Types.TypedStates.{AreDeclared, IsTypedMemory}
 use Rattle.typed_programs.specs.Types.EffectLaws.{EntersKeepTypes, LeavesKeepTypes, ForgetsKeepTypes, ClearsKeepTypes, SpellsKeepTypes}

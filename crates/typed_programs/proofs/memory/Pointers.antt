@@ -13,7 +13,7 @@ use Rattle.memory_model.specs.Memory.Scalars.{Scalar, integer, pointer}
 use Rattle.memory_model.specs.Effects.Worlds.{World, Reply, goes, stops, world_of, noted, stopped_by}
 use Rattle.memory_model.specs.Effects.PointerEffects.{is_ended, narrowed_by, narrow_pointer, narrow, distance_of, moved_into, moved, shift}
 use Rattle.memory_model.specs.Effects.Touches.{touched}
-use Rattle.store_sound.proofs.store.Reading.{behind_goes, touched_goes}
+use Rattle.store_sound.proofs.operations.Reading.{behind_goes, touched_goes}
 use Rattle.typed_programs.specs.Types.StandingTypes.{Stands}
 use Rattle.typed_programs.specs.Types.PointedTypes.{Target, Element, target_type, Pointing, IsElement, Points, Has}
 use Rattle.typed_programs.specs.Types.EffectLaws.{GivesKnown, NarrowsAreTyped, ShiftsAreTyped}

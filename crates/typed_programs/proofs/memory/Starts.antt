@@ -18,8 +18,8 @@ use Rattle.memory_model.specs.Effects.ObjectEffects.{fresh, all_of, characters}
 use Rattle.memory_model.specs.Effects.ScalarBytes.{bits_in, refilled}
 use Rattle.memory_model.specs.Effects.Touches.{storage_of, is_allocated}
 use Rattle.memory_model.specs.Effects.UnitStarts.{base_instance, value_bytes, all_stored, typed_bytes, static_instance, character_byte, literal_made, start_memory, input, with_parameter, with_parameters, entry_parameters, world_before}
-use Rattle.store_sound.proofs.store.Reading.{behind_goes}
-use Rattle.store_sound.proofs.store.Slices.{get_left, get_right, get_map}
+use Rattle.store_sound.proofs.operations.Reading.{behind_goes}
+use Rattle.store_sound.proofs.operations.Slices.{get_left, get_right, get_map}
 use Rattle.run_exact.specs.FirstStates.{input_bytes}
 use Rattle.run_exact.proofs.FirstMemory.{get_mapped}
 use Rattle.typed_programs.specs.Types.TypedStates.{AreDeclared, IsTypedMemory}

@@ -20,8 +20,8 @@ use Rattle.memory_model.specs.Effects.Worlds.{World, Reply, goes, stops, Left}
 use Rattle.memory_model.specs.Effects.Accesses.{class_in, stored_bytes, stored, may_store, store_at, store_through, store}
 use Rattle.memory_model.specs.Effects.ScalarBytes.{bits_in, scalar_bytes}
 use Rattle.memory_model.specs.Effects.Touches.{Spot, touched, is_allocated, storage_at}
-use Rattle.store_sound.proofs.store.Classes.{class_above}
-use Rattle.store_sound.proofs.store.Reading.{behind_goes, IsTouched, touched_goes}
+use Rattle.store_sound.proofs.operations.Classes.{class_above}
+use Rattle.store_sound.proofs.operations.Reading.{behind_goes, IsTouched, touched_goes}
 use Rattle.typed_programs.specs.Types.PointedTypes.{Target, Element, target_type, Known, Points, IsOfKind, number_kind, pointer_kind}
 use Rattle.typed_programs.specs.Types.StandingTypes.{Stands}
 use Rattle.typed_programs.specs.Types.TypedStates.{AreDeclared, IsTypedMemory}

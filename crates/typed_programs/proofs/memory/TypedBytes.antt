@@ -13,7 +13,7 @@ use Rattle.memory_model.specs.Effects.Worlds.{World, with_memory}
 use Rattle.memory_model.specs.Effects.ObjectEffects.{characters}
 use Rattle.memory_model.specs.Effects.ScalarBytes.{number_bytes, pointer_bytes, refilled}
 use Rattle.memory_model.specs.Effects.Touches.{storage_of, storage_at, with_bytes, set_bytes}
-use Rattle.store_sound.proofs.store.Slices.{get_take, get_set_same, get_set_other}
+use Rattle.store_sound.proofs.operations.Slices.{get_take, get_set_same, get_set_other}
 use Rattle.run_exact.proofs.StartBytes.{numbers_at, parts_at, refilled_at}
 use Rattle.typed_programs.specs.Types.TypeBytes.{scalar_byte}
 use Rattle.typed_programs.specs.Types.PointedTypes.{Element, Points}

@@ -19,7 +19,7 @@ use Rattle.memory_model.specs.Memory.ScalarSizes.{class_bytes}
 use Rattle.memory_model.specs.Memory.Scalars.{Scalar, pointer}
 use Rattle.memory_model.specs.Effects.Accesses.{class_in}
 use Rattle.semantics.specs.CfgMachine.FlowStates.{Standing}
-use Rattle.store_sound.specs.Store.Scalars.{signed_in}
+use Rattle.store_sound.specs.Operations.Scalars.{signed_in}
 use Rattle.run_exact.specs.TypedAccesses.{IsAtLeaf, PointsToKind}
 use Rattle.run_exact.specs.TypedCopies.{PointsToStruct, AreOneOrApart}
 use Rattle.run_exact.specs.Runs.SingleRuns.{IsTypedStep}

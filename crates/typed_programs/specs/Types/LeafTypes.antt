@@ -10,7 +10,7 @@ use Rattle.typed_programs.specs.PlainUnits.ShortArrays.{has_short_arrays}
 use Rattle.memory_model.specs.Memory.ScalarSizes.{class_bytes}
 use Rattle.memory_model.specs.Effects.Accesses.{class_in}
 use Rattle.store_structs.specs.LaidApart.{has_class_bytes}
-use Rattle.store_sound.specs.Store.Scalars.{signed_in}
+use Rattle.store_sound.specs.Operations.Scalars.{signed_in}
 use Rattle.typed_programs.specs.Types.TypeBytes.{scalar_byte}
 use Rattle.typed_programs.specs.Types.StandingTypes.{AreLaidOut}
 

@@ -22,7 +22,7 @@ use Rattle.store_sound.proofs.programs.Sizes.{same_bytes}
 use Rattle.store_sound.proofs.programs.WellFormedPremises.{well_formed_good}
 use Rattle.struct_copies_sound.specs.Leaves.StructLeaves.{IsPlain, IsStruct}
 use Rattle.transfer_exact.specs.Values.SingleRows.{IsPlainProgram}
-use Rattle.transfer_exact.specs.Store.TypedAccesses.{HasObjects}
+use Rattle.transfer_exact.specs.Accesses.TypedAccesses.{HasObjects}
 
 module _ (m : Model) where
   record IsWithin (room : ℕ) (leaf : Leaf) : Type 0 where

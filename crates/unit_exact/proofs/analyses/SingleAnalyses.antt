@@ -58,15 +58,15 @@ use Rattle.entry_sound.proofs.entries.EntryRows.{entry_stands}
 use Rattle.entry_sound.proofs.checked.CheckedStarts.{sound_structs, unit_starts}
 use Rattle.row_bounds.proofs.entries.RegularStarts.{regular_fits}
 use Rattle.transfer_exact.specs.Values.SingleRows.{IsPlainProgram, TellsState}
-use Rattle.transfer_exact.specs.Store.TypedAccesses.{HasObjects}
+use Rattle.transfer_exact.specs.Accesses.TypedAccesses.{HasObjects}
 use Rattle.transfer_exact.proofs.values.ExactIntervals.{intervals_exact}
 use Rattle.transfer_exact.proofs.values.ValueSteps.{value_step_told}
 use Rattle.transfer_exact.proofs.pointers.PointerSteps.{pointer_step_told}
 use Rattle.transfer_exact.proofs.calls.PlainCalls.{call_told}
-use Rattle.transfer_exact.proofs.store.ToldLoads.{load_step_told}
-use Rattle.transfer_exact.proofs.store.ToldStores.{store_step_told}
-use Rattle.transfer_exact.proofs.store.ToldForgets.{forget_step_told}
-use Rattle.transfer_exact.proofs.store.ToldClears.{clear_step_told}
+use Rattle.transfer_exact.proofs.accesses.ToldLoads.{load_step_told}
+use Rattle.transfer_exact.proofs.accesses.ToldStores.{store_step_told}
+use Rattle.transfer_exact.proofs.accesses.ToldForgets.{forget_step_told}
+use Rattle.transfer_exact.proofs.accesses.ToldClears.{clear_step_told}
 use Rattle.transfer_exact.proofs.objects.ToldEnters.{enter_step_told}
 use Rattle.transfer_exact.proofs.objects.ToldLeaves.{leave_step_told}
 use Rattle.transfer_exact.proofs.spelling.ToldSpells.{spell_step_told}

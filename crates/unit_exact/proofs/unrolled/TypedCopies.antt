@@ -16,7 +16,7 @@ use Rattle.memory_model.specs.Effects.Accesses.{class_in}
 use Rattle.store_sound.specs.Concretization.Places.{OwnedByLeaf}
 use Rattle.semantics.specs.CfgMachine.FlowStates.{Standing}
 use Rattle.transfer_exact.specs.Values.SingleRows.{IsPlainProgram}
-use Rattle.transfer_exact.specs.Store.TypedAccesses.{PointsToKind, IsTyped}
+use Rattle.transfer_exact.specs.Accesses.TypedAccesses.{PointsToKind, IsTyped}
 use Rattle.transfer_exact.specs.Spelling.TypedCopies.{HasOwnLeaf, HasStructLeaf, IsAtStruct, PointsToStruct, HasStructType, AreOneOrApart, HasPlaces}
 use Rattle.run_exact.specs.Runs.SingleRuns.{IsTypedStep}
 use Rattle.analysis_determined.specs.UnrolledDiagnostics.SameParts.{SameParts}

@@ -1,6 +1,6 @@
 use Rattle.std.proofs.Common.{subst, sym, refl, ◌≤◌}
-use Rattle.store_sound.specs.Store.Statements.{state_in}
-use Rattle.store_sound.proofs.store.NearParts.{near_parts}
+use Rattle.store_sound.specs.Operations.Statements.{state_in}
+use Rattle.store_sound.proofs.operations.NearParts.{near_parts}
 use Rattle.store_sound.proofs.chars.CharStoreSound.{any_char_store}
 use Rattle.store_sound.proofs.chars.theorems.character_stores_are_sound.Goals as goal
 

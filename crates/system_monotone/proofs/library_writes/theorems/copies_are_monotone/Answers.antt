@@ -1,6 +1,6 @@
 use Rattle.std.specs.Prelude.{true}
-use Rattle.store_monotone.specs.Store.TopRows.{top_row}
-use Rattle.store_monotone.proofs.store.Together.{each}
+use Rattle.store_monotone.specs.Operations.TopRows.{top_row}
+use Rattle.store_monotone.proofs.operations.Together.{each}
 use Rattle.transfer_monotone.proofs.edges.MemorySteps.{row_near}
 use Rattle.system_monotone.proofs.library_writes.CopyWrites.{copy_step}
 use Rattle.system_monotone.proofs.library_writes.theorems.copies_are_monotone.Goals as goal

@@ -1,0 +1,5 @@
+use Rattle.store_monotone.proofs.operations.Together.{renews}
+use Rattle.store_monotone.proofs.operations.theorems.renewals_are_monotone.Goals as goal
+
+pub returns : goal.returns
+returns g c = λ mono m bases k all temps h. renews g.met.I.Lattice.order g.met.I.IntDomain.bounding m bases k all temps h g.met.I.IntDomain.ranges mono

@@ -1,5 +1,0 @@
-use Rattle.store_monotone.proofs.store.Together.{renews}
-use Rattle.store_monotone.proofs.store.theorems.renewals_are_monotone.Goals as goal
-
-pub returns : goal.returns
-returns g c = λ mono m bases k all temps h. renews g.met.I.Lattice.order g.met.I.IntDomain.bounding m bases k all temps h g.met.I.IntDomain.ranges mono
