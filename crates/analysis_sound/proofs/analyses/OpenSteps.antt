@@ -23,6 +23,6 @@ none_open : (flow : Flow) → ends_with_lines flow ≡ true → (o : Operation) 
 none_open flow h (op.Library to name arguments site size) d c = not_open name (done_in flow reads_no_line h (op.Library to name arguments site size) d) c
 none_open flow h _ d c = absurd c
 
-module _ {I : Type 0} (l : LatticeOf I) (n : IntegersOf I) (stands : I → ℤ → Type 0) (flow : Flow) where
-  pub open_sound : ends_with_lines flow ≡ true → AreSound l n stands flow (λ o. IsOpenStep o × IsDoneIn flow o)
+module _ {I : Type 0} (l : LatticeOf I) (n : IntegersOf I) (gamma : I → ℤ → Type 0) (flow : Flow) where
+  pub open_sound : ends_with_lines flow ≡ true → AreSound l n gamma flow (λ o. IsOpenStep o × IsDoneIn flow o)
   open_sound h naming row s o goes fits typed reached = absurd (none_open flow h o goes.1 goes.0)

@@ -23,7 +23,7 @@ use Rattle.analysis_determined.proofs.WellFormed.{laid_out, all_named}
 use Rattle.analysis_determined.proofs.RegularPrograms.{Regular, regular_of}
 use Rattle.analysis_determined.proofs.RegularSystems.{regular_rising}
 use Rattle.analysis_determined.specs.Analyses.{row_lattice, machine_of, IsAnalysis}
-use Rattle.transfer_sound.specs.InvariantMaps.CarriedMaps.{EntryStands}
+use Rattle.transfer_sound.specs.InvariantMaps.CarriedMaps.{EntryInGamma}
 use Rattle.transfer_sound.proofs.invariant_maps.CarriedMaps.{map_carried, map_begins}
 use Rattle.transfer_sound.specs.Induction.Covering.{Begins, Carries, HasTypedRuns, row_before, Admits}
 use Rattle.transfer_sound.specs.Induction.SoundEnds.{StepsGoOnSoundly, EndsGoOnSoundly}
@@ -51,7 +51,7 @@ module _ (flow : Flow) (list : List ℤ) (known : is_regular flow list ≡ true)
   ends = ends_go_on interval_order interval_bounding interval_sound interval_ranges flow p standard_limits (tests_sound interval_order interval_bounding interval_sound interval_ranges flow p suffices.tests)
 
   module _ (rows : List (Option (List (Cell Interval)))) (closed : IsInductive row_lattice (machine_of flow list) rows) where
-    begins : (u : UnitView) → EntryStands interval_lattice interval_numbers Stands flow list u → Begins interval_lattice interval_numbers Stands flow u rows
+    begins : (u : UnitView) → EntryInGamma interval_lattice interval_numbers Stands flow list u → Begins interval_lattice interval_numbers Stands flow u rows
     begins u start =
         let laid = laid_out standard_limits flow regular.well_formed (omega (arith)) in
         let named = all_named standard_limits flow regular.well_formed regular.scalars in
@@ -63,7 +63,7 @@ module _ (flow : Flow) (list : List ℤ) (known : is_regular flow list ≡ true)
         let named = all_named standard_limits flow regular.well_formed regular.scalars in
         map_carried interval_order interval_rounding interval_heights interval_bounding interval_monotone interval_ranges interval_ends flow list regular.near suffices.reaches laid named (regular_rising flow list known) rows closed
 
-  module _ (u : UnitView) (start : EntryStands interval_lattice interval_numbers Stands flow list u) where
+  module _ (u : UnitView) (start : EntryInGamma interval_lattice interval_numbers Stands flow list u) where
     -- an inductive map by whose rows operands lie within their types tells that they do so in each run
     pub typed_runs : (rows : List (Option (List (Cell Interval)))) → IsInductive row_lattice (machine_of flow list) rows → is_typed_map interval_lattice interval_numbers flow rows ≡ true → HasTypedRuns flow u
     typed_runs rows closed typed = runs_typed_by_rows _ _ _ flow standard_limits regular.well_formed steps ends u rows (begins rows closed u start) (carried rows closed) (map_types interval_bounding flow rows typed)
@@ -72,6 +72,6 @@ module _ (flow : Flow) (list : List ℤ) (known : is_regular flow list ≡ true)
       pub covered : (rows : List (Option (List (Cell Interval)))) → IsInductive row_lattice (machine_of flow list) rows → EachRunIsCovered interval_lattice interval_numbers Stands flow (row_before interval_lattice interval_numbers flow rows) (Admits interval_lattice interval_numbers flow rows) u
       covered rows closed = runs_covered _ _ _ flow standard_limits regular.well_formed steps ends u rows (begins rows closed u start) (carried rows closed) typed
 
-module _ (flow : Flow) (list : List ℤ) (found : List Diag) (a : IsAnalysis flow list found) (suffices : Suffices flow list) (u : UnitView) (start : EntryStands interval_lattice interval_numbers Stands flow list u) (typed : HasTypedRuns flow u) where
+module _ (flow : Flow) (list : List ℤ) (found : List Diag) (a : IsAnalysis flow list found) (suffices : Suffices flow list) (u : UnitView) (start : EntryInGamma interval_lattice interval_numbers Stands flow list u) (typed : HasTypedRuns flow u) where
   pub each_pair : (v : Violation) → IsViolatedIn flow u v → Contains found (record { place = v.at; rule = v.rule })
   each_pair v there = a.kept (record { place = v.at; rule = v.rule }) (λ rows closed. (covered flow list a.regular suffices u start typed rows closed there.draws there.steps).all v there.there)

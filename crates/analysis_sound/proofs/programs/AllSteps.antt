@@ -50,12 +50,12 @@ use Rattle.transfer_sound.proofs.tests.NullTests.{null_test_sound}
 use Rattle.transfer_sound.proofs.tests.CaseSteps.{case_sound}
 use Rattle.analysis_sound.specs.Programs.OpenSteps.{IsOpenStep, SpellsOverCharacters, AllocatesAtSites, CopiesListed, TestIsProved, CaseIsProved, KindIsProved, OpenTestsAreSound}
 
-module _ {I : Type 0} {l : LatticeOf I} {n : IntegersOf I} {stands : I → ℤ → Type 0} (o : OrderLaws l) (q : BoundLaws l n stands) (c : SoundLaws l n stands) (ranges : RangeLaws l n) (flow : Flow) (p : HasPremises flow) where
-  module _ (limits : Limits) (good : is_well_formed limits flow ≡ true) (texts : SpellsOverCharacters flow) (sites : AllocatesAtSites flow) (copies : CopiesListed flow) (open_sound : AreSound l n stands flow (λ o. IsOpenStep o × IsDoneIn flow o)) where
-    pub steps_go_on : StepsGoOnSoundly l n stands flow
+module _ {I : Type 0} {l : LatticeOf I} {n : IntegersOf I} {gamma : I → ℤ → Type 0} (o : OrderLaws l) (q : BoundLaws l n gamma) (c : SoundLaws l n gamma) (ranges : RangeLaws l n) (flow : Flow) (p : HasPremises flow) where
+  module _ (limits : Limits) (good : is_well_formed limits flow ≡ true) (texts : SpellsOverCharacters flow) (sites : AllocatesAtSites flow) (copies : CopiesListed flow) (open_sound : AreSound l n gamma flow (λ o. IsOpenStep o × IsDoneIn flow o)) where
+    pub steps_go_on : StepsGoOnSoundly l n gamma flow
     steps_go_on naming row s i goes fits typed r = by_operation i goes.0 goes.1 fits typed
       where
-        by_name : (to : Option ℕ) (name : LibFn) (arguments : _) (site size : Option ℕ) → IsDoneIn flow (op.Library to name arguments site size) → fits_operation (names_of flow) (op.Library to name arguments site size) ≡ true → HasOperands (op.Library to name arguments site size) s.temps → StepIsSound l n stands flow row (op.Library to name arguments site size) s
+        by_name : (to : Option ℕ) (name : LibFn) (arguments : _) (site size : Option ℕ) → IsDoneIn flow (op.Library to name arguments site size) → fits_operation (names_of flow) (op.Library to name arguments site size) ≡ true → HasOperands (op.Library to name arguments site size) s.temps → StepIsSound l n gamma flow row (op.Library to name arguments site size) s
         by_name to f.Getchar arguments site size d e t = result_call_sound o q c flow p naming row s r to f.Getchar arguments site size tt e
         by_name to f.Putchar arguments site size d e t = result_call_sound o q c flow p naming row s r to f.Putchar arguments site size tt e
         by_name to f.Exit arguments site size d e t = result_call_sound o q c flow p naming row s r to f.Exit arguments site size tt e
@@ -87,7 +87,7 @@ module _ {I : Type 0} {l : LatticeOf I} {n : IntegersOf I} {stands : I → ℤ �
         by_name to f.Strcat arguments site size d e t = append_call_sound o q c flow p (well_formed_apart limits flow good) naming row s r to f.Strcat arguments site size tt e
         by_name to f.Fgets arguments site size d e t = open_sound naming row s (op.Library to f.Fgets arguments site size) (tt, d) e t r
 
-        by_operation : (i : Operation) → GoesOn i → IsDoneIn flow i → fits_operation (names_of flow) i ≡ true → HasOperands i s.temps → StepIsSound l n stands flow row i s
+        by_operation : (i : Operation) → GoesOn i → IsDoneIn flow i → fits_operation (names_of flow) i ≡ true → HasOperands i s.temps → StepIsSound l n gamma flow row i s
         by_operation (op.Constant to number kind) h d f t = value_step_sound q c ranges flow p naming row s r (op.Constant to number kind) refl f t
         by_operation (op.Binary to operator left right kind) h d f t = value_step_sound q c ranges flow p naming row s r (op.Binary to operator left right kind) refl f t
         by_operation (op.Unary to operator operand kind) h d f t = value_step_sound q c ranges flow p naming row s r (op.Unary to operator operand kind) refl f t
@@ -114,14 +114,14 @@ module _ {I : Type 0} {l : LatticeOf I} {n : IntegersOf I} {stands : I → ℤ �
         by_operation (op.ReadLine to text count stream) h d f t = cc
         by_operation op.Stop h d f t = cc
 
-  module _ (limits : Limits) (tests : TestsAreSound l n stands flow) where
-    pub ends_go_on : EndsGoOnSoundly l n stands flow limits
+  module _ (limits : Limits) (tests : TestsAreSound l n gamma flow) where
+    pub ends_go_on : EndsGoOnSoundly l n gamma flow limits
     ends_go_on good naming row s i last ends r = by_operation i.operation refl
       where
-        plain : IsPlainEnd i.operation → EndIsSound l n stands flow row i.operation s
+        plain : IsPlainEnd i.operation → EndIsSound l n gamma flow row i.operation s
         plain is = end_sound q c flow p naming row s r limits good tests i last is
 
-        by_operation : (x : Operation) → i.operation ≡ x → EndIsSound l n stands flow row i.operation s
+        by_operation : (x : Operation) → i.operation ≡ x → EndIsSound l n gamma flow row i.operation s
         by_operation op.Jump e = plain (subst IsPlainEnd (sym e) tt)
         by_operation (op.Branch temp kind) e = plain (subst IsPlainEnd (sym e) tt)
         by_operation (op.Switch temp kind) e = plain (subst IsPlainEnd (sym e) tt)
@@ -150,7 +150,7 @@ module _ {I : Type 0} {l : LatticeOf I} {n : IntegersOf I} {stands : I → ℤ �
 
   -- ---- tests
 
-  test_proved : (t : Option Test) → TestIsProved flow t → TestIsSound l n stands flow t
+  test_proved : (t : Option Test) → TestIsProved flow t → TestIsSound l n gamma flow t
   test_proved None h = tt
   test_proved (Some t) h = elim h [
     | inl f ↦ λ naming row s r. test_sound o q c flow p naming row s r t f
@@ -160,11 +160,11 @@ module _ {I : Type 0} {l : LatticeOf I} {n : IntegersOf I} {stands : I → ℤ �
     ]
   ]
 
-  case_proved : (value : ℤ) (b : Option ℕ) → CaseIsProved flow b → CaseIsSound l n stands flow value b
+  case_proved : (value : ℤ) (b : Option ℕ) → CaseIsProved flow b → CaseIsSound l n gamma flow value b
   case_proved value None h = tt
   case_proved value (Some b) h = λ naming row s r. case_sound o q flow p naming row s r value b h
 
-  kind_proved : (k : EdgeKind) → KindIsProved flow k → KindIsSound l n stands flow k
+  kind_proved : (k : EdgeKind) → KindIsProved flow k → KindIsSound l n gamma flow k
   kind_proved (kind.When truth test kept) h = test_proved test h
   kind_proved (kind.Case test) h = case_proved test.value test.object h
   kind_proved kind.Jump h = tt
@@ -172,5 +172,5 @@ module _ {I : Type 0} {l : LatticeOf I} {n : IntegersOf I} {stands : I → ℤ �
   kind_proved kind.NoLine h = tt
   kind_proved kind.Line h = tt
 
-  pub tests_sound : OpenTestsAreSound l n stands flow → TestsAreSound l n stands flow
+  pub tests_sound : OpenTestsAreSound l n gamma flow → TestsAreSound l n gamma flow
   tests_sound h number e is = elim (h number e is) [ inl f ↦ kind_proved e.kind f | inr f ↦ f ]

@@ -14,7 +14,7 @@ use Rattle.semantics.specs.CfgMachine.FlowSteps.{flow_steps}
 use Rattle.semantics.specs.CfgMachine.FlowStarts.{flow_begin}
 use Rattle.transfer_sound.specs.OwnLists.{ReachesTypes}
 use Rattle.transfer_sound.specs.Values.SoundSteps.{AreSound}
-use Rattle.transfer_sound.specs.InvariantMaps.CarriedMaps.{EntryStands}
+use Rattle.transfer_sound.specs.InvariantMaps.CarriedMaps.{EntryInGamma}
 use Rattle.transfer_sound.specs.Induction.SoundEnds.{IsDoneIn}
 use Rattle.analysis_sound.specs.Programs.OpenSteps.{IsOpenStep, SpellsOverCharacters, AllocatesAtSites, CopiesListed, OpenTestsAreSound}
 
@@ -36,5 +36,5 @@ pub record IsViolatedIn (flow : Flow) (u : UnitView) (v : Violation) : Type 0 wh
 -- each pair that a run of a unit by this program violates is found, where the row of the entry stands for the start of
 -- the unit
 abbrev pub FindsEachPair : Flow → List ℤ → List Diag → Type 0
-FindsEachPair flow list found = (u : UnitView) → EntryStands interval_lattice interval_numbers Stands flow list u
+FindsEachPair flow list found = (u : UnitView) → EntryInGamma interval_lattice interval_numbers Stands flow list u
     → (v : Violation) → IsViolatedIn flow u v → Contains found (record { place = v.at; rule = v.rule })

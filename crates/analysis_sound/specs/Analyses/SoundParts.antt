@@ -24,7 +24,7 @@ TextsLieOverCharacters flow = (limits : Limits) → is_well_formed limits flow �
 abbrev pub TestsAreProved : Flow → Type 0
 TestsAreProved flow = all_follow_scalars flow ≡ true → (number : ℕ) (e : Edge) → slice_get flow.edges.items number ≡ Some e → KindIsProved flow e.kind
 
-module _ {I : Type 0} (l : LatticeOf I) (n : IntegersOf I) (stands : I → ℤ → Type 0) (flow : Flow) where
+module _ {I : Type 0} (l : LatticeOf I) (n : IntegersOf I) (gamma : I → ℤ → Type 0) (flow : Flow) where
   -- where each call of `fgets` ends its block, the analysis is sound on all instructions of the program
   abbrev pub NoStepIsOpen : Type 0
-  NoStepIsOpen = ends_with_lines flow ≡ true → AreSound l n stands flow (λ o. IsOpenStep o × IsDoneIn flow o)
+  NoStepIsOpen = ends_with_lines flow ≡ true → AreSound l n gamma flow (λ o. IsOpenStep o × IsDoneIn flow o)

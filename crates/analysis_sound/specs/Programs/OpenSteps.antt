@@ -62,13 +62,13 @@ KindIsProved flow (kind.When truth test kept) = TestIsProved flow test
 KindIsProved flow (kind.Case test) = CaseIsProved flow test.object
 KindIsProved flow _ = Unit {0}
 
-module _ {I : Type 0} (l : LatticeOf I) (n : IntegersOf I) (stands : I → ℤ → Type 0) (flow : Flow) where
+module _ {I : Type 0} (l : LatticeOf I) (n : IntegersOf I) (gamma : I → ℤ → Type 0) (flow : Flow) where
   -- edges are sound where their tests are not among those that are proved
   abbrev pub OpenTestsAreSound : Type 0
-  OpenTestsAreSound = (number : ℕ) (e : Edge) → slice_get flow.edges.items number ≡ Some e → KindIsProved flow e.kind ⊎ KindIsSound l n stands flow e.kind
+  OpenTestsAreSound = (number : ℕ) (e : Edge) → slice_get flow.edges.items number ≡ Some e → KindIsProved flow e.kind ⊎ KindIsSound l n gamma flow e.kind
 
   -- where the analysis is sound on what is open and the program does, each run is covered by a map that begins with
   -- it and carries it on
   abbrev pub CoversButForOpenSteps : Type 0
-  CoversButForOpenSteps = (limits : Limits) → AreHeld limits → is_well_formed limits flow ≡ true → SpellsOverCharacters flow → AllocatesAtSites flow → CopiesListed flow → AreSound l n stands flow (λ o. IsOpenStep o × IsDoneIn flow o) → OpenTestsAreSound
-      → (u : UnitView) (rows : List (Option (List (Cell I)))) → Begins l n stands flow u rows → Carries l n stands flow rows → HasTypedRuns flow u → EachRunIsCovered l n stands flow (row_before l n flow rows) (Admits l n flow rows) u
+  CoversButForOpenSteps = (limits : Limits) → AreHeld limits → is_well_formed limits flow ≡ true → SpellsOverCharacters flow → AllocatesAtSites flow → CopiesListed flow → AreSound l n gamma flow (λ o. IsOpenStep o × IsDoneIn flow o) → OpenTestsAreSound
+      → (u : UnitView) (rows : List (Option (List (Cell I)))) → Begins l n gamma flow u rows → Carries l n gamma flow rows → HasTypedRuns flow u → EachRunIsCovered l n gamma flow (row_before l n flow rows) (Admits l n flow rows) u

@@ -32,7 +32,7 @@ use Rattle.transfer_system.specs.BoundedRows.OwnRows.{program_bases, reach_of, i
 use Rattle.transfer_system.specs.BoundedRows.NearLists.{IsNearList}
 use Rattle.transfer_monotone.proofs.edges.FittedOrder.{top_cell, top_cells, cells_top}
 
-module _ {I : Type 0} {l : LatticeOf I} {n : IntegersOf I} {stands : I → ℤ → Type 0} (o : OrderLaws l) (k : RoundLaws l) (h : HeightLaws l) (b : BoundLaws l n stands) (ends : EndLaws l n)
+module _ {I : Type 0} {l : LatticeOf I} {n : IntegersOf I} {gamma : I → ℤ → Type 0} (o : OrderLaws l) (k : RoundLaws l) (h : HeightLaws l) (b : BoundLaws l n gamma) (ends : EndLaws l n)
     (list : List ℤ) (near : IsNearList l n list) (wide : List ℤ) (holds : HasEnds wide (negsuc (2 ^ 64 - 1)) (pos (2 ^ 64))) (flow : Flow) (words : AreWords (program_bases (length flow.bases.items))) where
   abbrev small : Reach I
   small = reach_of l n list (length flow.bases.items)

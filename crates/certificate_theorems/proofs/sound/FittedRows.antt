@@ -25,7 +25,7 @@ use Rattle.transfer_system.specs.BoundedRows.CellKinds.{all_kinds, kinds_behind}
 use Rattle.transfer_system.specs.BoundedRows.OwnRows.{program_bases, reach_of}
 use Rattle.transfer_system.specs.BoundedRows.FittedRows.{list_ends, cell_fit, cells_fit, row_fit, all_cells}
 use Rattle.store_sound.specs.Concretization.ValueMeaning.{Naming}
-use Rattle.store_sound.specs.Concretization.RowMeaning.{MachineState, StandsFor}
+use Rattle.store_sound.specs.Concretization.RowMeaning.{MachineState, InGamma}
 use Rattle.transfer_sound.proofs.invariant_maps.ToldRows.{CountTells, StateTells, ValueTells, row_told}
 use Rattle.certificate_theorems.proofs.sound.FittedCells.{zero_fitted, state_fitted, no_state, no_value, value_fitted, least_near}
 use Rattle.certificate_theorems.proofs.sound.KindPlaces.{kind_of_cell, HasKinds, base_kinds, temp_kinds}
@@ -39,7 +39,7 @@ module _ {I : Type 0} (l : LatticeOf I) (n : IntegersOf I) (list : List ℤ) (r 
 only_has : (b : ℕ) → b < most_bases → bases_has (only_base b) b ≡ true
 only_has b h = rw (lt-ltb b most_bases h) (with_has_same no_base b)
 
-module _ {I : Type 0} {l : LatticeOf I} {n : IntegersOf I} {stands : I → ℤ → Type 0} (q : BoundLaws l n stands) (list : List ℤ) (wide : list_ends list ≡ Some (negsuc (2 ^ 64 - 1), pos (2 ^ 64)))
+module _ {I : Type 0} {l : LatticeOf I} {n : IntegersOf I} {gamma : I → ℤ → Type 0} (q : BoundLaws l n gamma) (list : List ℤ) (wide : list_ends list ≡ Some (negsuc (2 ^ 64 - 1), pos (2 ^ 64)))
     (flow : Flow) (laid : IsLaidOut (program_bases (length flow.bases.items)) flow) (few : length flow.bases.items ≤ most_bases) (row : List (Cell I)) (long : length row ≡ flow.width) where
   abbrev reach : Reach I
   reach = reach_of l n list (length flow.bases.items)
@@ -54,31 +54,31 @@ module _ {I : Type 0} {l : LatticeOf I} {n : IntegersOf I} {stands : I → ℤ �
   unfolding row_fit
   fitted_at i k e h = ap (λ cs. cell_at (cells_fit l n list reach kinds cs) i) (all_cells flow.width row long) ∙ (fit_at l n list reach kinds row i h ∙ ap (λ t. cell_fit l n list reach t (cell_at row i)) e)
 
-  module _ (naming : Naming) (s : MachineState) (h : StandsFor l n stands flow naming row s) where
+  module _ (naming : Naming) (s : MachineState) (h : InGamma l n gamma flow naming row s) where
     known : (i b : ℕ) → naming i ≡ Some b → bases_has (program_bases (length flow.bases.items)) b ≡ true
     known i b e =
         let small = h.sane.few i b e in
         within_has (only_base b) (program_bases (length flow.bases.items)) b (laid.named b small) (only_has b (omega (arith, small, few)))
 
-    value_told : (i : ℕ) → kind_of_cell kinds i ≡ kind.Value → ValueTells stands naming s.memory (value_at l n row i) (value_at l n fitted i)
+    value_told : (i : ℕ) → kind_of_cell kinds i ≡ kind.Value → ValueTells gamma naming s.memory (value_at l n row i) (value_at l n fitted i)
     unfolding value_at
     value_told i e = elim (cases_lt i (length row)) [
-      | inl w ↦ subst (λ c. ValueTells stands naming s.memory (near_value l n (value_in l (cell_at row i))) (near_value l n (value_in l c))) (sym (fitted_at i kind.Value e w)) (value_fitted q list wide reach naming s.memory known (cell_at row i))
-      | inr w ↦ subst (λ c. ValueTells stands naming s.memory (near_value l n (value_in l c)) (near_value l n (value_in l (cell_at fitted i)))) (sym (at_past row i w)) (no_value q list wide reach naming s.memory known (near_value l n (value_in l (cell_at fitted i))))
+      | inl w ↦ subst (λ c. ValueTells gamma naming s.memory (near_value l n (value_in l (cell_at row i))) (near_value l n (value_in l c))) (sym (fitted_at i kind.Value e w)) (value_fitted q list wide reach naming s.memory known (cell_at row i))
+      | inr w ↦ subst (λ c. ValueTells gamma naming s.memory (near_value l n (value_in l c)) (near_value l n (value_in l (cell_at fitted i)))) (sym (at_past row i w)) (no_value q list wide reach naming s.memory known (near_value l n (value_in l (cell_at fitted i))))
     ]
 
-    zero_told : (i : ℕ) → kind_of_cell kinds i ≡ kind.First → CountTells stands (zero_at l n row i).at (zero_at l n fitted i).at
+    zero_told : (i : ℕ) → kind_of_cell kinds i ≡ kind.First → CountTells gamma (zero_at l n row i).at (zero_at l n fitted i).at
     unfolding zero_at
     zero_told i e = elim (cases_lt i (length row)) [
-      | inl w ↦ subst (λ c. CountTells stands (near_number l n (zero_in l (cell_at row i)).at) (near_number l n (zero_in l c).at)) (sym (fitted_at i kind.First e w)) (zero_fitted q list wide reach (cell_at row i))
-      | inr w ↦ subst (λ c. CountTells stands (near_number l n (zero_in l c).at) (near_number l n (zero_in l (cell_at fitted i)).at)) (sym (at_past row i w)) (λ z m k. absurd (least_near q z k))
+      | inl w ↦ subst (λ c. CountTells gamma (near_number l n (zero_in l (cell_at row i)).at) (near_number l n (zero_in l c).at)) (sym (fitted_at i kind.First e w)) (zero_fitted q list wide reach (cell_at row i))
+      | inr w ↦ subst (λ c. CountTells gamma (near_number l n (zero_in l c).at) (near_number l n (zero_in l (cell_at fitted i)).at)) (sym (at_past row i w)) (λ z m k. absurd (least_near q z k))
     ]
 
-    state_told : (i : ℕ) → kind_of_cell kinds i ≡ kind.State → StateTells stands (state_at l n row i) (state_at l n fitted i)
+    state_told : (i : ℕ) → kind_of_cell kinds i ≡ kind.State → StateTells gamma (state_at l n row i) (state_at l n fitted i)
     unfolding state_at
     state_told i e = elim (cases_lt i (length row)) [
-      | inl w ↦ subst (λ c. StateTells stands (near_state l n (state_in l (cell_at row i))) (near_state l n (state_in l c))) (sym (fitted_at i kind.State e w)) (state_fitted q list wide reach (cell_at row i))
-      | inr w ↦ subst (λ c. StateTells stands (near_state l n (state_in l c)) (near_state l n (state_in l (cell_at fitted i)))) (sym (at_past row i w)) (no_state q list wide reach (near_state l n (state_in l (cell_at fitted i))))
+      | inl w ↦ subst (λ c. StateTells gamma (near_state l n (state_in l (cell_at row i))) (near_state l n (state_in l c))) (sym (fitted_at i kind.State e w)) (state_fitted q list wide reach (cell_at row i))
+      | inr w ↦ subst (λ c. StateTells gamma (near_state l n (state_in l c)) (near_state l n (state_in l (cell_at fitted i)))) (sym (at_past row i w)) (no_state q list wide reach (near_state l n (state_in l (cell_at fitted i))))
     ]
 
     small : all_values flow.bases.items < 2 ^ 64
@@ -87,14 +87,14 @@ module _ {I : Type 0} {l : LatticeOf I} {n : IntegersOf I} {stands : I → ℤ �
     kinds_of : (b : ℕ) (base : BaseInfo) → slice_get flow.bases.items b ≡ Some base → HasKinds kinds base
     kinds_of b base e = each_get (λ (k : BaseInfo) number. HasKinds kinds k) 0 b flow.bases.items base (base_kinds flow.bases.items laid.layout.placed small) e
 
-    temp_told : (t : ℕ) → ValueTells stands naming s.memory (value_at l n row (temp_position flow t)) (value_at l n fitted (temp_position flow t))
+    temp_told : (t : ℕ) → ValueTells gamma naming s.memory (value_at l n row (temp_position flow t)) (value_at l n fitted (temp_position flow t))
     temp_told t =
         let w = laid.width in
         let m = laid.near in
         value_told (temp_position flow t) (temp_kinds flow.bases.items laid.layout.placed small (temp_position flow t) (omega (arith, w, m)))
 
-    pub fitted_stands : StandsFor l n stands flow naming fitted s
-    fitted_stands = row_told l n stands flow naming s row fitted (record {
+    pub fitted_stands : InGamma l n gamma flow naming fitted s
+    fitted_stands = row_told l n gamma flow naming s row fitted (record {
       leaves = λ b j base leaf e k. value_told _ ((kinds_of b base e).leaf j (slice_get_within base.shape.cells j leaf k));
       classes = λ b c base e heap few. value_told _ ((kinds_of b base e).class c heap few);
       zeros = λ b p base part e k. zero_told _ ((kinds_of b base e).zero p (slice_get_within base.shape.zeros p part k));

@@ -19,7 +19,7 @@ use Rattle.analysis_determined.proofs.WellFormed.{laid_out}
 use Rattle.row_bounds.proofs.entries.RegularStarts.{regular_fits}
 use Rattle.transfer_sound.specs.Induction.Covering.{Begins, Carries, HasTypedRuns}
 use Rattle.transfer_sound.proofs.induction.Covering.{runs_covered, runs_typed_by_rows}
-use Rattle.transfer_sound.specs.InvariantMaps.CarriedMaps.{EntryStands}
+use Rattle.transfer_sound.specs.InvariantMaps.CarriedMaps.{EntryInGamma}
 use Rattle.transfer_sound.proofs.operands.TypedMaps.{map_types}
 use Rattle.analysis_sound.specs.Analyses.SoundAnalyses.{Suffices, FindsEachPair}
 use Rattle.analysis_sound.proofs.analyses.SoundAnalyses.{standard_held, steps, ends}
@@ -46,7 +46,7 @@ module _ (flow : Flow) (look : IsLookedAt flow) where
   enough : Suffices flow look_numbers
   enough = suffices flow look_numbers look.regular look.checked
 
-  module _ (u : UnitView) (start : EntryStands interval_lattice interval_numbers Stands flow look_numbers u) where
+  module _ (u : UnitView) (start : EntryInGamma interval_lattice interval_numbers Stands flow look_numbers u) where
     module _ (rows : List (Option (List (Cell Interval)))) (closed : IsClosed cert_cells (cert_machine flow) rows) where
       begins : Begins interval_lattice interval_numbers Stands flow u rows
       begins =

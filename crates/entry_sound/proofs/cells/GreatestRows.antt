@@ -31,8 +31,8 @@ use Rattle.memory_model.specs.Effects.NumberedTables.{empty_table}
 use Rattle.store_sound.specs.Concretization.Matching.{number_in}
 use Rattle.store_sound.specs.Concretization.SeenLabels.{as_set}
 use Rattle.store_sound.specs.Concretization.SoundMemory.{IsWithin, IsPointerIn, IsNamed, IsContentIn, IsContentNamed, IsMemoryOf, AreEntered}
-use Rattle.store_sound.specs.Concretization.ValueMeaning.{Naming, StandsInto, StandsByLife, StandsPointer, StandsContent, StandsState}
-use Rattle.store_sound.specs.Concretization.RowMeaning.{StandsCell, StandsFor, array_of, array_bytes}
+use Rattle.store_sound.specs.Concretization.ValueMeaning.{Naming, InGammaInto, InGammaByLife, InGammaPointer, InGammaContent, InGammaState}
+use Rattle.store_sound.specs.Concretization.RowMeaning.{InGammaCell, InGamma, array_of, array_bytes}
 use Rattle.store_sound.proofs.operations.Classes.{class_size}
 use Rattle.store_sound.proofs.operations.FreshValues.{type_near}
 use Rattle.store_sound.proofs.operations.Near.{near_number_from}
@@ -54,7 +54,7 @@ named_by : (b : Option ℕ) → (b ≡ None → ⊥) → (c : ℕ) × (b ≡ Som
 named_by None h = absurd (h refl)
 named_by (Some c) h = (c, refl)
 
-module _ {I : Type 0} {l : LatticeOf I} {n : IntegersOf I} {stands : I → ℤ → Type 0} (o : OrderLaws l) (q : BoundLaws l n stands) (flow : Flow) (all : Bases) (row : List (Cell I)) (g : IsGreatest l n stands flow all row) (naming : Naming) (memory : Memory) (sane : IsMemoryOf flow.model flow.bases.items naming memory) where
+module _ {I : Type 0} {l : LatticeOf I} {n : IntegersOf I} {gamma : I → ℤ → Type 0} (o : OrderLaws l) (q : BoundLaws l n gamma) (flow : Flow) (all : Bases) (row : List (Cell I)) (g : IsGreatest l n gamma flow all row) (naming : Naming) (memory : Memory) (sane : IsMemoryOf flow.model flow.bases.items naming memory) where
   abbrev top : values.Value I
   top = top_value n all
 
@@ -74,10 +74,10 @@ module _ {I : Type 0} {l : LatticeOf I} {n : IntegersOf I} {stands : I → ℤ �
 
   -- ---- what the greatest value stands for
 
-  any_number : (z : ℤ) → negsuc (2 ^ 64 - 1) ≤ℤ z → z ≤ℤ pos (2 ^ 64) → stands (top_number n) z
+  any_number : (z : ℤ) → negsuc (2 ^ 64 - 1) ≤ℤ z → z ≤ℤ pos (2 ^ 64) → gamma (top_number n) z
   any_number z h k = between_stands o q (negsuc (2 ^ 64 - 1)) (pos (2 ^ 64)) z h k
 
-  into_top : (i offset lo hi : ℕ) → IsWithin memory i offset lo hi → (c : ℕ) → naming i ≡ Some c → StandsInto stands naming memory top.pointer i offset lo hi
+  into_top : (i offset lo hi : ℕ) → IsWithin memory i offset lo hi → (c : ℕ) → naming i ≡ Some c → InGammaInto gamma naming memory top.pointer i offset lo hi
   into_top i offset lo hi w c named =
       let small = sane.small i in
       let above = w.above in
@@ -93,26 +93,26 @@ module _ {I : Type 0} {l : LatticeOf I} {n : IntegersOf I} {stands : I → ℤ �
         whole = λ e. absurd (cc);
       }
 
-  life_top : (life : Life) (i offset lo hi : ℕ) → IsWithin memory i offset lo hi → ((life ≡ ended → ⊥) → naming i ≡ None → ⊥) → StandsByLife stands naming memory top.pointer life i offset lo hi
+  life_top : (life : Life) (i offset lo hi : ℕ) → IsWithin memory i offset lo hi → ((life ≡ ended → ⊥) → naming i ≡ None → ⊥) → InGammaByLife gamma naming memory top.pointer life i offset lo hi
   life_top live i offset lo hi w named = let c = named_by (naming i) (named (λ e. cc)) in into_top i offset lo hi w c.0 c.1
   life_top ended i offset lo hi w named = refl
   life_top freed i offset lo hi w named = let c = named_by (naming i) (named (λ e. cc)) in into_top i offset lo hi w c.0 c.1
 
-  pointer_top : (p : MachinePointer) → IsPointerIn memory p → IsNamed naming memory p → StandsPointer stands naming memory top.pointer p
+  pointer_top : (p : MachinePointer) → IsPointerIn memory p → IsNamed naming memory p → InGammaPointer gamma naming memory top.pointer p
   pointer_top null w named = refl
   pointer_top (into i offset lo hi) w named = life_top (life_at memory i) i offset lo hi w named
 
-  content_top : (b i a : ℕ) (class : Class) (byte : Byte) → naming i ≡ Some b → byte_at memory i a ≡ Some byte → StandsContent stands naming memory top class byte.content
+  content_top : (b i a : ℕ) (class : Class) (byte : Byte) → naming i ≡ Some b → byte_at memory i a ≡ Some byte → InGammaContent gamma naming memory top class byte.content
   content_top b i a class byte named e = by_content byte.content (sane.bytes i a byte e) (sane.named i b a byte named e)
     where
-      by_content : (c : Content) → IsContentIn memory c byte.tag → IsContentNamed naming memory c → StandsContent stands naming memory top class c
+      by_content : (c : Content) → IsContentIn memory c byte.tag → IsContentNamed naming memory c → InGammaContent gamma naming memory top class c
       by_content indeterminate w m = refl
       by_content (number k labels) w m = (all_above labels, λ f. refl)
       by_content (part p k) w m = pointer_top p w.0 m
 
   -- ---- the cells
 
-  cell_top : (b : ℕ) (class : Class) (signed : Bool) (Place Owns : ℕ → ℕ → Type 0) → StandsCell stands flow naming memory b class signed Place Owns top
+  cell_top : (b : ℕ) (class : Class) (signed : Bool) (Place Owns : ℕ → ℕ → Type 0) → InGammaCell gamma flow naming memory b class signed Place Owns top
   cell_top b class signed Place Owns = record {
     whole = λ i offset ns alive place plain holds.
         let w = number_within flow.model class signed ns holds.size (λ k y e.
@@ -123,7 +123,7 @@ module _ {I : Type 0} {l : LatticeOf I} {n : IntegersOf I} {stands : I → ℤ �
     byte = λ i offset k content alive owns m. content_top b i offset class (record { content = content; tag = m.tag }) alive.named m.here;
   }
 
-  state_top : (life : Life) (size : ℕ) → size ≤ 2 ^ 64 - 1 → StandsState stands naming memory (record { size = n.between (pos 0) the_end; live = true; freed = true }) life size
+  state_top : (life : Life) (size : ℕ) → size ≤ 2 ^ 64 - 1 → InGammaState gamma naming memory (record { size = n.between (pos 0) the_end; live = true; freed = true }) life size
   state_top live size h = (between_stands o q (pos 0) the_end (pos size) (omega (arith, ints)) (omega (arith, ints, h)), refl)
   state_top ended size h = between_stands o q (pos 0) the_end (pos size) (omega (arith, ints)) (omega (arith, ints, h))
   state_top freed size h = (between_stands o q (pos 0) the_end (pos size) (omega (arith, ints)) (omega (arith, ints, h)), refl)
@@ -132,14 +132,14 @@ module _ {I : Type 0} {l : LatticeOf I} {n : IntegersOf I} {stands : I → ℤ �
   unfolding state_at
   state_is p e = ap (λ z. record (state_in l z) { size = near_number l n (state_in l z).size }) e ∙ ap (λ x. record { size = x; live = true; freed = true }) counts_near
 
-  pub greatest_stands : (entered : ℕ → Option ℕ) → AreEntered flow.bases.items naming memory entered → StandsFor l n stands flow naming row (record { memory = memory; temps = empty_table; entered = entered })
+  pub greatest_stands : (entered : ℕ → Option ℕ) → AreEntered flow.bases.items naming memory entered → InGamma l n gamma flow naming row (record { memory = memory; temps = empty_table; entered = entered })
   greatest_stands entered lives = record {
     sane = sane;
     held = record { within = λ t scalar e. absurd (cc); named = λ t p e. absurd (cc) };
     lives = lives;
-    leaves = λ b j base leaf e f. subst (StandsCell stands flow naming memory b leaf.class leaf.signed _ _) (sym (value_top (leaf_position base j) ((g.cells b base e).leaf j (slice_get_within base.shape.cells j leaf f)))) (cell_top b leaf.class leaf.signed _ _);
-    classes = λ b c base e heap h. subst (StandsCell stands flow naming memory b (class_at c) true _ _) (sym (value_top (class_position base c) ((g.cells b base e).class c heap h))) (cell_top b (class_at c) true _ _);
+    leaves = λ b j base leaf e f. subst (InGammaCell gamma flow naming memory b leaf.class leaf.signed _ _) (sym (value_top (leaf_position base j) ((g.cells b base e).leaf j (slice_get_within base.shape.cells j leaf f)))) (cell_top b leaf.class leaf.signed _ _);
+    classes = λ b c base e heap h. subst (InGammaCell gamma flow naming memory b (class_at c) true _ _) (sym (value_top (class_position base c) ((g.cells b base e).class c heap h))) (cell_top b (class_at c) true _ _);
     zeros = λ b z i base array e f alive. any_stands o q naming memory _ (array_bytes array (bytes_at memory i)) (array_small array (bytes_at memory i) (sane.small i)) (zero_top (zero_position base z) ((g.cells b base e).zero z (slice_get_within base.shape.zeros z array f)));
-    states = λ b i base e heap named. subst (λ y. StandsState stands naming memory y (life_at memory i) (length (bytes_at memory i))) (sym (state_is (state_position base) ((g.cells b base e).state heap))) (state_top (life_at memory i) (length (bytes_at memory i)) (sane.small i));
+    states = λ b i base e heap named. subst (λ y. InGammaState gamma naming memory y (life_at memory i) (length (bytes_at memory i))) (sym (state_is (state_position base) ((g.cells b base e).state heap))) (state_top (life_at memory i) (length (bytes_at memory i)) (sane.small i));
     temps = λ t scalar e. absurd (cc);
   }

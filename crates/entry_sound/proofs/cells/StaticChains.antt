@@ -33,7 +33,7 @@ use Rattle.memory_model.specs.Effects.ScalarBytes.{scalar_bytes}
 use Rattle.memory_model.specs.Effects.UnitStarts.{base_instance, value_bytes}
 use Rattle.semantics.specs.CfgMachine.FlowStates.{Standing}
 use Rattle.store_sound.specs.Concretization.SoundMemory.{IsMemoryOf, IsScalarIn}
-use Rattle.store_sound.specs.Concretization.ValueMeaning.{Naming, StandsByLife, StandsPointer, StandsScalar}
+use Rattle.store_sound.specs.Concretization.ValueMeaning.{Naming, InGammaByLife, InGammaPointer, InGammaScalar}
 use Rattle.store_sound.specs.Operations.Scalars.{signed_in}
 use Rattle.store_sound.proofs.operations.Frames.{IsAlike}
 use Rattle.store_sound.specs.Programs.Premises.{HasPremises}
@@ -88,10 +88,10 @@ only_has b h = rw (lt-ltb b most_bases h) (with_has_same no_base b)
 
 -- ---- values stand for scalars
 
-module _ {I : Type 0} {l : LatticeOf I} {n : IntegersOf I} {stands : I → ℤ → Type 0} (o : OrderLaws l) (q : BoundLaws l n stands) (u : UnitView) (flow : Flow) (p : HasPremises flow) (naming : Naming) where
+module _ {I : Type 0} {l : LatticeOf I} {n : IntegersOf I} {gamma : I → ℤ → Type 0} (o : OrderLaws l) (q : BoundLaws l n gamma) (u : UnitView) (flow : Flow) (p : HasPremises flow) (naming : Naming) where
   -- a pointer to a place of a live instance with a base
-  pub into_stands : (memory : Memory) (i base size offset lo hi : ℕ) → naming i ≡ Some base → base < most_bases → life_at memory i ≡ live → length (bytes_at memory i) ≡ size → StandsPointer stands naming memory (pointer_into n base size offset lo hi) (into i offset lo hi)
-  into_stands memory i base size offset lo hi named small alive long = subst (λ z. StandsByLife stands naming memory (pointer_into n base size offset lo hi) z i offset lo hi) (sym alive) (record {
+  pub into_stands : (memory : Memory) (i base size offset lo hi : ℕ) → naming i ≡ Some base → base < most_bases → life_at memory i ≡ live → length (bytes_at memory i) ≡ size → InGammaPointer gamma naming memory (pointer_into n base size offset lo hi) (into i offset lo hi)
+  into_stands memory i base size offset lo hi named small alive long = subst (λ z. InGammaByLife gamma naming memory (pointer_into n base size offset lo hi) z i offset lo hi) (sym alive) (record {
     base = base;
     named = named;
     among = only_has base small;
@@ -131,13 +131,13 @@ module _ {I : Type 0} {l : LatticeOf I} {n : IntegersOf I} {stands : I → ℤ �
     scalar_near Null h = tt
     scalar_near (Address object offset lo hi) h = tt
 
-    plain_value : (v : StaticValue) → IsValueOf u flow naming start v → StandsScalar stands naming memory (static_value l n flow.initial.items v) (scalar_of u v)
+    plain_value : (v : StaticValue) → IsValueOf u flow naming start v → InGammaScalar gamma naming memory (static_value l n flow.initial.items v) (scalar_of u v)
     plain_value (Number k kind) h = (q.one_stands k, refl)
     plain_value Null h = refl
     plain_value (Address object offset lo hi) h =
-        subst (λ z. StandsPointer stands naming memory (static_pointer l n z offset lo hi) (into (base_instance u object) offset lo hi)) (sym h.is)
+        subst (λ z. InGammaPointer gamma naming memory (static_pointer l n z offset lo hi) (into (base_instance u object) offset lo hi)) (sym h.is)
         (into_stands memory (base_instance u object) h.base h.size offset lo hi h.named (base_small memory (base_instance u object) h.base (sane.few (base_instance u object) h.base) h.named)
         (alike.lives (base_instance u object) ∙ h.alive) (alike.lengths (base_instance u object) ∙ h.long))
 
-    pub value_stands : (v : StaticValue) → IsValueOf u flow naming start v → StandsScalar stands naming memory (near_value l n (static_value l n flow.initial.items v)) (scalar_of u v)
+    pub value_stands : (v : StaticValue) → IsValueOf u flow naming start v → InGammaScalar gamma naming memory (near_value l n (static_value l n flow.initial.items v)) (scalar_of u v)
     value_stands v h = near_scalar_stands q flow.model flow.bases.items naming memory sane (static_value l n flow.initial.items v) (scalar_of u v) (scalar_in v h) (scalar_near v h) (plain_value v h)

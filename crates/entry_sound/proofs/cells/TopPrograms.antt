@@ -65,7 +65,7 @@ module _ (limits : Limits) (flow : Flow) (good : is_well_formed limits flow ≡ 
       let e = and_parts (flow.width == all_values flow.bases.items + flow.temps) (list_all (is_initial_object flow.bases.items) flow.initial.items && (list_all (is_parameter flow.model flow.bases.items) flow.parameters.items && (is_within limits flow && (are_few flow && is_laid_out flow)))) d.1 in
       (d.0, eqb-true flow.width (all_values flow.bases.items + flow.temps) e.0)
 
-  module _ {I : Type 0} (l : LatticeOf I) (n : IntegersOf I) (stands : I → ℤ → Type 0) (p : HasPremises flow) where
+  module _ {I : Type 0} (l : LatticeOf I) (n : IntegersOf I) (gamma : I → ℤ → Type 0) (p : HasPremises flow) where
     abbrev pub every_base : Bases
     every_base = bases_up_to (length flow.bases.items)
 
@@ -75,7 +75,7 @@ module _ (limits : Limits) (flow : Flow) (good : is_well_formed limits flow ≡ 
     pub top_long : length top ≡ flow.width
     top_long = row_long n every_base flow.bases.items flow.temps ∙ sym placed_good.1
 
-    pub top_greatest : IsGreatest l n stands flow every_base top
+    pub top_greatest : IsGreatest l n gamma flow every_base top
     top_greatest = record {
       every = λ b h. let few = p.shaped.few in up_to_has (length flow.bases.items) b few h;
       cells = λ b base e.

@@ -34,9 +34,9 @@ use Rattle.memory_model.specs.Effects.ObjectEffects as effects
 use Rattle.memory_model.specs.Effects.Touches.{set_bytes, is_allocated}
 use Rattle.memory_model.specs.Effects.UnitStarts.{character_byte}
 use Rattle.store_sound.specs.Concretization.Matching.{Fits, number_in}
-use Rattle.store_sound.specs.Concretization.RowMeaning.{IsLiveOf, StandsLeaf, array_bytes}
+use Rattle.store_sound.specs.Concretization.RowMeaning.{IsLiveOf, InGammaLeaf, array_bytes}
 use Rattle.store_sound.specs.Concretization.SoundMemory.{IsMemoryOf, storage_for}
-use Rattle.store_sound.specs.Concretization.ValueMeaning.{Naming, StandsZero}
+use Rattle.store_sound.specs.Concretization.ValueMeaning.{Naming, InGammaZero}
 use Rattle.store_sound.proofs.operations.Classes.{class_above}
 use Rattle.store_sound.proofs.operations.Frames.{IsAlike}
 use Rattle.store_sound.proofs.operations.LoadSound.{instance_there}
@@ -48,7 +48,7 @@ use Rattle.store_sound.proofs.operations.StoreRows as rows
 use Rattle.store_sound.proofs.operations.StoreValues.{same_value, same_zero}
 use Rattle.store_sound.specs.Programs.Premises.{HasPremises}
 use Rattle.store_sound.proofs.programs.ShapedBases.{all_at}
-use Rattle.store_sound.specs.Regions.RegionWrites.{IsRegion, StandsBase}
+use Rattle.store_sound.specs.Regions.RegionWrites.{IsRegion, InGammaBase}
 use Rattle.store_sound.proofs.regions.Layers.{value_turn, zero_turn, leaf_turn, part_turn, leaves_within, zeros_within}
 use Rattle.store_sound.proofs.regions.RegionArrays.{array_short, any_zero_stands, put_zero_stands}
 use Rattle.library_sound.proofs.FullParts.{parts_full}
@@ -87,7 +87,7 @@ unfit : (class : Class) (k : ℕ) (tag : Option Tag) → Fits class k tag → ta
 unfit class k None h e = cc
 unfit class k (Some tag) h e = let f = same_Some tag (record { class = Char; at = 1 }) e in (sym h.0 ∙ ap (λ z. z.class) f, sym h.1 ∙ ap (λ z. z.at) f)
 
-module _ {I : Type 0} {l : LatticeOf I} {n : IntegersOf I} {stands : I → ℤ → Type 0} (o : OrderLaws l) (q : BoundLaws l n stands) (flow : Flow) (p : HasPremises flow) (limits : Limits) (good : is_well_formed limits flow ≡ true) (naming : Naming) (new : Memory) (sane : IsMemoryOf flow.model flow.bases.items naming new) (b i : ℕ) (info : BaseInfo) (text : List ℕ) (object : IsLiteralObject flow naming new b i info text) (it : Instance) (at : slice_get new i ≡ Some it) where
+module _ {I : Type 0} {l : LatticeOf I} {n : IntegersOf I} {gamma : I → ℤ → Type 0} (o : OrderLaws l) (q : BoundLaws l n gamma) (flow : Flow) (p : HasPremises flow) (limits : Limits) (good : is_well_formed limits flow ≡ true) (naming : Naming) (new : Memory) (sane : IsMemoryOf flow.model flow.bases.items naming new) (b i : ℕ) (info : BaseInfo) (text : List ℕ) (object : IsLiteralObject flow naming new b i info text) (it : Instance) (at : slice_get new i ≡ Some it) where
   declared_is : info.shape.heap ≡ false
   declared_is = sym (p.shaped.each b info object.among).kind ∙ ap (λ k. is_allocated (storage_for k)) object.kind
 
@@ -148,7 +148,7 @@ module _ {I : Type 0} {l : LatticeOf I} {n : IntegersOf I} {stands : I → ℤ �
   hidden_tag a x e = let r = get_map hidden (bytes_at new i) a x (sym (ap (λ z. slice_get z a) old_bytes) ∙ e) in sym (ap (λ z. z.tag) r.2)
 
   -- nothing is seen of them
-  unseen : (leaf : Leaf) (v : values.Value I) → StandsLeaf stands flow naming old b leaf v
+  unseen : (leaf : Leaf) (v : values.Value I) → InGammaLeaf gamma flow naming old b leaf v
   unseen leaf v = record {
     whole = λ j a ns w place plain holds.
         let same = single j w in
@@ -203,12 +203,12 @@ module _ {I : Type 0} {l : LatticeOf I} {n : IntegersOf I} {stands : I → ℤ �
     unfolding spell_leaves
     leaves_long = (leaves_within info fits (spell_leaf l n info 0 count text) (spelled_leaf l n flow info fits declared_is 0 count text)).long row
 
-    own_leaf : (j : ℕ) (leaf : Leaf) → slice_get info.shape.cells j ≡ Some leaf → StandsLeaf stands flow naming new b leaf (value_at l n leaves_row (leaf_position info j))
+    own_leaf : (j : ℕ) (leaf : Leaf) → slice_get info.shape.cells j ≡ Some leaf → InGammaLeaf gamma flow naming new b leaf (value_at l n leaves_row (leaf_position info j))
     unfolding spell_leaves
     own_leaf j leaf e =
         let w = slice_get_within info.shape.cells j leaf e in
         let x = rows.leaf_is info j fits w in
-        value_turn l n (λ v. Unit {0}) (StandsLeaf stands flow naming new b leaf) (leaf_position info j) (spell_leaf l n info 0 count text leaf j) row leaves_row
+        value_turn l n (λ v. Unit {0}) (InGammaLeaf gamma flow naming new b leaf) (leaf_position info j) (spell_leaf l n info 0 count text leaf j) row leaves_row
         (leaf_turn info fits (spell_leaf l n info 0 count text) (spelled_leaf l n flow info fits declared_is 0 count text) j leaf e row)
         (λ r same u. leaf_spelled o q flow naming region text object.small is_text b single leaf ((p.shaped.each b info object.among).strides j leaf e) (leaf_position info j) r (omega (arith, x, w, same, room)) (unseen leaf (value_at l n r (leaf_position info j)))) tt
 
@@ -218,7 +218,7 @@ module _ {I : Type 0} {l : LatticeOf I} {n : IntegersOf I} {stands : I → ℤ �
     put_either : (place : ℕ) (r s : List (Cell I)) → place < length r → length s ≡ length r → zero_at l n (put_zero r place new_zero) place ≡ zero_at l n (put_zero s place new_zero) place
     put_either place r s h e = same_zero l n (put_zero s place new_zero) (put_zero r place new_zero) place (cell_put r place (First new_zero) h ∙ sym (cell_put s place (First new_zero) (omega (arith, h, e))))
 
-    part_stands : (z : ℕ) (zeros : ZeroPart) → slice_get info.shape.zeros z ≡ Some zeros → (r : List (Cell I)) → length r ≡ length row → StandsZero stands naming new (zero_at l n (spell_part_at 0 new_zero zeros (zero_position info z) r) (zero_position info z)) (array_bytes zeros (bytes_at new i))
+    part_stands : (z : ℕ) (zeros : ZeroPart) → slice_get info.shape.zeros z ≡ Some zeros → (r : List (Cell I)) → length r ≡ length row → InGammaZero gamma naming new (zero_at l n (spell_part_at 0 new_zero zeros (zero_position info z) r) (zero_position info z)) (array_bytes zeros (bytes_at new i))
     part_stands z zeros e r same =
         let w = slice_get_within info.shape.zeros z zeros e in
         let x = rows.zero_is info z fits (omega (arith, w)) in
@@ -237,34 +237,34 @@ module _ {I : Type 0} {l : LatticeOf I} {n : IntegersOf I} {stands : I → ℤ �
         let is_live : IsLiveOf naming old b i = record { named = object.named; alive = alike.lives i ∙ object.alive } in
         let bytes = bytes_long in
         let h = zero_spelled o q flow naming text region sane is_text some (omega (arith, bytes)) b single zeros g.some rooms (zero_position info z) r2 (omega (arith, there, long2)) i is_live before in
-        let k : StandsZero stands naming new (zero_at l n (put_zero r2 (zero_position info z) new_zero) (zero_position info z)) (array_bytes zeros (bytes_at new i)) = subst (λ y. StandsZero stands naming new (zero_at l n (cond y (put_zero r2 (zero_position info z) new_zero) r2) (zero_position info z)) (array_bytes zeros (bytes_at new i))) is_start h in
-        subst (λ y. StandsZero stands naming new (zero_at l n (cond y (put_zero r (zero_position info z) new_zero) r) (zero_position info z)) (array_bytes zeros (bytes_at new i))) (sym is_start)
-        (subst (λ y. StandsZero stands naming new y (array_bytes zeros (bytes_at new i))) (sym (put_either (zero_position info z) r r2 there long2)) k)
+        let k : InGammaZero gamma naming new (zero_at l n (put_zero r2 (zero_position info z) new_zero) (zero_position info z)) (array_bytes zeros (bytes_at new i)) = subst (λ y. InGammaZero gamma naming new (zero_at l n (cond y (put_zero r2 (zero_position info z) new_zero) r2) (zero_position info z)) (array_bytes zeros (bytes_at new i))) is_start h in
+        subst (λ y. InGammaZero gamma naming new (zero_at l n (cond y (put_zero r (zero_position info z) new_zero) r) (zero_position info z)) (array_bytes zeros (bytes_at new i))) (sym is_start)
+        (subst (λ y. InGammaZero gamma naming new y (array_bytes zeros (bytes_at new i))) (sym (put_either (zero_position info z) r r2 there long2)) k)
 
-    own_part : (z : ℕ) (zeros : ZeroPart) → slice_get info.shape.zeros z ≡ Some zeros → StandsZero stands naming new (zero_at l n (spell_zero info 0 new_zero leaves_row) (zero_position info z)) (array_bytes zeros (bytes_at new i))
+    own_part : (z : ℕ) (zeros : ZeroPart) → slice_get info.shape.zeros z ≡ Some zeros → InGammaZero gamma naming new (zero_at l n (spell_zero info 0 new_zero leaves_row) (zero_position info z)) (array_bytes zeros (bytes_at new i))
     unfolding spell_zero
-    own_part z zeros e = zero_turn l n (λ f. Unit {0}) (λ f. StandsZero stands naming new f (array_bytes zeros (bytes_at new i))) (zero_position info z) (spell_part info 0 new_zero zeros z) leaves_row _
+    own_part z zeros e = zero_turn l n (λ f. Unit {0}) (λ f. InGammaZero gamma naming new f (array_bytes zeros (bytes_at new i))) (zero_position info z) (spell_part info 0 new_zero zeros z) leaves_row _
         (part_turn info fits (spell_part info 0 new_zero) (spelled_part l n flow info fits declared_is 0 info.size text) z zeros e leaves_row)
         (λ r same u. part_stands z zeros e r (same ∙ leaves_long)) tt
 
-    pub literal_stands : StandsBase l n stands flow naming new b info (spell l n flow.bases.items b 0 info.size text row)
+    pub literal_stands : InGammaBase l n gamma flow naming new b info (spell l n flow.bases.items b 0 info.size text row)
     unfolding spell spell_object spell_zero
-    literal_stands = subst (StandsBase l n stands flow naming new b info) (sym (ap (λ z. at_base (spell_object l n 0 info.size text) z row) object.among)) (record {
+    literal_stands = subst (InGammaBase l n gamma flow naming new b info) (sym (ap (λ z. at_base (spell_object l n 0 info.size text) z row) object.among)) (record {
       leaves = λ j leaf e.
           let w = slice_get_within info.shape.cells j leaf e in
           let x = rows.leaf_is info j fits w in
-          subst (StandsLeaf stands flow naming new b leaf) (sym (same_value l n leaves_row (spell_object l n 0 info.size text info row) (leaf_position info j) ((zeros_within info fits (spell_part info 0 new_zero) (spelled_part l n flow info fits declared_is 0 info.size text)).keeps leaves_row (leaf_position info j) (λ from to. omega (arith, from, x, w))))) (own_leaf j leaf e);
+          subst (InGammaLeaf gamma flow naming new b leaf) (sym (same_value l n leaves_row (spell_object l n 0 info.size text info row) (leaf_position info j) ((zeros_within info fits (spell_part info 0 new_zero) (spelled_part l n flow info fits declared_is 0 info.size text)).keeps leaves_row (leaf_position info j) (λ from to. omega (arith, from, x, w))))) (own_leaf j leaf e);
       classes = λ c heap h. absurd (true≢false (sym heap ∙ declared_is));
       zeros = λ z j zeros e w.
           let is : j ≡ i = sane.one j i b info object.among (λ f. let g : Literal ≡ Older = sym object.kind ∙ f in absurd (cc)) w.named object.named (λ f. live_ended (sym w.alive ∙ f)) (λ f. live_ended (sym object.alive ∙ f)) in
-          subst (λ y. StandsZero stands naming new (zero_at l n (spell_object l n 0 info.size text info row) (zero_position info z)) (array_bytes zeros (bytes_at new y))) (sym is) (own_part z zeros e);
+          subst (λ y. InGammaZero gamma naming new (zero_at l n (spell_object l n 0 info.size text info row) (zero_position info z)) (array_bytes zeros (bytes_at new y))) (sym is) (own_part z zeros e);
       states = λ j heap named. absurd (true≢false (sym heap ∙ declared_is));
     })
 
 -- ---- the theorem
 
-module _ {I : Type 0} {l : LatticeOf I} {n : IntegersOf I} {stands : I → ℤ → Type 0} (o : OrderLaws l) (q : BoundLaws l n stands) (flow : Flow) where
-  pub literals_stand : LiteralsStand l n stands flow
+module _ {I : Type 0} {l : LatticeOf I} {n : IntegersOf I} {gamma : I → ℤ → Type 0} (o : OrderLaws l) (q : BoundLaws l n gamma) (flow : Flow) where
+  pub literals_stand : LiteralsStand l n gamma flow
   literals_stand limits good p naming memory sane b i info text object row long =
       let at = instance_there memory i object.alive in
       literal_stands o q flow p limits good naming memory sane b i info text object at.0 at.1 row long

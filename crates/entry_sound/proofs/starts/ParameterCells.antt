@@ -31,9 +31,9 @@ use Rattle.memory_model.specs.Memory.Instances.{Memory, bytes_at, byte_at}
 use Rattle.memory_model.specs.Memory.Numbers.{number_of}
 use Rattle.memory_model.specs.Effects.Touches.{is_allocated}
 use Rattle.store_sound.specs.Concretization.Matching.{number_in}
-use Rattle.store_sound.specs.Concretization.RowMeaning.{IsLiveOf, StandsLeaf}
+use Rattle.store_sound.specs.Concretization.RowMeaning.{IsLiveOf, InGammaLeaf}
 use Rattle.store_sound.specs.Concretization.SoundMemory.{IsMemoryOf, storage_for}
-use Rattle.store_sound.specs.Concretization.ValueMeaning.{Naming, StandsContent}
+use Rattle.store_sound.specs.Concretization.ValueMeaning.{Naming, InGammaContent}
 use Rattle.store_sound.proofs.operations.Classes.{integer_class}
 use Rattle.store_sound.proofs.operations.FreshValues.{type_near}
 use Rattle.store_sound.proofs.operations.Only.{cell_put}
@@ -43,7 +43,7 @@ use Rattle.store_sound.proofs.operations.StoreZeros.{between_stands, some_betwee
 use Rattle.store_sound.proofs.chars.ByteValues.{number_within}
 use Rattle.store_sound.specs.Programs.Premises.{HasPremises}
 use Rattle.store_sound.proofs.programs.Sizes.{same_bytes}
-use Rattle.store_sound.specs.Regions.RegionWrites.{StandsBase}
+use Rattle.store_sound.specs.Regions.RegionWrites.{InGammaBase}
 use Rattle.library_sound.proofs.NearScalars.{near_number_stands}
 use Rattle.entry_sound.specs.Starts.Parameters.{IsParameterObject, ParametersStand}
 
@@ -53,7 +53,7 @@ same_least a b e f = rw (e, f) refl
 same_greatest : (a b : IntType) → a.bytes ≡ b.bytes → a.signed ≡ b.signed → greatest_of a ≡ greatest_of b
 same_greatest a b e f = rw (e, f) refl
 
-module _ {I : Type 0} {l : LatticeOf I} {n : IntegersOf I} {stands : I → ℤ → Type 0} (o : OrderLaws l) (q : BoundLaws l n stands) (flow : Flow) (p : HasPremises flow) (naming : Naming) (memory : Memory) (sane : IsMemoryOf flow.model flow.bases.items naming memory) (b i : ℕ) (info : BaseInfo) (kind : IntType) (object : IsParameterObject flow naming memory b i info kind) where
+module _ {I : Type 0} {l : LatticeOf I} {n : IntegersOf I} {gamma : I → ℤ → Type 0} (o : OrderLaws l) (q : BoundLaws l n gamma) (flow : Flow) (p : HasPremises flow) (naming : Naming) (memory : Memory) (sane : IsMemoryOf flow.model flow.bases.items naming memory) (b i : ℕ) (info : BaseInfo) (kind : IntType) (object : IsParameterObject flow naming memory b i info kind) where
   declared_is : info.shape.heap ≡ false
   declared_is = sym (p.shaped.each b info object.among).kind ∙ ap (λ k. is_allocated (storage_for k)) object.automatic
 
@@ -76,17 +76,17 @@ module _ {I : Type 0} {l : LatticeOf I} {n : IntegersOf I} {stands : I → ℤ �
       let e : kind.bytes ≡ kinds.class_bytes flow.model (class_of kind) = eqb-true kind.bytes (kinds.class_bytes flow.model (class_of kind)) d.0 in
       ap (class_bytes flow.model) object.class ∙ sym (e ∙ same_bytes flow.model (class_of kind) p.model)
 
-  in_range : (z : ℤ) → least_of kind ≤ℤ z → z ≤ℤ greatest_of kind → stands (near_value l n any).num z
+  in_range : (z : ℤ) → least_of kind ≤ℤ z → z ≤ℤ greatest_of kind → gamma (near_value l n any).num z
   in_range z h k =
       let near = type_near kind z z size h k in
       let e = some_between o q (least_of kind) (greatest_of kind) (omega (arith, ints, h, k)) in
-      near_number_stands q any.num z (record { from = near.0; to = near.1 }) (subst (λ x. stands x z) (sym e) (between_stands o q (least_of kind) (greatest_of kind) z h k))
+      near_number_stands q any.num z (record { from = near.0; to = near.1 }) (subst (λ x. gamma x z) (sym e) (between_stands o q (least_of kind) (greatest_of kind) z h k))
 
   input_at : (a j : ℕ) (x : Byte) → j ≡ i → byte_at memory j a ≡ Some x → slice_get (bytes_at memory i) a ≡ Some x
   unfolding byte_at
   input_at a j x e h = subst (λ z. slice_get (bytes_at memory z) a ≡ Some x) e h
 
-  leaf_stands : StandsLeaf stands flow naming memory b object.leaf (near_value l n any)
+  leaf_stands : InGammaLeaf gamma flow naming memory b object.leaf (near_value l n any)
   leaf_stands = record {
     whole = λ j a ns w place plain holds.
         let r = number_within flow.model object.leaf.class object.leaf.signed ns holds.size (λ k y e.
@@ -97,7 +97,7 @@ module _ {I : Type 0} {l : LatticeOf I} {n : IntegersOf I} {stands : I → ℤ �
     byte = λ j a k content w owns m.
         let here : slice_get (bytes_at memory i) a ≡ Some (record { content = content; tag = m.tag }) = input_at a j (record { content = content; tag = m.tag }) (single j w) m.here in
         let r = object.input a (record { content = content; tag = m.tag }) here in
-        subst (StandsContent stands naming memory (near_value l n any) object.leaf.class) (sym r.1) (labels_order.reflexive (sets.input_labels kind), λ e. absurd (true≢false (sym e ∙ (ap is_pointer object.class ∙ integer_class kind))));
+        subst (InGammaContent gamma naming memory (near_value l n any) object.leaf.class) (sym r.1) (labels_order.reflexive (sets.input_labels kind), λ e. absurd (true≢false (sym e ∙ (ap is_pointer object.class ∙ integer_class kind))));
   }
 
   module _ (row : List (Cell I)) (long : length row ≡ flow.width) where
@@ -119,11 +119,11 @@ module _ {I : Type 0} {l : LatticeOf I} {n : IntegersOf I} {stands : I → ℤ �
     unfolding value_at
     value_is = ap (λ z. near_value l n (value_in l z)) (cell_put row (leaf_position info 0) (Value any) there)
 
-    only_leaf : (j : ℕ) (leaf : Leaf) → slice_get (object.leaf ∷ []) j ≡ Some leaf → StandsLeaf stands flow naming memory b leaf (value_at l n after (leaf_position info j))
-    only_leaf zero leaf e = subst (λ z. StandsLeaf stands flow naming memory b z (value_at l n after (leaf_position info 0))) (same_Some object.leaf leaf e) (subst (StandsLeaf stands flow naming memory b object.leaf) (sym value_is) leaf_stands)
+    only_leaf : (j : ℕ) (leaf : Leaf) → slice_get (object.leaf ∷ []) j ≡ Some leaf → InGammaLeaf gamma flow naming memory b leaf (value_at l n after (leaf_position info j))
+    only_leaf zero leaf e = subst (λ z. InGammaLeaf gamma flow naming memory b z (value_at l n after (leaf_position info 0))) (same_Some object.leaf leaf e) (subst (InGammaLeaf gamma flow naming memory b object.leaf) (sym value_is) leaf_stands)
     only_leaf (suc j) leaf e = cc
 
-    base_stands : StandsBase l n stands flow naming memory b info after
+    base_stands : InGammaBase l n gamma flow naming memory b info after
     base_stands = record {
       leaves = λ j leaf e. only_leaf j leaf (sym (ap (λ z. slice_get z j) object.cells) ∙ e);
       classes = λ c heap h. absurd (true≢false (sym heap ∙ declared_is));
@@ -134,9 +134,9 @@ module _ {I : Type 0} {l : LatticeOf I} {n : IntegersOf I} {stands : I → ℤ �
         none : {P : Type 0} (z : ℕ) (zeros : ZeroPart) → slice_get [] z ≡ Some zeros → P
         none z zeros e = absurd (cc)
 
-    pub parameter_stands : StandsBase l n stands flow naming memory b info (put_parameter l n kind (slice_get flow.bases.items b) row)
-    parameter_stands = subst (λ z. StandsBase l n stands flow naming memory b info (put_parameter l n kind z row)) (sym object.among) (subst (λ z. StandsBase l n stands flow naming memory b info (cond z after row)) (sym size) base_stands)
+    pub parameter_stands : InGammaBase l n gamma flow naming memory b info (put_parameter l n kind (slice_get flow.bases.items b) row)
+    parameter_stands = subst (λ z. InGammaBase l n gamma flow naming memory b info (put_parameter l n kind z row)) (sym object.among) (subst (λ z. InGammaBase l n gamma flow naming memory b info (cond z after row)) (sym size) base_stands)
 
-module _ {I : Type 0} {l : LatticeOf I} {n : IntegersOf I} {stands : I → ℤ → Type 0} (o : OrderLaws l) (q : BoundLaws l n stands) (flow : Flow) where
-  pub parameters_stand : ParametersStand l n stands flow
+module _ {I : Type 0} {l : LatticeOf I} {n : IntegersOf I} {gamma : I → ℤ → Type 0} (o : OrderLaws l) (q : BoundLaws l n gamma) (flow : Flow) where
+  pub parameters_stand : ParametersStand l n gamma flow
   parameters_stand p naming memory sane b i info kind object row long = parameter_stands o q flow p naming memory sane b i info kind object row long

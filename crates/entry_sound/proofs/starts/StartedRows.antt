@@ -38,13 +38,13 @@ use Rattle.memory_model.specs.Effects.Worlds.{Reply, goes, stops}
 use Rattle.lower_templates.specs.Views.ProgramViews.{FlowView, flow_view}
 use Rattle.semantics.specs.CfgMachine.FlowStates.{Standing, running}
 use Rattle.semantics.specs.CfgMachine.FlowStarts.{first_standing, begun_by}
-use Rattle.store_sound.specs.Concretization.RowMeaning.{StandsFor}
+use Rattle.store_sound.specs.Concretization.RowMeaning.{InGamma}
 use Rattle.store_sound.specs.Concretization.SoundMemory.{storage_for}
 use Rattle.store_sound.specs.Concretization.ValueMeaning.{Naming}
 use Rattle.store_sound.proofs.operations.Slices.{get_set_other}
 use Rattle.store_sound.proofs.operations.StoreRows as rows
 use Rattle.store_sound.specs.Programs.Premises.{HasPremises}
-use Rattle.store_sound.specs.Regions.RegionWrites.{StandsBase}
+use Rattle.store_sound.specs.Regions.RegionWrites.{InGammaBase}
 use Rattle.store_sound.proofs.regions.BaseRows.{same_base}
 use Rattle.library_sound.proofs.BlankRows as blank
 use Rattle.entry_sound.specs.Starts.Parameters.{IsParameterObject}
@@ -80,7 +80,7 @@ module _ {I : Type 0} (l : LatticeOf I) (n : IntegersOf I) (flow : Flow) where
 
 -- ---- rows beside some cells
 
-module _ {I : Type 0} {l : LatticeOf I} {n : IntegersOf I} {stands : I → ℤ → Type 0} (o : OrderLaws l) (q : BoundLaws l n stands) (c : SoundLaws l n stands) (ranges : RangeLaws l n) (flow : Flow) (limits : Limits) (good : is_well_formed limits flow ≡ true) (p : HasPremises flow) (u : UnitView) (same : u.model ≡ flow.model)
+module _ {I : Type 0} {l : LatticeOf I} {n : IntegersOf I} {gamma : I → ℤ → Type 0} (o : OrderLaws l) (q : BoundLaws l n gamma) (c : SoundLaws l n gamma) (ranges : RangeLaws l n) (flow : Flow) (limits : Limits) (good : is_well_formed limits flow ≡ true) (p : HasPremises flow) (u : UnitView) (same : u.model ≡ flow.model)
     (naming : Naming) (memory : Memory) (entered : ℕ → Option ℕ) (g : IsBeginning u flow naming memory entered) where
   fits : (b : ℕ) (info : BaseInfo) → slice_get flow.bases.items b ≡ Some info → rows.Fits info
   fits b info at = let a = p.laid.laid.close b info at in let d = p.laid.laid.small in omega (arith, a, d)
@@ -103,11 +103,11 @@ module _ {I : Type 0} {l : LatticeOf I} {n : IntegersOf I} {stands : I → ℤ �
       subst (IsBeside l n flow info (fits b info at) declared row) f (record { long = w.long row; keeps = w.keeps row })
 
   -- and its own cells stand for its bytes
-  value_stands : (b i : ℕ) (info : BaseInfo) (value : InitialValue) → HasStart u flow naming memory entered b i info value → (row after : List (Cell I)) → length row ≡ flow.width → start_value l n flow b info.size value row ≡ Some after → StandsBase l n stands flow naming memory b info after
+  value_stands : (b i : ℕ) (info : BaseInfo) (value : InitialValue) → HasStart u flow naming memory entered b i info value → (row after : List (Cell I)) → length row ≡ flow.width → start_value l n flow b info.size value row ≡ Some after → InGammaBase l n gamma flow naming memory b info after
   unfolding start_value
   value_stands b i info (initial.Stores stores) h row after long e = static_objects_stand o q c ranges flow limits good p u same naming memory entered g.sane g.lives g.short b i info h.0 stores.items h.1.0 h.1.1 row after long e
   value_stands b i info (initial.Literal text) h row after long e =
-      subst (StandsBase l n stands flow naming memory b info) (same_Some (spell l n flow.bases.items b 0 info.size text row) after e) (literals_stand o q flow limits good p naming memory g.sane b i info text h row long)
+      subst (InGammaBase l n gamma flow naming memory b info) (same_Some (spell l n flow.bases.items b 0 info.size text row) after e) (literals_stand o q flow limits good p naming memory g.sane b i info text h row long)
 
   -- ---- objects in order
 
@@ -169,19 +169,19 @@ module _ {I : Type 0} {l : LatticeOf I} {n : IntegersOf I} {stands : I → ℤ �
   pub base_apart : (b d : ℕ) (info : BaseInfo) → slice_get flow.bases.items b ≡ Some info → (b ≡ d → ⊥) → (x : ℕ) → info.first ≤ x → x < info.first + base_values info → IsOutside x d
   base_apart b d info at ne x from to other e f h = elim (p.laid.laid.apart b d info other at e ne) [ inl y ↦ omega (arith, y, to, f) | inr y ↦ omega (arith, y, from, h) ]
 
-  made_stands : (b : ℕ) (base : Option ℕ) (ob : InitialObject) → base ≡ Some b → IsBegun u flow naming memory entered b ob → (row now : List (Cell I)) → length row ≡ flow.width → start_object l n flow base ob.size ob.value row ≡ Some now → (info : BaseInfo) → slice_get flow.bases.items b ≡ Some info → StandsBase l n stands flow naming memory b info now
+  made_stands : (b : ℕ) (base : Option ℕ) (ob : InitialObject) → base ≡ Some b → IsBegun u flow naming memory entered b ob → (row now : List (Cell I)) → length row ≡ flow.width → start_object l n flow base ob.size ob.value row ≡ Some now → (info : BaseInfo) → slice_get flow.bases.items b ≡ Some info → InGammaBase l n gamma flow naming memory b info now
   unfolding start_object
   made_stands b None ob is h row now long e info at = absurd (cc)
   made_stands b (Some d) ob is h row now long e info at =
       let same_base_number : d ≡ b = same_Some d b is in
       let f : start_value l n flow b ob.size ob.value row ≡ Some now = subst (λ z. start_value l n flow z ob.size ob.value row ≡ Some now) same_base_number e in
       let k : start_value l n flow b h.info.size ob.value row ≡ Some now = subst (λ z. start_value l n flow b z ob.value row ≡ Some now) (sym h.size) f in
-      subst (λ z. StandsBase l n stands flow naming memory b z now) (same_Some h.info info (sym h.among ∙ at)) (value_stands b h.instance h.info ob.value h.starts row now long k)
+      subst (λ z. InGammaBase l n gamma flow naming memory b z now) (same_Some h.info info (sym h.among ∙ at)) (value_stands b h.instance h.info ob.value h.starts row now long k)
 
   abbrev pub AreOwn : List InitialObject → Type 0
   AreOwn os = (j k b : ℕ) (x y : InitialObject) → slice_get os j ≡ Some x → slice_get os k ≡ Some y → x.base ≡ Some b → y.base ≡ Some b → j ≡ k
 
-  all_stand : (at : ℕ) (os : List InitialObject) → AreBegun os → AreOwn os → (row after : List (Cell I)) → length row ≡ flow.width → starts at os (Some row) ≡ Some after → (k b : ℕ) (ob : InitialObject) → slice_get os k ≡ Some ob → ob.base ≡ Some b → (info : BaseInfo) → slice_get flow.bases.items b ≡ Some info → StandsBase l n stands flow naming memory b info after
+  all_stand : (at : ℕ) (os : List InitialObject) → AreBegun os → AreOwn os → (row after : List (Cell I)) → length row ≡ flow.width → starts at os (Some row) ≡ Some after → (k b : ℕ) (ob : InitialObject) → slice_get os k ≡ Some ob → ob.base ≡ Some b → (info : BaseInfo) → slice_get flow.bases.items b ≡ Some info → InGammaBase l n gamma flow naming memory b info after
   all_stand at [] begun own row after long e k b ob h is info there = absurd (cc)
   all_stand at (x ∷ os) begun own row after long e zero b ob h is info there =
       let f = first_of x at os row after e in
@@ -233,17 +233,17 @@ module _ {I : Type 0} {l : LatticeOf I} {n : IntegersOf I} {stands : I → ℤ �
   abbrev AreOwnTo : List ParameterInput → Type 0
   AreOwnTo ps = (j k : ℕ) (x y : ParameterInput) → slice_get ps j ≡ Some x → slice_get ps k ≡ Some y → x.base ≡ y.base → j ≡ k
 
-  taken_stand : (at : ℕ) (ps : List ParameterInput) → AreTaken ps → AreOwnTo ps → (row : List (Cell I)) → length row ≡ flow.width → (k : ℕ) (y : ParameterInput) → slice_get ps k ≡ Some y → (info : BaseInfo) → slice_get flow.bases.items y.base ≡ Some info → StandsBase l n stands flow naming memory y.base info (takes at ps row)
+  taken_stand : (at : ℕ) (ps : List ParameterInput) → AreTaken ps → AreOwnTo ps → (row : List (Cell I)) → length row ≡ flow.width → (k : ℕ) (y : ParameterInput) → slice_get ps k ≡ Some y → (info : BaseInfo) → slice_get flow.bases.items y.base ≡ Some info → InGammaBase l n gamma flow naming memory y.base info (takes at ps row)
   unfolding takes start_parameter
   taken_stand at [] taken own row long k y h info there = absurd (cc)
   taken_stand at (x ∷ ps) taken own row long zero y h info there =
       let first : x ≡ y = same_Some x y h in
       let t = taken 0 y (ap Some first) in
       let now : List (Cell I) = put_parameter l n y.kind (slice_get flow.bases.items y.base) row in
-      let s : StandsBase l n stands flow naming memory y.base info now = subst (λ z. StandsBase l n stands flow naming memory y.base z now) (same_Some t.info info (sym t.object.among ∙ there)) (parameters_stand o q flow p naming memory g.sane y.base t.instance t.info y.kind t.object row long) in
+      let s : InGammaBase l n gamma flow naming memory y.base info now = subst (λ z. InGammaBase l n gamma flow naming memory y.base z now) (same_Some t.info info (sym t.object.among ∙ there)) (parameters_stand o q flow p naming memory g.sane y.base t.instance t.info y.kind t.object row long) in
       let kept = taken_kept (at + 1) ps (λ k z h. taken (suc k) z h) now in
       let last = same_base flow naming memory y.base info now (takes (at + 1) ps now) (fits y.base info there) (λ a from to. kept.cells a (λ k z h2. base_apart y.base z.base info there (λ ne. let w : 0 ≡ suc k = own 0 (suc k) y z (ap Some first) h2 ne in absurd (cc)) a from to)) s in
-      subst (λ z. StandsBase l n stands flow naming memory y.base info (takes (at + 1) ps (put_parameter l n z.kind (slice_get flow.bases.items z.base) row))) (sym first) last
+      subst (λ z. InGammaBase l n gamma flow naming memory y.base info (takes (at + 1) ps (put_parameter l n z.kind (slice_get flow.bases.items z.base) row))) (sym first) last
   taken_stand at (x ∷ ps) taken own row long (suc k) y h info there =
       let one = put_kept x (taken 0 x refl) row in
       taken_stand (at + 1) ps (λ k z h. taken (suc k) z h) (λ j k z w h i e. suc_same j k (own (suc j) (suc k) z w h i e)) (put_parameter l n x.kind (slice_get flow.bases.items x.base) row) (one.long ∙ long) k y h info there
@@ -268,7 +268,7 @@ module _ {I : Type 0} {l : LatticeOf I} {n : IntegersOf I} {stands : I → ℤ �
     abbrev last : List (Cell I)
     last = takes 0 flow.parameters.items mid
 
-    object_stands : (b : ℕ) → HasObject u flow naming memory entered b → (info : BaseInfo) → slice_get flow.bases.items b ≡ Some info → StandsBase l n stands flow naming memory b info last
+    object_stands : (b : ℕ) → HasObject u flow naming memory entered b → (info : BaseInfo) → slice_get flow.bases.items b ≡ Some info → InGammaBase l n gamma flow naming memory b info last
     object_stands b h info there =
         let s = all_stand 0 flow.initial.items g.objects g.own_objects (empty_row l flow row) mid first_long begun h.at b h.object h.among h.base info there in
         let kept = taken_kept 0 flow.parameters.items g.parameters mid in
@@ -278,16 +278,16 @@ module _ {I : Type 0} {l : LatticeOf I} {n : IntegersOf I} {stands : I → ℤ �
         let same_info : t.info ≡ x.info = same_Some t.info x.info (sym t.object.among ∙ (ap (slice_get flow.bases.items) (sym ne) ∙ x.among)) in
         other_kind b x.instance t.instance x.info h.object.value y.kind x.starts (subst (λ z. IsParameterObject flow naming memory z t.instance x.info y.kind) (sym ne) (subst (λ z. IsParameterObject flow naming memory y.base t.instance z y.kind) same_info t.object))) a from to)) s
 
-    parameter_stands : (b : ℕ) → HasParameter u flow naming memory entered b → (info : BaseInfo) → slice_get flow.bases.items b ≡ Some info → StandsBase l n stands flow naming memory b info last
-    parameter_stands b h info there = subst (λ z. StandsBase l n stands flow naming memory z info last) h.base (taken_stand 0 flow.parameters.items g.parameters g.own_parameters mid mid_long h.at h.parameter h.among info (ap (slice_get flow.bases.items) h.base ∙ there))
+    parameter_stands : (b : ℕ) → HasParameter u flow naming memory entered b → (info : BaseInfo) → slice_get flow.bases.items b ≡ Some info → InGammaBase l n gamma flow naming memory b info last
+    parameter_stands b h info there = subst (λ z. InGammaBase l n gamma flow naming memory z info last) h.base (taken_stand 0 flow.parameters.items g.parameters g.own_parameters mid mid_long h.at h.parameter h.among info (ap (slice_get flow.bases.items) h.base ∙ there))
 
-    named_stands : (i b : ℕ) → naming i ≡ Some b → (info : BaseInfo) → slice_get flow.bases.items b ≡ Some info → StandsBase l n stands flow naming memory b info last
+    named_stands : (i b : ℕ) → naming i ≡ Some b → (info : BaseInfo) → slice_get flow.bases.items b ≡ Some info → InGammaBase l n gamma flow naming memory b info last
     named_stands i b named info there = elim (g.all i b named) [
       | inl h ↦ object_stands b h info there
       | inr h ↦ parameter_stands b h info there
     ]
 
-    all_stands : StandsFor l n stands flow naming last (record { memory = memory; temps = empty_table; entered = entered })
+    all_stands : InGamma l n gamma flow naming last (record { memory = memory; temps = empty_table; entered = entered })
     all_stands = record {
       sane = g.sane;
       held = record { within = λ t scalar e. absurd (cc); named = λ t x e. absurd (cc) };
@@ -305,16 +305,16 @@ module _ {I : Type 0} {l : LatticeOf I} {n : IntegersOf I} {stands : I → ℤ �
       temps = λ t scalar e. absurd (cc);
     }
 
-  row_stands : (row after : List (Cell I)) → length row ≡ flow.width → start_row l n flow row ≡ Some after → StandsFor l n stands flow naming after (record { memory = memory; temps = empty_table; entered = entered })
+  row_stands : (row after : List (Cell I)) → length row ≡ flow.width → start_row l n flow row ≡ Some after → InGamma l n gamma flow naming after (record { memory = memory; temps = empty_table; entered = entered })
   unfolding start_row start_objects start_parameters takes
   row_stands row after long e = by_row (starts 0 flow.initial.items (Some (empty_row l flow row))) refl
     where
-      by_row : (r : Option (List (Cell I))) → starts 0 flow.initial.items (Some (empty_row l flow row)) ≡ r → StandsFor l n stands flow naming after (record { memory = memory; temps = empty_table; entered = entered })
+      by_row : (r : Option (List (Cell I))) → starts 0 flow.initial.items (Some (empty_row l flow row)) ≡ r → InGamma l n gamma flow naming after (record { memory = memory; temps = empty_table; entered = entered })
       by_row None f = absurd (none_is (subst (λ z. started l n flow z ≡ Some after) f e))
         where
           none_is : started l n flow None ≡ Some after → ⊥
           none_is h = cc
-      by_row (Some mid) f = subst (λ z. StandsFor l n stands flow naming z (record { memory = memory; temps = empty_table; entered = entered })) (same_Some (takes 0 flow.parameters.items mid) after (subst (λ z. started l n flow z ≡ Some after) f e)) (all_stands row mid long f)
+      by_row (Some mid) f = subst (λ z. InGamma l n gamma flow naming z (record { memory = memory; temps = empty_table; entered = entered })) (same_Some (takes 0 flow.parameters.items mid) after (subst (λ z. started l n flow z ≡ Some after) f e)) (all_stands row mid long f)
 
   row_long : (row after : List (Cell I)) → length row ≡ flow.width → start_row l n flow row ≡ Some after → length after ≡ flow.width
   unfolding start_row start_objects start_parameters takes
@@ -334,8 +334,8 @@ no_temps : (u : UnitView) (f : FlowView) (r : Reply (Unit {0})) (s : Standing) �
 no_temps u f (goes x w) s e = let h : first_standing u f w ≡ s = cc in ap (λ z. z.temps) h
 no_temps u f (stops why w) s e = absurd (cc)
 
-module _ {I : Type 0} {l : LatticeOf I} {n : IntegersOf I} {stands : I → ℤ → Type 0} (o : OrderLaws l) (q : BoundLaws l n stands) (c : SoundLaws l n stands) (ranges : RangeLaws l n) (flow : Flow) where
-  pub runs_begin : RunsBeginInStartRows l n stands flow
+module _ {I : Type 0} {l : LatticeOf I} {n : IntegersOf I} {gamma : I → ℤ → Type 0} (o : OrderLaws l) (q : BoundLaws l n gamma) (c : SoundLaws l n gamma) (ranges : RangeLaws l n) (flow : Flow) where
+  pub runs_begin : RunsBeginInStartRows l n gamma flow
   runs_begin limits good p u same begins row after long e draws s run =
       let h = begins draws s run in
       let st = row_stands o q c ranges flow limits good p u same h.naming s.world.memory s.bases h.beginning row after long e in
@@ -344,9 +344,9 @@ module _ {I : Type 0} {l : LatticeOf I} {n : IntegersOf I} {stands : I → ℤ �
         is = refl;
         long = row_long o q c ranges flow limits good p u same h.naming s.world.memory s.bases h.beginning row after long e;
         naming = h.naming;
-        stands_for = subst (λ t. StandsFor l n stands flow h.naming after (record { memory = s.world.memory; temps = t; entered = s.bases })) (no_temps u (flow_view flow) (start_world u draws) s run) st;
+        stands_for = subst (λ t. InGamma l n gamma flow h.naming after (record { memory = s.world.memory; temps = t; entered = s.bases })) (no_temps u (flow_view flow) (start_world u draws) s run) st;
         short = h.beginning.short;
       }
 
-  pub start_rows_stand : StartRowsStand l n stands flow
+  pub start_rows_stand : StartRowsStand l n gamma flow
   start_rows_stand limits good p u same naming memory entered g row after long e = row_stands o q c ranges flow limits good p u same naming memory entered g row after long e

@@ -46,9 +46,9 @@ use Rattle.memory_model.specs.Effects.Touches.{storage_of, storage_at, set_bytes
 use Rattle.memory_model.specs.Effects.UnitStarts.{value_bytes, stored, all_stored}
 use Rattle.memory_model.specs.Effects.Worlds.{World, goes}
 use Rattle.store_sound.specs.Concretization.Coverage.{state_of}
-use Rattle.store_sound.specs.Concretization.RowMeaning.{IsLiveOf, StandsFor}
+use Rattle.store_sound.specs.Concretization.RowMeaning.{IsLiveOf, InGamma}
 use Rattle.store_sound.specs.Concretization.SoundMemory.{IsPointerIn, IsInstanceOf, IsMemoryOf, AreEntered, storage_for}
-use Rattle.store_sound.specs.Concretization.ValueMeaning.{Naming, StandsPointer, StandsScalar}
+use Rattle.store_sound.specs.Concretization.ValueMeaning.{Naming, InGammaPointer, InGammaScalar}
 use Rattle.store_sound.specs.Operations.Gives.{Gives}
 use Rattle.store_sound.specs.Operations.Scalars.{signed_in}
 use Rattle.store_sound.specs.Operations.Shapes.{IsLaidOut}
@@ -61,7 +61,7 @@ use Rattle.store_sound.proofs.operations.StoreLeaves.{live_ended}
 use Rattle.store_sound.proofs.operations.StoreRows.{Fits}
 use Rattle.store_sound.proofs.operations.StoreSound.{store_stands}
 use Rattle.store_sound.proofs.chars.CharStoreSound.{any_char_store}
-use Rattle.store_sound.specs.Regions.RegionWrites.{IsRegion, StandsBase}
+use Rattle.store_sound.specs.Regions.RegionWrites.{IsRegion, InGammaBase}
 use Rattle.store_sound.proofs.regions.BaseRows.{same_base, stands_base}
 use Rattle.store_sound.proofs.regions.ContentRegions.{IsWritten, contents_written, contents_sane, region_content}
 use Rattle.store_sound.specs.Programs.Premises.{HasPremises}
@@ -101,11 +101,11 @@ set_alike memory i it at bytes long = subst (IsAlike memory) (sym (set_is memory
       | inr n ↦ ap f (get_set_other memory i j (record it { bytes = bytes }) n)
     ]
 
-near_near : {I : Type 0} {l : LatticeOf I} {n : IntegersOf I} {stands : I → ℤ → Type 0} (o : OrderLaws l) (q : BoundLaws l n stands) (v : values.Value I) → IsNearValue l n (near_value l n v)
+near_near : {I : Type 0} {l : LatticeOf I} {n : IntegersOf I} {gamma : I → ℤ → Type 0} (o : OrderLaws l) (q : BoundLaws l n gamma) (v : values.Value I) → IsNearValue l n (near_value l n v)
 unfolding value_at
 near_near o q v = value_at_near o q (Value v ∷ []) 0
 
-module _ {I : Type 0} {l : LatticeOf I} {n : IntegersOf I} {stands : I → ℤ → Type 0} (o : OrderLaws l) (q : BoundLaws l n stands) (c : SoundLaws l n stands) (ranges : RangeLaws l n) (flow : Flow) (p : HasPremises flow) (limits : Limits) (good : is_well_formed limits flow ≡ true) (u : UnitView) (same : u.model ≡ flow.model)
+module _ {I : Type 0} {l : LatticeOf I} {n : IntegersOf I} {gamma : I → ℤ → Type 0} (o : OrderLaws l) (q : BoundLaws l n gamma) (c : SoundLaws l n gamma) (ranges : RangeLaws l n) (flow : Flow) (p : HasPremises flow) (limits : Limits) (good : is_well_formed limits flow ≡ true) (u : UnitView) (same : u.model ≡ flow.model)
     (naming : Naming) (start : Memory) (entered : ℕ → Option ℕ) (b i : ℕ) (info : BaseInfo) (object : IsStaticObject flow entered b i info) where
   declared_is : info.shape.heap ≡ false
   declared_is = sym (p.shaped.each b info object.among).kind ∙ ap (λ k. is_allocated (storage_for k)) object.static
@@ -124,7 +124,7 @@ module _ {I : Type 0} {l : LatticeOf I} {n : IntegersOf I} {stands : I → ℤ �
     other : List (Cell I)
     long : length other ≡ flow.width
     alike : AreAlike info.first (info.first + base_values info) row other
-    stands_for : StandsFor l n stands flow naming other (state_of (standing entered (set_bytes start i bytes)))
+    stands_for : InGamma l n gamma flow naming other (state_of (standing entered (set_bytes start i bytes)))
 
   module _ (it : Instance) (at : slice_get start i ≡ Some it) (size : length it.bytes ≡ info.size) where
     -- ---- what is known of the object
@@ -195,21 +195,21 @@ module _ {I : Type 0} {l : LatticeOf I} {n : IntegersOf I} {stands : I → ℤ �
         abbrev at_place : Pointers I
         at_place = near_pointer l n (pointer_into n b info.size offset 0 info.size)
 
-        place_stands : StandsPointer stands naming memory at_place place
+        place_stands : InGammaPointer gamma naming memory at_place place
         place_stands = near_pointer_stands q flow.model flow.bases.items naming memory m.stands_for.sane (pointer_into n b info.size offset 0 info.size) place inside
             (into_stands o q u flow p naming memory i b info.size offset 0 info.size named (base_small o q u flow p naming memory i b (m.stands_for.sane.few i b) named) alive whole)
 
         abbrev y : values.Value I
         y = near_value l n (static_value l n flow.initial.items v)
 
-        y_stands : StandsScalar stands naming memory y (scalar_of u v)
+        y_stands : InGammaScalar gamma naming memory y (scalar_of u v)
         y_stands = value_stands o q u flow p naming start memory memory_alike m.stands_for.sane v is.0
 
         room_of_row : p.laid.behind ≤ length m.other
         room_of_row = subst (λ z. p.laid.behind ≤ z) (sym m.long) p.laid.long
 
         -- whatever the scalar
-        row_behind : (char : Bool) → same_class (machine.class_in kind) Char ≡ char → Gives (λ after. StandsFor l n stands flow naming after (record { memory = new; temps = empty_table; entered = entered })) (store l n flow.model flow.bases.items at_place (machine.class_in kind) (signed_in kind) y m.other)
+        row_behind : (char : Bool) → same_class (machine.class_in kind) Char ≡ char → Gives (λ after. InGamma l n gamma flow naming after (record { memory = new; temps = empty_table; entered = entered })) (store l n flow.model flow.bases.items at_place (machine.class_in kind) (signed_in kind) y m.other)
         row_behind false e = store_stands o q c ranges flow p.shaped p.laid.texts p.laid.behind p.laid.laid p.laid.temporaries naming m.other room_of_row (state_of (standing entered memory)) m.stands_for kind at_place place y (scalar_of u v) (scalar_of u v) world (record world { memory = new }) refl e place_stands inside y_stands (scalar_in o q u flow p naming start memory memory_alike m.stands_for.sane v is.0) (near_near o q (static_value l n flow.initial.items v)) went
         row_behind true e = any_char_store o q c ranges flow p.shaped p.laid.texts p.padding p.laid.behind p.laid.laid p.laid.temporaries naming m.other room_of_row (state_of (standing entered memory)) m.stands_for kind at_place place y (scalar_of u v) (scalar_of u v) world (record world { memory = new }) refl e place_stands inside y_stands (near_near o q (static_value l n flow.initial.items v)) went
 
@@ -222,7 +222,7 @@ module _ {I : Type 0} {l : LatticeOf I} {n : IntegersOf I} {stands : I → ℤ �
               other = g.value;
               long = store_keeps l n flow.model flow.bases.items at_place (machine.class_in kind) (signed_in kind) y m.other g.value g.is ∙ m.long;
               alike = store_alike l n flow.model flow.bases.items b info object.among declared_is info.first (info.first + base_values info) row m.other m.alike at_place refl (machine.class_in kind) (signed_in kind) y after g.value f g.is;
-              stands_for = subst (λ z. StandsFor l n stands flow naming g.value (record { memory = z; temps = empty_table; entered = entered })) new_is g.good;
+              stands_for = subst (λ z. InGamma l n gamma flow naming g.value (record { memory = z; temps = empty_table; entered = entered })) new_is g.good;
             }
 
       -- ---- a text
@@ -280,7 +280,7 @@ module _ {I : Type 0} {l : LatticeOf I} {n : IntegersOf I} {stands : I → ℤ �
         spelled_is : spelled_memory ≡ set_bytes start i (stored u (SetText offset room text) bytes)
         spelled_is = ap (λ z. set_bytes memory i (refilled z offset (contents room text))) (own_bytes start i it at bytes) ∙ bytes_twice start i it at bytes (refilled bytes offset (contents room text))
 
-        row_spelled : StandsFor l n stands flow naming (spell_object l n offset room text info m.other) (record { memory = spelled_memory; temps = empty_table; entered = entered })
+        row_spelled : InGamma l n gamma flow naming (spell_object l n offset room text info m.other) (record { memory = spelled_memory; temps = empty_table; entered = entered })
         row_spelled = spelled_stands o q flow naming m.other (state_of (standing entered memory)) (subst (IsLaidOut flow) (sym m.long) p.laid) m.stands_for spelled_memory i offset room text b info object.among named is_spelled spelled_sane single
 
         text_made : (after : List (Cell I)) → Some (spell l n flow.bases.items b offset room text row) ≡ Some after → IsMade (stored u (SetText offset room text) bytes) after
@@ -292,7 +292,7 @@ module _ {I : Type 0} {l : LatticeOf I} {n : IntegersOf I} {stands : I → ℤ �
               other = spell_object l n offset room text info m.other;
               long = w.long m.other ∙ m.long;
               alike = subst (λ z. AreAlike info.first (info.first + base_values info) z (spell_object l n offset room text info m.other)) f (cellwise_alike info.first (info.first + base_values info) (spell_object l n offset room text info) w row m.other m.alike);
-              stands_for = subst (λ z. StandsFor l n stands flow naming (spell_object l n offset room text info m.other) (record { memory = z; temps = empty_table; entered = entered })) spelled_is row_spelled;
+              stands_for = subst (λ z. InGamma l n gamma flow naming (spell_object l n offset room text info m.other) (record { memory = z; temps = empty_table; entered = entered })) spelled_is row_spelled;
             }
 
     -- ---- stores in order
@@ -318,12 +318,12 @@ module _ {I : Type 0} {l : LatticeOf I} {n : IntegersOf I} {stands : I → ℤ �
 
     module _ (sane : IsMemoryOf flow.model flow.bases.items naming start) (lives : AreEntered flow.bases.items naming start entered) (short : AreShort flow.model start) (row : List (Cell I)) (long : length row ≡ flow.width) where
       abbrev first_row : List (Cell I)
-      first_row = top limits flow good l n stands p
+      first_row = top limits flow good l n gamma p
 
-      reached : IsReached l n stands flow naming first_row (standing entered start)
+      reached : IsReached l n gamma flow naming first_row (standing entered start)
       reached = record {
-        long = top_long limits flow good l n stands p;
-        stands_for = greatest_stands o q flow (every_base limits flow good l n stands p) first_row (top_greatest limits flow good l n stands p) naming start sane entered lives;
+        long = top_long limits flow good l n gamma p;
+        stands_for = greatest_stands o q flow (every_base limits flow good l n gamma p) first_row (top_greatest limits flow good l n gamma p) naming start sane entered lives;
         short = short;
         begun = refl;
       }
@@ -334,25 +334,25 @@ module _ {I : Type 0} {l : LatticeOf I} {n : IntegersOf I} {stands : I → ℤ �
       cleared_made : IsMade (all_of (number 0 no_labels) (bytes_at start i)) (clear_object l n info row)
       cleared_made = record {
         other = clear_object l n info first_row;
-        long = (clear_only l n info fits cells).long first_row ∙ top_long limits flow good l n stands p;
-        alike = clear_alike l n info fits cells declared_is row first_row (long ∙ sym (top_long limits flow good l n stands p)) row_room;
+        long = (clear_only l n info fits cells).long first_row ∙ top_long limits flow good l n gamma p;
+        alike = clear_alike l n info fits cells declared_is row first_row (long ∙ sym (top_long limits flow good l n gamma p)) row_room;
         stands_for = cleared_stands q flow p naming first_row (standing entered start) reached b i info object.among object.there declared_is not_older (λ z array e. parts_full limits flow good b info object.among declared_is z array e);
       }
 
-      pub object_stands : (stores : List StaticStore) → AreStoresOf u flow naming start b info stores → bytes_at start i ≡ all_stored u (map static_store_view stores) (all_of (number 0 no_labels) (bytes_at start i)) → (after : List (Cell I)) → start_stores l n flow b info.size stores (clear l n flow.bases.items b row) ≡ Some after → StandsBase l n stands flow naming start b info after
+      pub object_stands : (stores : List StaticStore) → AreStoresOf u flow naming start b info stores → bytes_at start i ≡ all_stored u (map static_store_view stores) (all_of (number 0 no_labels) (bytes_at start i)) → (after : List (Cell I)) → start_stores l n flow b info.size stores (clear l n flow.bases.items b row) ≡ Some after → InGammaBase l n gamma flow naming start b info after
       unfolding start_stores clear
       object_stands stores are bytes after e =
           let f : walk (store_at l n flow b info.size) 0 stores (Some (clear_object l n info row)) ≡ Some after = subst (λ z. walk (store_at l n flow b info.size) 0 stores (Some (at_base (clear_object l n) z row)) ≡ Some after) object.among e in
           let m = all_made 0 stores are (all_of (number 0 no_labels) (bytes_at start i)) (clear_object l n info row) after cleared_made f in
           let g : set_bytes start i (all_stored u (map static_store_view stores) (all_of (number 0 no_labels) (bytes_at start i))) ≡ start = ap (set_bytes start i) (sym bytes) ∙ bytes_own start i it at in
-          let h : StandsFor l n stands flow naming m.other (state_of (standing entered start)) = subst (λ z. StandsFor l n stands flow naming m.other (state_of (standing entered z))) g m.stands_for in
+          let h : InGamma l n gamma flow naming m.other (state_of (standing entered start)) = subst (λ z. InGamma l n gamma flow naming m.other (state_of (standing entered z))) g m.stands_for in
           same_base flow naming start b info m.other after fits m.alike.same
           (stands_base o q flow naming m.other (state_of (standing entered start)) (subst (IsLaidOut flow) (sym m.long) p.laid) h b info object.among)
 
 -- ---- the theorem
 
-module _ {I : Type 0} {l : LatticeOf I} {n : IntegersOf I} {stands : I → ℤ → Type 0} (o : OrderLaws l) (q : BoundLaws l n stands) (c : SoundLaws l n stands) (ranges : RangeLaws l n) (flow : Flow) where
-  pub static_objects_stand : StaticObjectsStand l n stands flow
+module _ {I : Type 0} {l : LatticeOf I} {n : IntegersOf I} {gamma : I → ℤ → Type 0} (o : OrderLaws l) (q : BoundLaws l n gamma) (c : SoundLaws l n gamma) (ranges : RangeLaws l n) (flow : Flow) where
+  pub static_objects_stand : StaticObjectsStand l n gamma flow
   static_objects_stand limits good p u same naming start entered sane lives short b i info object stores are bytes row after long e =
       let named = lives.named b i object.there in
       let at = instance_there start i (lives.alive b i object.there) in

@@ -12,9 +12,9 @@ use Rattle.memory_model.specs.Memory.Instances.{Memory}
 use Rattle.memory_model.specs.Effects.NumberedTables.{empty_table}
 use Rattle.store_sound.specs.Concretization.ValueMeaning.{Naming}
 use Rattle.store_sound.specs.Concretization.SoundMemory.{IsMemoryOf, AreEntered}
-use Rattle.store_sound.specs.Concretization.RowMeaning.{StandsFor}
+use Rattle.store_sound.specs.Concretization.RowMeaning.{InGamma}
 
-module _ {I : Type 0} (l : LatticeOf I) (n : IntegersOf I) (stands : I → ℤ → Type 0) (flow : Flow) where
+module _ {I : Type 0} (l : LatticeOf I) (n : IntegersOf I) (gamma : I → ℤ → Type 0) (flow : Flow) where
   -- each base has the greatest cells, and pointers may be to all bases
   pub record IsGreatest (all : Bases) (row : List (Cell I)) : Type 0 where
     pub every : (b : ℕ) → b < length flow.bases.items → bases_has all b ≡ true
@@ -23,4 +23,4 @@ module _ {I : Type 0} (l : LatticeOf I) (n : IntegersOf I) (stands : I → ℤ �
   -- whatever the bytes are, where the temporaries have nothing
   abbrev pub GreatestRowsStand : Type 0
   GreatestRowsStand = (all : Bases) (row : List (Cell I)) → IsGreatest all row → (naming : Naming) (memory : Memory) (entered : ℕ → Option ℕ) → IsMemoryOf flow.model flow.bases.items naming memory → AreEntered flow.bases.items naming memory entered
-      → StandsFor l n stands flow naming row (record { memory = memory; temps = empty_table; entered = entered })
+      → InGamma l n gamma flow naming row (record { memory = memory; temps = empty_table; entered = entered })

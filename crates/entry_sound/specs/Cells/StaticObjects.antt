@@ -30,7 +30,7 @@ use Rattle.memory_model.specs.Effects.UnitStarts.{base_instance, all_stored}
 use Rattle.store_sound.specs.Concretization.ValueMeaning.{Naming}
 use Rattle.store_sound.specs.Concretization.SoundMemory.{IsMemoryOf, AreEntered}
 use Rattle.store_sound.specs.Programs.Premises.{HasPremises}
-use Rattle.store_sound.specs.Regions.RegionWrites.{StandsBase}
+use Rattle.store_sound.specs.Regions.RegionWrites.{InGammaBase}
 use Rattle.library_sound.specs.SoundSteps.{AreShort}
 use Rattle.library_sound.specs.Spelling.SpellSteps.{SpellsBytes}
 
@@ -73,10 +73,10 @@ pub record IsStaticObject (flow : Flow) (entered : ℕ → Option ℕ) (b i : �
   pub static : info.kind ≡ Static
   pub there : entered b ≡ Some i
 
-module _ {I : Type 0} (l : LatticeOf I) (n : IntegersOf I) (stands : I → ℤ → Type 0) (flow : Flow) where
+module _ {I : Type 0} (l : LatticeOf I) (n : IntegersOf I) (gamma : I → ℤ → Type 0) (flow : Flow) where
   -- the cells of an object that is cleared and initialized stand for its bytes: all zero, and then the stores in order
   abbrev pub StaticObjectsStand : Type 0
   StaticObjectsStand = (limits : Limits) → is_well_formed limits flow ≡ true → HasPremises flow → (u : UnitView) → u.model ≡ flow.model
       → (naming : Naming) (memory : Memory) (entered : ℕ → Option ℕ) → IsMemoryOf flow.model flow.bases.items naming memory → AreEntered flow.bases.items naming memory entered → AreShort flow.model memory
       → (b i : ℕ) (info : BaseInfo) → IsStaticObject flow entered b i info → (stores : List StaticStore) → AreStoresOf u flow naming memory b info stores → bytes_at memory i ≡ all_stored u (map static_store_view stores) (all_of (number 0 no_labels) (bytes_at memory i))
-      → (row after : List (Cell I)) → length row ≡ flow.width → start_stores l n flow b info.size stores (clear l n flow.bases.items b row) ≡ Some after → StandsBase l n stands flow naming memory b info after
+      → (row after : List (Cell I)) → length row ≡ flow.width → start_stores l n flow b info.size stores (clear l n flow.bases.items b row) ≡ Some after → InGammaBase l n gamma flow naming memory b info after

@@ -19,7 +19,7 @@ use Rattle.memory_model.specs.Effects.UnitStarts.{character_byte}
 use Rattle.store_sound.specs.Concretization.ValueMeaning.{Naming}
 use Rattle.store_sound.specs.Concretization.SoundMemory.{IsMemoryOf}
 use Rattle.store_sound.specs.Programs.Premises.{HasPremises}
-use Rattle.store_sound.specs.Regions.RegionWrites.{StandsBase}
+use Rattle.store_sound.specs.Regions.RegionWrites.{InGammaBase}
 
 -- an instance of a literal: its characters and a closing zero
 pub record IsLiteralObject (flow : Flow) (naming : Naming) (memory : Memory) (b i : ℕ) (info : BaseInfo) (text : List ℕ) : Type 0 where
@@ -32,9 +32,9 @@ pub record IsLiteralObject (flow : Flow) (naming : Naming) (memory : Memory) (b 
   pub small : AreBytes text
   pub bytes : bytes_at memory i ≡ map character_byte (characters text ++ number 0 no_labels ∷ [])
 
-module _ {I : Type 0} (l : LatticeOf I) (n : IntegersOf I) (stands : I → ℤ → Type 0) (flow : Flow) where
+module _ {I : Type 0} (l : LatticeOf I) (n : IntegersOf I) (gamma : I → ℤ → Type 0) (flow : Flow) where
   -- the cells of a literal that is spelled stand for its bytes, whatever they were before
   abbrev pub LiteralsStand : Type 0
   LiteralsStand = (limits : Limits) → is_well_formed limits flow ≡ true → HasPremises flow → (naming : Naming) (memory : Memory) → IsMemoryOf flow.model flow.bases.items naming memory
       → (b i : ℕ) (info : BaseInfo) (text : List ℕ) → IsLiteralObject flow naming memory b i info text
-      → (row : List (Cell I)) → length row ≡ flow.width → StandsBase l n stands flow naming memory b info (spell l n flow.bases.items b 0 info.size text row)
+      → (row : List (Cell I)) → length row ≡ flow.width → InGammaBase l n gamma flow naming memory b info (spell l n flow.bases.items b 0 info.size text row)

@@ -17,7 +17,7 @@ use Rattle.memory_model.specs.Memory.Instances.{Memory, live, bytes_at, life_at}
 use Rattle.store_sound.specs.Concretization.ValueMeaning.{Naming}
 use Rattle.store_sound.specs.Concretization.SoundMemory.{IsMemoryOf}
 use Rattle.store_sound.specs.Programs.Premises.{HasPremises}
-use Rattle.store_sound.specs.Regions.RegionWrites.{StandsBase}
+use Rattle.store_sound.specs.Regions.RegionWrites.{InGammaBase}
 
 -- an instance of a parameter of an integer type: one scalar, whose bytes are numbers with the labels of input
 pub record IsParameterObject (flow : Flow) (naming : Naming) (memory : Memory) (b i : ℕ) (info : BaseInfo) (kind : IntType) : Type 0 where
@@ -33,9 +33,9 @@ pub record IsParameterObject (flow : Flow) (naming : Naming) (memory : Memory) (
   pub alive : life_at memory i ≡ live
   pub input : (o : ℕ) (x : Byte) → slice_get (bytes_at memory i) o ≡ Some x → (k : ℕ) × (x.content ≡ number k (input_labels kind))
 
-module _ {I : Type 0} (l : LatticeOf I) (n : IntegersOf I) (stands : I → ℤ → Type 0) (flow : Flow) where
+module _ {I : Type 0} (l : LatticeOf I) (n : IntegersOf I) (gamma : I → ℤ → Type 0) (flow : Flow) where
   -- any number of its type, with the labels of input
   abbrev pub ParametersStand : Type 0
   ParametersStand = HasPremises flow → (naming : Naming) (memory : Memory) → IsMemoryOf flow.model flow.bases.items naming memory
       → (b i : ℕ) (info : BaseInfo) (kind : IntType) → IsParameterObject flow naming memory b i info kind
-      → (row : List (Cell I)) → length row ≡ flow.width → StandsBase l n stands flow naming memory b info (put_parameter l n kind (slice_get flow.bases.items b) row)
+      → (row : List (Cell I)) → length row ≡ flow.width → InGammaBase l n gamma flow naming memory b info (put_parameter l n kind (slice_get flow.bases.items b) row)

@@ -22,11 +22,11 @@ use Rattle.memory_model.specs.Effects.UnitStarts.{all_stored}
 use Rattle.lower_templates.specs.Views.ProgramViews.{flow_view}
 use Rattle.semantics.specs.CfgMachine.FlowStates.{Standing, running}
 use Rattle.semantics.specs.CfgMachine.FlowStarts.{flow_begin}
-use Rattle.store_sound.specs.Concretization.RowMeaning.{StandsFor}
+use Rattle.store_sound.specs.Concretization.RowMeaning.{InGamma}
 use Rattle.store_sound.specs.Concretization.SoundMemory.{IsMemoryOf, AreEntered}
 use Rattle.store_sound.specs.Concretization.ValueMeaning.{Naming}
 use Rattle.store_sound.specs.Programs.Premises.{HasPremises}
-use Rattle.library_sound.specs.SoundSteps.{AreShort, StandsBehind}
+use Rattle.library_sound.specs.SoundSteps.{AreShort, InGammaAfter}
 use Rattle.entry_sound.specs.Starts.Literals.{IsLiteralObject}
 use Rattle.entry_sound.specs.Starts.Parameters.{IsParameterObject}
 use Rattle.entry_sound.specs.Cells.StaticObjects.{AreStoresOf, IsStaticObject}
@@ -82,14 +82,14 @@ pub record IsStartOf (u : UnitView) (flow : Flow) (s : Standing) : Type 0 where
 abbrev pub HasBeginnings : UnitView → Flow → Type 0
 HasBeginnings u flow = (draws : List ℤ) (s : Standing) → flow_begin u (flow_view flow) draws ≡ running s [] → IsStartOf u flow s
 
-module _ {I : Type 0} (l : LatticeOf I) (n : IntegersOf I) (stands : I → ℤ → Type 0) (flow : Flow) where
+module _ {I : Type 0} (l : LatticeOf I) (n : IntegersOf I) (gamma : I → ℤ → Type 0) (flow : Flow) where
   -- the row of the entry stands for the state in which a run begins
   abbrev pub StartRowsStand : Type 0
   StartRowsStand = (limits : Limits) → is_well_formed limits flow ≡ true → HasPremises flow → (u : UnitView) → u.model ≡ flow.model
       → (naming : Naming) (memory : Memory) (entered : ℕ → Option ℕ) → IsBeginning u flow naming memory entered
-      → (row after : List (Cell I)) → length row ≡ flow.width → start_row l n flow row ≡ Some after → StandsFor l n stands flow naming after (record { memory = memory; temps = empty_table; entered = entered })
+      → (row after : List (Cell I)) → length row ≡ flow.width → start_row l n flow row ≡ Some after → InGamma l n gamma flow naming after (record { memory = memory; temps = empty_table; entered = entered })
 
   -- where each run of the unit begins with such a memory, the row of the entry stands for the state in which it begins
   abbrev pub RunsBeginInStartRows : Type 0
   RunsBeginInStartRows = (limits : Limits) → is_well_formed limits flow ≡ true → HasPremises flow → (u : UnitView) → u.model ≡ flow.model → HasBeginnings u flow
-      → (row after : List (Cell I)) → length row ≡ flow.width → start_row l n flow row ≡ Some after → (draws : List ℤ) (s : Standing) → flow_begin u (flow_view flow) draws ≡ running s [] → StandsBehind l n stands flow (Some after) s
+      → (row after : List (Cell I)) → length row ≡ flow.width → start_row l n flow row ≡ Some after → (draws : List ℤ) (s : Standing) → flow_begin u (flow_view flow) draws ≡ running s [] → InGammaAfter l n gamma flow (Some after) s

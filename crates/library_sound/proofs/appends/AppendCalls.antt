@@ -62,8 +62,8 @@ use Rattle.store_sound.specs.Concretization.FirstZeroBytes.{seen_as, first_zero}
 use Rattle.store_sound.specs.Concretization.Matching.{number_in}
 use Rattle.store_sound.specs.Concretization.SeenLabels.{as_set}
 use Rattle.store_sound.specs.Concretization.SoundMemory.{IsContentIn, IsMemoryOf, IsWithin}
-use Rattle.store_sound.specs.Concretization.ValueMeaning.{Naming, StandsInto, StandsByLife}
-use Rattle.store_sound.specs.Concretization.RowMeaning.{MachineState, array_bytes, IsLiveOf, StandsFor}
+use Rattle.store_sound.specs.Concretization.ValueMeaning.{Naming, InGammaInto, InGammaByLife}
+use Rattle.store_sound.specs.Concretization.RowMeaning.{MachineState, array_bytes, IsLiveOf, InGamma}
 use Rattle.store_sound.specs.Concretization.Coverage.{state_of}
 use Rattle.store_sound.specs.Operations.Shapes.{AreShaped, IsLaidOut}
 use Rattle.store_sound.proofs.operations.Frames.{pointer_in_moves, scalar_moves}
@@ -104,8 +104,8 @@ some_range (Some x) z h = refl
 same_end : (s : machine.Scanned) (a b : ℕ) → (s ≡ machine.ends a) → s ≡ machine.ends b → a ≡ b
 same_end s a b e f = let d : machine.ends a ≡ machine.ends b = sym e ∙ f in cc
 
-module _ {I : Type 0} {l : LatticeOf I} {n : IntegersOf I} {stands : I → ℤ → Type 0} (o : OrderLaws l) (q : BoundLaws l n stands) (flow : Flow) (shaped : AreShaped flow.bases.items) (naming : Naming) (row : List (Cell I)) (state : MachineState) (s : StandsFor l n stands flow naming row state)
-    (p : Pointers I) (i offset lo hi : ℕ) (alive : life_at state.memory i ≡ live) (st : StandsInto stands naming state.memory p i offset lo hi) (inside : IsWithin state.memory i offset lo hi) where
+module _ {I : Type 0} {l : LatticeOf I} {n : IntegersOf I} {gamma : I → ℤ → Type 0} (o : OrderLaws l) (q : BoundLaws l n gamma) (flow : Flow) (shaped : AreShaped flow.bases.items) (naming : Naming) (row : List (Cell I)) (state : MachineState) (s : InGamma l n gamma flow naming row state)
+    (p : Pointers I) (i offset lo hi : ℕ) (alive : life_at state.memory i ≡ live) (st : InGammaInto gamma naming state.memory p i offset lo hi) (inside : IsWithin state.memory i offset lo hi) where
   -- the base of what is scanned goes on
   own_base : (found : Scanned I) → IsScan o q flow shaped naming row state s p i offset lo hi alive st inside found → (t : ℕ) → machine.scanned (contents (region (bytes_at state.memory i) offset (hi - offset))) ≡ machine.ends t → (b : ℕ) → naming i ≡ Some b → has_base found.bases b ≡ true
   own_base found scan t closed b named = subst (λ z. has_base found.bases z ≡ true) (same_Some st.base b (sym st.named ∙ named)) (scan.own t closed)
@@ -133,7 +133,7 @@ module _ {I : Type 0} {l : LatticeOf I} {n : IntegersOf I} {stands : I → ℤ �
         let b : k.zero ≡ (offset + h) - k.part.offset = omega (arith, a) in
         subst (λ y. first_zero (array_bytes y (bytes_at state.memory i)) ≡ Some ((offset + h) - y.offset)) (sym part_is) (k.is ∙ ap (λ y. Some y) b)
 
-module _ {I : Type 0} {l : LatticeOf I} {n : IntegersOf I} {stands : I → ℤ → Type 0} (o : OrderLaws l) (q : BoundLaws l n stands) (c : SoundLaws l n stands) (flow : Flow) (p : HasPremises flow) (apart : HasApartTexts flow.bases.items) (naming : Naming) (row : List (Cell I)) (s : Standing) (r : IsReached l n stands flow naming row s) (to : Option ℕ) (has : has_result (names_of flow) to ≡ true) (newest : Option ℕ)
+module _ {I : Type 0} {l : LatticeOf I} {n : IntegersOf I} {gamma : I → ℤ → Type 0} (o : OrderLaws l) (q : BoundLaws l n gamma) (c : SoundLaws l n gamma) (flow : Flow) (p : HasPremises flow) (apart : HasApartTexts flow.bases.items) (naming : Naming) (row : List (Cell I)) (s : Standing) (r : IsReached l n gamma flow naming row s) (to : Option ℕ) (has : has_result (names_of flow) to ≡ true) (newest : Option ℕ)
     (items : List ℕ) (wanted : Option ℕ) (vs : List Scalar) (e : values_of s.temps items ≡ Some vs)
     (d : MachinePointer) (m : MachinePointer) (first : slice_get vs 0 ≡ Some (pointer d)) (second : slice_get vs 1 ≡ Some (pointer m)) where
   abbrev call : Call
@@ -241,7 +241,7 @@ module _ {I : Type 0} {l : LatticeOf I} {n : IntegersOf I} {stands : I → ℤ �
     within : IsWithin s.world.memory i offset lo hi
     within = given_within o q flow p naming row s r to has newest items wanted vs e 0 i offset lo hi here alive
 
-    st : StandsInto stands naming s.world.memory given.rest i offset lo hi
+    st : InGammaInto gamma naming s.world.memory given.rest i offset lo hi
     st = given_into o q flow p naming row s r to has newest items wanted vs e 0 i offset lo hi here alive
 
     given_on : first_trail.goes_on ≡ true
@@ -254,7 +254,7 @@ module _ {I : Type 0} {l : LatticeOf I} {n : IntegersOf I} {stands : I → ℤ �
       right_within : IsWithin s.world.memory j at low high
       right_within = given_within o q flow p naming row s r to has newest items wanted vs e 1 j at low high there right_alive
 
-      right_st : StandsInto stands naming s.world.memory source.rest j at low high
+      right_st : InGammaInto gamma naming s.world.memory source.rest j at low high
       right_st = given_into o q flow p naming row s r to has newest items wanted vs e 1 j at low high there right_alive
 
       both_on : both_trail.goes_on ≡ true
@@ -266,7 +266,7 @@ module _ {I : Type 0} {l : LatticeOf I} {n : IntegersOf I} {stands : I → ℤ �
         old_short : h < hi - offset
         old_short = strings.ends_here o q flow p naming row s r to has newest items wanted vs e 0 i offset lo hi here alive h closed
 
-        old_stands : stands old.length (pos h)
+        old_stands : gamma old.length (pos h)
         old_stands = (strings.is_scan o q flow p naming row s r to has newest items wanted vs e 0 i offset lo hi here alive).ended h closed
 
         scanned_old : old_trail.goes_on ≡ true
@@ -276,7 +276,7 @@ module _ {I : Type 0} {l : LatticeOf I} {n : IntegersOf I} {stands : I → ℤ �
         old_has = (and_parts (nat_lt st.base most_bases) (bases_has old.bases st.base)
             (own_base o q flow p.shaped naming row (state_of s) r.stands_for _ i offset lo hi alive _ _ old (strings.is_scan o q flow p naming row s r to has newest items wanted vs e 0 i offset lo hi here alive) h closed st.base st.named)).1
 
-        place_st : (y : StandsInto stands naming s.world.memory place i offset lo hi) × (y.base ≡ st.base)
+        place_st : (y : InGammaInto gamma naming s.world.memory place i offset lo hi) × (y.base ≡ st.base)
         place_st = within_stands o q flow p.shaped naming s.world.memory r.stands_for.sane given.rest i offset lo hi st within old.bases old_has
 
         ends_at : EndsAt flow naming s.world.memory i (offset + h) old.unknown
@@ -294,7 +294,7 @@ module _ {I : Type 0} {l : LatticeOf I} {n : IntegersOf I} {stands : I → ℤ �
           short : t < high - at
           short = strings.ends_here o q flow p naming row s r to has newest items wanted vs e 1 j at low high there right_alive t ended
 
-          new_stands : stands new.length (pos t)
+          new_stands : gamma new.length (pos t)
           new_stands = (strings.is_scan o q flow p naming row s r to has newest items wanted vs e 1 j at low high there right_alive).ended t ended
 
           new_small : t ≤ 2 ^ 64 - 1
@@ -329,7 +329,7 @@ module _ {I : Type 0} {l : LatticeOf I} {n : IntegersOf I} {stands : I → ℤ �
             literal_stop : is_literal (storage_at s.world.memory i) ≡ true → violates append_plan.violations rule.Strmod ≡ true
             literal_stop lit = told_here fitting_trail (literal_violations (writes_literal flow.bases.items place.bases cut)) (not (bases_empty (after_write flow.bases.items place.bases cut))) rule.Strmod fitted (literal_told o q flow p.shaped naming s.world.memory r.stands_for.sane place i offset lo hi place_st.0 within alive cut ((h + t) + 1) cut_size (omega arith) lit)
 
-            added_stands : stands added (pos t)
+            added_stands : gamma added (pos t)
             added_stands = let x = new_small in let y = old_small in appended_stands o q old.length new.length cut h t old_stands new_stands cut_size (omega (arith, x, y))
 
             more_size : RangeHas (one_more n added) (pos (t + 1))
@@ -342,7 +342,7 @@ module _ {I : Type 0} {l : LatticeOf I} {n : IntegersOf I} {stands : I → ℤ �
               on : target.trail.goes_on ≡ true
               on = goes_further fitting_trail (literal_violations (writes_literal flow.bases.items place.bases cut)) (not (bases_empty (after_write flow.bases.items place.bases cut))) fitted (ap not (not_empty (after_write flow.bases.items place.bases cut) place_st.0.base after_there))
 
-              rest : (y : StandsInto stands naming s.world.memory target.rest i offset lo hi) × (y.base ≡ place_st.0.base)
+              rest : (y : InGammaInto gamma naming s.world.memory target.rest i offset lo hi) × (y.base ≡ place_st.0.base)
               rest = within_stands o q flow p.shaped naming s.world.memory r.stands_for.sane place i offset lo hi place_st.0 within (after_write flow.bases.items place.bases cut) after_there
 
               -- ---- what is read
@@ -351,7 +351,7 @@ module _ {I : Type 0} {l : LatticeOf I} {n : IntegersOf I} {stands : I → ℤ �
               source_has = (and_parts (nat_lt right_st.base most_bases) (bases_has new.bases right_st.base)
                   (own_base o q flow p.shaped naming row (state_of s) r.stands_for _ j at low high right_alive _ _ new (strings.is_scan o q flow p naming row s r to has newest items wanted vs e 1 j at low high there right_alive) t ended right_st.base right_st.named)).1
 
-              reads : (y : StandsInto stands naming s.world.memory read j at low high) × (y.base ≡ right_st.base)
+              reads : (y : InGammaInto gamma naming s.world.memory read j at low high) × (y.base ≡ right_st.base)
               reads = within_stands o q flow p.shaped naming s.world.memory r.stands_for.sane source.rest j at low high right_st right_within new.bases source_has
 
               read_window : (x : ℕ) → at ≤ x → x < at + (t + 1) → WindowHas (touched_window n read (one_more n added)) x
@@ -423,7 +423,7 @@ module _ {I : Type 0} {l : LatticeOf I} {n : IntegersOf I} {stands : I → ℤ �
 
               result : IsResult q flow p naming memory (pointer_value l target.rest) (pointer d)
               result = subst (λ y. IsResult q flow p naming memory (pointer_value l target.rest) (pointer y)) (sym is) (record {
-                stands_for = scalar_moves (alike_region region_here) stands naming (pointer_value l target.rest) (pointer (into i offset lo hi)) (subst (λ y. StandsByLife stands naming s.world.memory target.rest y i offset lo hi) (sym alive) rest.0);
+                stands_for = scalar_moves (alike_region region_here) gamma naming (pointer_value l target.rest) (pointer (into i offset lo hi)) (subst (λ y. InGammaByLife gamma naming s.world.memory target.rest y i offset lo hi) (sym alive) rest.0);
                 near = tt;
                 within = pointer_in_moves (alike_region region_here) (into i offset lo hi) within;
               })
@@ -460,16 +460,16 @@ module _ {I : Type 0} {l : LatticeOf I} {n : IntegersOf I} {stands : I → ℤ �
                   subst (λ v. (v.lo ≤ x) × (x ≤ v.hi)) same (y.from, y.to)
 
               -- the characters of the source
-              letters_number : (k : ℕ) → k ≤ t → (y : Labelled) (b2 : Byte) → byte_at s.world.memory j (at + k) ≡ Some b2 → b2.content ≡ number_in y → ((signed : Bool) → stands (cond signed letters.signed letters.unsigned) (number_of signed (y ∷ []))) × (labels_leq (as_set y.labels) letters.labels ≡ true)
+              letters_number : (k : ℕ) → k ≤ t → (y : Labelled) (b2 : Byte) → byte_at s.world.memory j (at + k) ≡ Some b2 → b2.content ≡ number_in y → ((signed : Bool) → gamma (cond signed letters.signed letters.unsigned) (number_of signed (y ∷ []))) × (labels_leq (as_set y.labels) letters.labels ≡ true)
               letters_number k less y b2 f g =
                   let w = read_window (at + k) (omega arith) (omega (arith, less)) in
                   let among = subst (λ v. bases_has read.bases v ≡ true) reads.1 reads.0.among in
-                  subst (λ v. ((signed : Bool) → stands (cond signed (characters_of l n flow.model flow.bases.items row read.bases v).signed (characters_of l n flow.model flow.bases.items row read.bases v).unsigned) (number_of signed (y ∷ []))) × (labels_leq (as_set y.labels) (characters_of l n flow.model flow.bases.items row read.bases v).labels ≡ true)) (sym w.is) (
+                  subst (λ v. ((signed : Bool) → gamma (cond signed (characters_of l n flow.model flow.bases.items row read.bases v).signed (characters_of l n flow.model flow.bases.items row read.bases v).unsigned) (number_of signed (y ∷ []))) × (labels_leq (as_set y.labels) (characters_of l n flow.model flow.bases.items row read.bases v).labels ≡ true)) (sym w.is) (
                     (λ signed. source_number o q c flow p.shaped p.padding naming row (state_of s) r.stands_for read.bases w.window j (at + k) right_st.base read_base.0 read_base.1 right_st.named right_alive among w.from w.to b2 f y g signed),
                     source_labels o q c flow p.shaped p.padding naming row (state_of s) r.stands_for read.bases w.window j (at + k) right_st.base read_base.0 read_base.1 right_st.named right_alive among w.from w.to b2 f y g,
                   )
 
-              is_text : IsTextWrite l n stands write memory i (offset + h) (t + 1)
+              is_text : IsTextWrite l n gamma write memory i (offset + h) (t + 1)
               is_text = record {
                 window = window_has;
                 start = (start.from, start.to);

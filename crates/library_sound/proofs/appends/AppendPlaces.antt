@@ -16,7 +16,7 @@ use Rattle.transfer_library.specs.MemoryCalls.{lower_of}
 use Rattle.transfer_library.specs.StringCalls.{less_one, window_from_place, window_from_offset, window_behind, most_appended, one_more, append_start, appended}
 use Rattle.memory_model.specs.Memory.Instances.{Memory}
 use Rattle.store_sound.specs.Concretization.SoundMemory.{IsMemoryOf, IsWithin}
-use Rattle.store_sound.specs.Concretization.ValueMeaning.{Naming, StandsInto}
+use Rattle.store_sound.specs.Concretization.ValueMeaning.{Naming, InGammaInto}
 use Rattle.store_sound.proofs.operations.Windows.{WindowHas, within_has}
 use Rattle.store_sound.proofs.operations.Windows as windows
 use Rattle.library_sound.proofs.fills.Targets.{sat_above}
@@ -58,12 +58,12 @@ lower_below : (x : Range) (z : ℤ) → RangeHas x z → lower_of x ≤ℤ z
 lower_below None z h = absurd h
 lower_below (Some x) z h = h.0
 
-module _ {I : Type 0} {l : LatticeOf I} {n : IntegersOf I} {stands : I → ℤ → Type 0} (o : OrderLaws l) (q : BoundLaws l n stands) where
-  pub more_has : (len : I) (t : ℕ) → stands len (pos t) → t ≤ 2 ^ 64 → RangeHas (one_more n len) (pos (t + 1))
+module _ {I : Type 0} {l : LatticeOf I} {n : IntegersOf I} {gamma : I → ℤ → Type 0} (o : OrderLaws l) (q : BoundLaws l n gamma) where
+  pub more_has : (len : I) (t : ℕ) → gamma len (pos t) → t ≤ 2 ^ 64 → RangeHas (one_more n len) (pos (t + 1))
   more_has len t h small = added_has (n.bounds len) (Some (pos 1, pos 1)) t 1 (bounds_have q len (pos t) h) (omega (arith, ints), omega (arith, ints)) (omega (arith, small))
 
   -- a new text for which there is room behind the old one
-  pub appended_stands : (there added : I) (cut : Range) (h t : ℕ) → stands there (pos h) → stands added (pos t) → RangeHas cut (pos ((h + t) + 1)) → (h + t) + 1 ≤ 2 ^ 66 → stands (appended l n there added cut) (pos t)
+  pub appended_stands : (there added : I) (cut : Range) (h t : ℕ) → gamma there (pos h) → gamma added (pos t) → RangeHas cut (pos ((h + t) + 1)) → (h + t) + 1 ≤ 2 ^ 66 → gamma (appended l n there added cut) (pos t)
   appended_stands there added cut h t sh st has small =
       let a = upper_above cut (pos ((h + t) + 1)) has in
       let b = lower_below (n.bounds there) (pos h) (bounds_have q there (pos h) sh) in
@@ -73,13 +73,13 @@ module _ {I : Type 0} {l : LatticeOf I} {n : IntegersOf I} {stands : I → ℤ �
 
   -- ---- the first byte
 
-  module _ (flow : Flow) (naming : Naming) (memory : Memory) (sane : IsMemoryOf flow.model flow.bases.items naming memory) (p : Pointers I) (i offset lo hi : ℕ) (st : StandsInto stands naming memory p i offset lo hi) (inside : IsWithin memory i offset lo hi) where
+  module _ (flow : Flow) (naming : Naming) (memory : Memory) (sane : IsMemoryOf flow.model flow.bases.items naming memory) (p : Pointers I) (i offset lo hi : ℕ) (st : InGammaInto gamma naming memory p i offset lo hi) (inside : IsWithin memory i offset lo hi) where
     offsets_have : RangeHas (offsets n p) (pos offset)
     offsets_have =
         let g : (pos lo +ℤ (pos offset -ℤ pos lo)) ≡ pos offset = omega (arith, ints) in
         subst (RangeHas (offsets n p)) g (sum_has (n.bounds p.lo) (n.bounds p.rel) (pos lo) (pos offset -ℤ pos lo) (bounds_have q p.lo (pos lo) st.lower) (bounds_have q p.rel (pos offset -ℤ pos lo) st.relative))
 
-    module _ (there : I) (h : ℕ) (sh : stands there (pos h)) (less : offset + h ≤ hi) where
+    module _ (there : I) (h : ℕ) (sh : gamma there (pos h)) (less : offset + h ≤ hi) where
       pub start_range : RangeHas (append_start n p there) (pos (offset + h))
       start_range =
           let a = sane.small i in

@@ -19,7 +19,7 @@ use Rattle.memory_model.specs.Memory.Bytes.{Byte}
 use Rattle.memory_model.specs.Memory.Instances.{Memory, bytes_at, byte_at}
 use Rattle.store_sound.specs.Concretization.FirstZeroBytes.{end, character, seen_as, first_zero, zero_offset}
 use Rattle.store_sound.specs.Concretization.SoundMemory.{IsMemoryOf}
-use Rattle.store_sound.specs.Concretization.ValueMeaning.{Naming, StandsZero}
+use Rattle.store_sound.specs.Concretization.ValueMeaning.{Naming, InGammaZero}
 use Rattle.store_sound.specs.Concretization.RowMeaning.{array_bytes}
 use Rattle.store_sound.proofs.operations.Slices.{get_there}
 use Rattle.store_sound.proofs.operations.TouchedRest.{near_stands}
@@ -40,23 +40,23 @@ added_has (Some x) (Some y) a b h k small =
     let k1 = k.1 in
     (sat_below (x.0 +ℤ y.0) (pos (a + b)) (omega (arith, ints, h0, k0)) (omega (arith, ints)), sat_above (x.1 +ℤ y.1) (pos (a + b)) (omega (arith, ints, h1, k1)) (omega (arith, ints, small)))
 
-module _ {I : Type 0} {l : LatticeOf I} {n : IntegersOf I} {stands : I → ℤ → Type 0} (o : OrderLaws l) (q : BoundLaws l n stands) where
-  up_stands : (r : Range) (c : ℕ) → RangeHas r (pos c) → c ≤ 2 ^ 64 - 1 → stands (up_to_end_of l n r) (pos c)
+module _ {I : Type 0} {l : LatticeOf I} {n : IntegersOf I} {gamma : I → ℤ → Type 0} (o : OrderLaws l) (q : BoundLaws l n gamma) where
+  up_stands : (r : Range) (c : ℕ) → RangeHas r (pos c) → c ≤ 2 ^ 64 - 1 → gamma (up_to_end_of l n r) (pos c)
   up_stands None c h small = absurd h
   up_stands (Some p) c h small =
       let h0 = h.0 in
       let h1 = h.1 in
       of_range_stands q (Some (int_min p.0 the_end, int_min p.1 the_end)) (pos c) (omega (arith, ints, clamps, h0), omega (arith, ints, clamps, h1, small))
 
-  sum_stands : (x y : I) (a b : ℕ) → stands x (pos a) → stands y (pos b) → a + b ≤ 2 ^ 64 - 1 → stands (up_to_end l n x y) (pos (a + b))
+  sum_stands : (x y : I) (a b : ℕ) → gamma x (pos a) → gamma y (pos b) → a + b ≤ 2 ^ 64 - 1 → gamma (up_to_end l n x y) (pos (a + b))
   sum_stands x y a b h k small = up_stands (added_ranges (n.bounds x) (n.bounds y)) (a + b) (added_has (n.bounds x) (n.bounds y) a b (bounds_have q x (pos a) h) (bounds_have q y (pos b) k) (omega (arith, small))) small
 
   -- ---- an array that has all of the text, and whose first zero was where it begins
 
   module _ (flow : Flow) (naming : Naming) {old new : Memory} {i offset t : ℕ} (s : IsRegion old new i offset (t + 1)) (sane : IsMemoryOf flow.model flow.bases.items naming new)
-      (text : (x : ℕ) (b : Byte) → x < t → byte_at new i (offset + x) ≡ Some b → seen_as b.content ≡ character) (closed : (b : Byte) → byte_at new i (offset + t) ≡ Some b → seen_as b.content ≡ end) (len : I) (counted : stands len (pos t)) where
+      (text : (x : ℕ) (b : Byte) → x < t → byte_at new i (offset + x) ≡ Some b → seen_as b.content ≡ character) (closed : (b : Byte) → byte_at new i (offset + t) ≡ Some b → seen_as b.content ≡ end) (len : I) (counted : gamma len (pos t)) where
     pub append_rule : (part : ZeroPart) (f : FirstZero I) → IsIn part.size part.offset offset → IsIn part.size part.offset (offset + ((t + 1) - 1)) → first_zero (array_bytes part (bytes_at old i)) ≡ Some (offset - part.offset)
-        → StandsZero stands naming old f (array_bytes part (bytes_at old i)) → StandsZero stands naming new (record { at = up_to_end l n f.at (near_number l n len) }) (array_bytes part (bytes_at new i))
+        → InGammaZero gamma naming old f (array_bytes part (bytes_at old i)) → InGammaZero gamma naming new (record { at = up_to_end l n f.at (near_number l n len) }) (array_bytes part (bytes_at new i))
     unfolding byte_at
     append_rule part f inside ends ended h =
         let from = starts_in part.size part.offset offset inside in
@@ -83,5 +83,5 @@ module _ {I : Type 0} {l : LatticeOf I} {n : IntegersOf I} {stands : I → ℤ �
         let low : pos place <ℤ the_end = omega (arith, ints, fits, same, small) in
         let now_at : zero_offset (first_zero (array_bytes part (bytes_at new i))) ≡ (pos place +ℤ pos t) = wrote.behind (omega (arith, ints, was_at)) (omega (arith, ints, was_at, low)) in
         let sum : (pos place +ℤ pos t) ≡ pos (place + t) = omega (arith, ints) in
-        let both = sum_stands f.at (near_number l n len) place t (subst (stands f.at) was_at h) (near_stands o q len (pos t) (omega (arith, ints)) (omega (arith, ints, fits, same, small)) counted) (omega (arith, fits, same, small)) in
-        subst (stands (up_to_end l n f.at (near_number l n len))) (sym (now_at ∙ sum)) both
+        let both = sum_stands f.at (near_number l n len) place t (subst (gamma f.at) was_at h) (near_stands o q len (pos t) (omega (arith, ints)) (omega (arith, ints, fits, same, small)) counted) (omega (arith, fits, same, small)) in
+        subst (gamma (up_to_end l n f.at (near_number l n len))) (sym (now_at ∙ sum)) both

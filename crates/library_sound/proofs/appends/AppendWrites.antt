@@ -14,8 +14,8 @@ use Rattle.transfer_library_writes.specs.declared.text_writes.ZeroRule.{ZeroRule
 use Rattle.transfer_library_writes.specs.declared.text_writes.ZeroRule.TheVariants.{Append, Any}
 use Rattle.memory_model.specs.Memory.Instances.{Memory, bytes_at}
 use Rattle.store_sound.specs.Concretization.SoundMemory.{IsMemoryOf}
-use Rattle.store_sound.specs.Concretization.ValueMeaning.{Naming, StandsZero}
-use Rattle.store_sound.specs.Concretization.RowMeaning.{MachineState, array_bytes, IsLiveOf, StandsFor}
+use Rattle.store_sound.specs.Concretization.ValueMeaning.{Naming, InGammaZero}
+use Rattle.store_sound.specs.Concretization.RowMeaning.{MachineState, array_bytes, IsLiveOf, InGamma}
 use Rattle.store_sound.specs.Operations.Shapes.{IsLaidOut}
 use Rattle.store_sound.proofs.chars.ByteArrays.{IsIn}
 use Rattle.store_sound.specs.Regions.RegionWrites.{IsRegion}
@@ -30,12 +30,12 @@ pub byte_from : (size : Option ℕ) (start x : ℕ) → IsIn size start x → Is
 byte_from None start x h = h
 byte_from (Some size) start x h = h
 
-module _ {I : Type 0} {l : LatticeOf I} {n : IntegersOf I} {stands : I → ℤ → Type 0} (o : OrderLaws l) (q : BoundLaws l n stands) (flow : Flow) (naming : Naming) (row : List (Cell I)) (state : MachineState) (laid : IsLaidOut flow (length row)) (s : StandsFor l n stands flow naming row state)
-    (new : Memory) (i offset size : ℕ) (region : IsRegion state.memory new i offset size) (sane : IsMemoryOf flow.model flow.bases.items naming new) (write : TextWrite I) (k : IsTextWrite l n stands write new i offset size)
-    (added : I) (unknown : Bases) (is : write.zero ≡ Append added unknown) (t : ℕ) (text : IsWrittenText new i offset size t) (counted : stands added (pos t)) (ends : EndsAt flow naming state.memory i offset unknown)
+module _ {I : Type 0} {l : LatticeOf I} {n : IntegersOf I} {gamma : I → ℤ → Type 0} (o : OrderLaws l) (q : BoundLaws l n gamma) (flow : Flow) (naming : Naming) (row : List (Cell I)) (state : MachineState) (laid : IsLaidOut flow (length row)) (s : InGamma l n gamma flow naming row state)
+    (new : Memory) (i offset size : ℕ) (region : IsRegion state.memory new i offset size) (sane : IsMemoryOf flow.model flow.bases.items naming new) (write : TextWrite I) (k : IsTextWrite l n gamma write new i offset size)
+    (added : I) (unknown : Bases) (is : write.zero ≡ Append added unknown) (t : ℕ) (text : IsWrittenText new i offset size t) (counted : gamma added (pos t)) (ends : EndsAt flow naming state.memory i offset unknown)
     (here : (b : ℕ) → naming i ≡ Some b → 0 < size → has_base write.bases b ≡ true)
     (single : is_one_instance flow.bases.items write.bases ≡ true → 0 < size → (b j : ℕ) → has_base write.bases b ≡ true → IsLiveOf naming state.memory b j → j ≡ i) where
-  of_base : (b : ℕ) → IsTextWrite l n stands (write_into write b) new i offset size
+  of_base : (b : ℕ) → IsTextWrite l n gamma (write_into write b) new i offset size
   of_base b = record { window = k.window; start = k.start; one_byte = k.one_byte; numbers = k.numbers; characters = k.characters }
 
   ruled : (b : ℕ) (base : BaseInfo) → slice_get flow.bases.items b ≡ Some base → (has : has_base write.bases b ≡ true) → IsRuled o q flow naming region sane (write_into write b) (of_base b) (is_one_instance flow.bases.items write.bases) b base (λ alone some j alive. single alone some b j has alive)
@@ -49,10 +49,10 @@ module _ {I : Type 0} {l : LatticeOf I} {n : IntegersOf I} {stands : I → ℤ �
       by_unknown false e =
           let long = text.long in
           says (omega (arith, long)) (λ z part target f among named found inside last near old.
-          subst (λ y. StandsZero stands naming new (zero_after l n f target.local y) (array_bytes part (bytes_at new i))) (sym (rule_is false e))
+          subst (λ y. InGammaZero gamma naming new (zero_after l n f target.local y) (array_bytes part (bytes_at new i))) (sym (rule_is false e))
           (append_rule o q flow naming (subst (IsRegion state.memory new i offset) text.long region) sane text.text text.closed added counted part f inside (subst (λ y. IsIn part.size part.offset (offset + (y - 1))) text.long last) (ends.zero b z base part named e at among (byte_from part.size part.offset offset inside)) old))
 
-  pub append_stands : StandsFor l n stands flow naming (write_text l n flow write row) (record { memory = new; temps = state.temps; entered = state.entered })
+  pub append_stands : InGamma l n gamma flow naming (write_text l n flow write row) (record { memory = new; temps = state.temps; entered = state.entered })
   append_stands = text_stands o q flow naming row state laid s new i offset size region sane write here single of_base ruled
 
   pub append_long : length (write_text l n flow write row) ≡ length row

@@ -18,7 +18,7 @@ use Rattle.transfer_library_writes.specs.declared.text_writes.TextWrite.{TextWri
 use Rattle.transfer_library_writes.specs.declared.text_writes.ZeroRule.TheVariants.{Any}
 use Rattle.memory_model.specs.Memory.Instances.{Memory, bytes_at}
 use Rattle.store_sound.specs.Concretization.SoundMemory.{IsMemoryOf}
-use Rattle.store_sound.specs.Concretization.ValueMeaning.{Naming, StandsZero}
+use Rattle.store_sound.specs.Concretization.ValueMeaning.{Naming, InGammaZero}
 use Rattle.store_sound.specs.Concretization.RowMeaning.{IsLiveOf, array_bytes}
 use Rattle.store_sound.proofs.operations.Texts.{zero_near}
 use Rattle.store_sound.proofs.chars.ByteArrays.{IsIn, in_or_not, target_is, target_there, whole_in}
@@ -32,12 +32,12 @@ not_both true true n = absurd (n refl refl)
 not_both true false n = refl
 not_both false b n = refl
 
-module _ {I : Type 0} {l : LatticeOf I} {n : IntegersOf I} {stands : I → ℤ → Type 0} (o : OrderLaws l) (q : BoundLaws l n stands) (flow : Flow) (naming : Naming) {old new : Memory} {i offset size : ℕ} (s : IsRegion old new i offset size) (sane : IsMemoryOf flow.model flow.bases.items naming new) (write : TextWrite I) (k : IsTextWrite l n stands write new i offset size)
+module _ {I : Type 0} {l : LatticeOf I} {n : IntegersOf I} {gamma : I → ℤ → Type 0} (o : OrderLaws l) (q : BoundLaws l n gamma) (flow : Flow) (naming : Naming) {old new : Memory} {i offset size : ℕ} (s : IsRegion old new i offset size) (sane : IsMemoryOf flow.model flow.bases.items naming new) (write : TextWrite I) (k : IsTextWrite l n gamma write new i offset size)
     (alone : Bool) (b : ℕ) (base : BaseInfo) (single : alone ≡ true → 0 < size → (j : ℕ) → IsLiveOf naming old b j → j ≡ i) where
   -- what the rule gives for an array of a base of the instance, where it has all of the region
   abbrev pub RuleStands : Type 0
   RuleStands = (z : ℕ) (part : ZeroPart) (target : ZeroTarget) (f : FirstZero I) → slice_get base.shape.zeros z ≡ Some part → naming i ≡ Some b → zero_target part write.start ≡ Some target → IsIn part.size part.offset offset → IsIn part.size part.offset (offset + (size - 1)) → IsNear (n.bounds f.at)
-      → StandsZero stands naming old f (array_bytes part (bytes_at old i)) → StandsZero stands naming new (zero_after l n f target.local write.zero) (array_bytes part (bytes_at new i))
+      → InGammaZero gamma naming old f (array_bytes part (bytes_at old i)) → InGammaZero gamma naming new (zero_after l n f target.local write.zero) (array_bytes part (bytes_at new i))
 
   small_array : (part : ZeroPart) (j : ℕ) → length (array_bytes part (bytes_at new j)) ≤ 2 ^ 64 - 1
   small_array part j = let a = array_short part (bytes_at new j) in let c = sane.small j in omega (arith, a, c)
@@ -46,12 +46,12 @@ module _ {I : Type 0} {l : LatticeOf I} {n : IntegersOf I} {stands : I → ℤ �
   small_byte x h = let fits = s.fits in let same = s.lengths i in let small = sane.small i in omega (arith, h, fits, same, small)
 
   module _ (some : 0 < size) (rule : RuleStands) (z : ℕ) (part : ZeroPart) (among : slice_get base.shape.zeros z ≡ Some part) (f : FirstZero I) (near : IsNear (n.bounds f.at)) where
-    by_sure : (sure : Bool) (new_zero : FirstZero I) (j : ℕ) → (sure ≡ true → StandsZero stands naming new new_zero (array_bytes part (bytes_at new j))) → StandsZero stands naming new new_zero (array_bytes part (bytes_at new j)) ⊎ StandsZero stands naming new f (array_bytes part (bytes_at new j)) → StandsZero stands naming new (sure_zero l sure f new_zero) (array_bytes part (bytes_at new j))
+    by_sure : (sure : Bool) (new_zero : FirstZero I) (j : ℕ) → (sure ≡ true → InGammaZero gamma naming new new_zero (array_bytes part (bytes_at new j))) → InGammaZero gamma naming new new_zero (array_bytes part (bytes_at new j)) ⊎ InGammaZero gamma naming new f (array_bytes part (bytes_at new j)) → InGammaZero gamma naming new (sure_zero l sure f new_zero) (array_bytes part (bytes_at new j))
     by_sure true new_zero j h g = h refl
     by_sure false new_zero j h (inl g) = q.larger new_zero.at (l.join f.at new_zero.at) _ (o.join_right f.at new_zero.at) g
     by_sure false new_zero j h (inr g) = q.larger f.at (l.join f.at new_zero.at) _ (o.join_left f.at new_zero.at) g
 
-    module _ (target : ZeroTarget) (found : zero_target part write.start ≡ Some target) (inside : Option ZeroTarget) (window : zero_target part write.window ≡ inside) (lies : text_lies_in_array write.zero write.one_byte (is_whole inside) target ≡ true) (j : ℕ) (alive : IsLiveOf naming old b j) (h : StandsZero stands naming old f (array_bytes part (bytes_at old j))) where
+    module _ (target : ZeroTarget) (found : zero_target part write.start ≡ Some target) (inside : Option ZeroTarget) (window : zero_target part write.window ≡ inside) (lies : text_lies_in_array write.zero write.one_byte (is_whole inside) target ≡ true) (j : ℕ) (alive : IsLiveOf naming old b j) (h : InGammaZero gamma naming old f (array_bytes part (bytes_at old j))) where
       -- each byte is one of the array's where the window lies in it
       byte_in : is_whole inside ≡ true → (x : ℕ) → offset ≤ x → x < offset + size → IsIn part.size part.offset x
       byte_in whole x from to = by_window inside window whole
@@ -79,17 +79,17 @@ module _ {I : Type 0} {l : LatticeOf I} {n : IntegersOf I} {stands : I → ℤ �
       whole_starts : target.whole ≡ true → IsIn part.size part.offset offset
       whole_starts e = whole_in part write.start target offset (target_is part write.start target found) e k.start.0 k.start.1
 
-      kept : (j ≡ i → (x : ℕ) → IsIn part.size part.offset x → offset ≤ x → x < offset + size → ⊥) → StandsZero stands naming new f (array_bytes part (bytes_at new j))
-      kept none = subst (StandsZero stands naming new f) (sym (array_apart s part j none)) h
+      kept : (j ≡ i → (x : ℕ) → IsIn part.size part.offset x → offset ≤ x → x < offset + size → ⊥) → InGammaZero gamma naming new f (array_bytes part (bytes_at new j))
+      kept none = subst (InGammaZero gamma naming new f) (sym (array_apart s part j none)) h
 
       after : FirstZero I
       after = zero_after l n f target.local write.zero
 
-      sure_stands : StandsZero stands naming new (sure_zero l (alone && target.whole) f (zero_after l n f target.local write.zero)) (array_bytes part (bytes_at new j))
+      sure_stands : InGammaZero gamma naming new (sure_zero l (alone && target.whole) f (zero_after l n f target.local write.zero)) (array_bytes part (bytes_at new j))
       sure_stands = elim (cases_eq j i) [
         | inr ne ↦ by_sure (alone && target.whole) (zero_after l n f target.local write.zero) j (λ e. absurd (true≢false (sym e ∙ not_both alone target.whole (λ a w. ne (single a some j alive))))) (inr (kept (λ d. absurd (ne d))))
         | inl d ↦ elim (in_or_not part.size part.offset offset) [
-          | inl first ↦ (let g = subst (λ z. StandsZero stands naming new (zero_after l n f target.local write.zero) (array_bytes part (bytes_at new z))) (sym d) (rule z part target f among (subst (λ y. naming y ≡ Some b) d alive.named) found first (last_in first) near (subst (λ z. StandsZero stands naming old f (array_bytes part (bytes_at old z))) d h)) in
+          | inl first ↦ (let g = subst (λ z. InGammaZero gamma naming new (zero_after l n f target.local write.zero) (array_bytes part (bytes_at new z))) (sym d) (rule z part target f among (subst (λ y. naming y ≡ Some b) d alive.named) found first (last_in first) near (subst (λ z. InGammaZero gamma naming old f (array_bytes part (bytes_at old z))) d h)) in
               by_sure (alone && target.whole) (zero_after l n f target.local write.zero) j (λ e. g) (inl g))
           | inr out ↦ by_sure (alone && target.whole) (zero_after l n f target.local write.zero) j (λ e. absurd (true≢false (sym e ∙ not_both alone target.whole (λ a w. out (whole_starts w))))) (inr (kept (λ e. none_in out)))
         ]
@@ -102,35 +102,35 @@ module _ {I : Type 0} {l : LatticeOf I} {n : IntegersOf I} {stands : I → ℤ �
     says_nothing : write.zero ≡ Any → IsRuled
     says : 0 < size → RuleStands → IsRuled
 
-  module _ (ruled : IsRuled) (z : ℕ) (part : ZeroPart) (among : slice_get base.shape.zeros z ≡ Some part) (row : List (Cell I)) (there : zero_position base z < length row) (zeros : (j : ℕ) → IsLiveOf naming old b j → StandsZero stands naming old (zero_at l n row (zero_position base z)) (array_bytes part (bytes_at old j))) (j : ℕ) (alive : IsLiveOf naming old b j) where
+  module _ (ruled : IsRuled) (z : ℕ) (part : ZeroPart) (among : slice_get base.shape.zeros z ≡ Some part) (row : List (Cell I)) (there : zero_position base z < length row) (zeros : (j : ℕ) → IsLiveOf naming old b j → InGammaZero gamma naming old (zero_at l n row (zero_position base z)) (array_bytes part (bytes_at old j))) (j : ℕ) (alive : IsLiveOf naming old b j) where
     abbrev f : FirstZero I
     f = zero_at l n row (zero_position base z)
 
-    any_here : StandsZero stands naming new (any_zero l n) (array_bytes part (bytes_at new j))
+    any_here : InGammaZero gamma naming new (any_zero l n) (array_bytes part (bytes_at new j))
     any_here = any_zero_stands o q naming new (array_bytes part (bytes_at new j)) (small_array part j)
 
-    by_rule : IsRuled → (target : ZeroTarget) → zero_target part write.start ≡ Some target → text_lies_in_array write.zero write.one_byte (is_whole (zero_target part write.window)) target ≡ true → StandsZero stands naming new (sure_zero l (alone && target.whole) f (zero_after l n f target.local write.zero)) (array_bytes part (bytes_at new j))
+    by_rule : IsRuled → (target : ZeroTarget) → zero_target part write.start ≡ Some target → text_lies_in_array write.zero write.one_byte (is_whole (zero_target part write.window)) target ≡ true → InGammaZero gamma naming new (sure_zero l (alone && target.whole) f (zero_after l n f target.local write.zero)) (array_bytes part (bytes_at new j))
     by_rule (says some rule) target found lies = sure_stands some rule z part among f (zero_near q row (zero_position base z)) target found (zero_target part write.window) refl lies j alive (zeros j alive)
-    by_rule (says_nothing e) target found lies = subst (λ r. StandsZero stands naming new (sure_zero l (alone && target.whole) f (zero_after l n f target.local r)) (array_bytes part (bytes_at new j))) (sym e) (by_flag (alone && target.whole))
+    by_rule (says_nothing e) target found lies = subst (λ r. InGammaZero gamma naming new (sure_zero l (alone && target.whole) f (zero_after l n f target.local r)) (array_bytes part (bytes_at new j))) (sym e) (by_flag (alone && target.whole))
       where
-        by_flag : (sure : Bool) → StandsZero stands naming new (sure_zero l sure f (any_zero l n)) (array_bytes part (bytes_at new j))
+        by_flag : (sure : Bool) → InGammaZero gamma naming new (sure_zero l sure f (any_zero l n)) (array_bytes part (bytes_at new j))
         by_flag true = any_here
         by_flag false = q.larger (any_zero l n).at (l.join f.at (any_zero l n).at) _ (o.join_right f.at (any_zero l n).at) any_here
 
-    by_start : (start : Option ZeroTarget) → zero_target part write.start ≡ start → StandsZero stands naming new (zero_met_at l n f write alone (is_whole (zero_target part write.window)) start) (array_bytes part (bytes_at new j))
+    by_start : (start : Option ZeroTarget) → zero_target part write.start ≡ start → InGammaZero gamma naming new (zero_met_at l n f write alone (is_whole (zero_target part write.window)) start) (array_bytes part (bytes_at new j))
     by_start None found = any_here
     by_start (Some target) found = by_lies (text_lies_in_array write.zero write.one_byte (is_whole (zero_target part write.window)) target) refl
       where
-        by_lies : (lies : Bool) → text_lies_in_array write.zero write.one_byte (is_whole (zero_target part write.window)) target ≡ lies → StandsZero stands naming new (cond lies (sure_zero l (alone && target.whole) f (zero_after l n f target.local write.zero)) (any_zero l n)) (array_bytes part (bytes_at new j))
+        by_lies : (lies : Bool) → text_lies_in_array write.zero write.one_byte (is_whole (zero_target part write.window)) target ≡ lies → InGammaZero gamma naming new (cond lies (sure_zero l (alone && target.whole) f (zero_after l n f target.local write.zero)) (any_zero l n)) (array_bytes part (bytes_at new j))
         by_lies true e = by_rule ruled target found e
         by_lies false e = any_here
 
-    by_target : (target : Option ZeroTarget) → zero_target part write.window ≡ target → StandsZero stands naming new (zero_at l n (cond (is_some target) (write_zero_at l n write alone part (zero_position base z) row) row) (zero_position base z)) (array_bytes part (bytes_at new j))
-    by_target None e = subst (StandsZero stands naming new f)
+    by_target : (target : Option ZeroTarget) → zero_target part write.window ≡ target → InGammaZero gamma naming new (zero_at l n (cond (is_some target) (write_zero_at l n write alone part (zero_position base z) row) row) (zero_position base z)) (array_bytes part (bytes_at new j))
+    by_target None e = subst (InGammaZero gamma naming new f)
         (sym (array_apart s part j (λ d x inside from to. let w = k.window x from to in target_there part write.window x inside w.0 w.1 (small_byte x to) e)))
         (zeros j alive)
     by_target (Some target) e = put_zero_stands o q naming new row (zero_position base z) (zero_met l n part f write alone) (array_bytes part (bytes_at new j)) there (small_array part j) (by_start (zero_target part write.start) refl)
 
-    pub zero_written : StandsZero stands naming new (zero_at l n (write_zero l n base write alone part z row) (zero_position base z)) (array_bytes part (bytes_at new j))
+    pub zero_written : InGammaZero gamma naming new (zero_at l n (write_zero l n base write alone part z row) (zero_position base z)) (array_bytes part (bytes_at new j))
     unfolding write_zero
     zero_written = by_target (zero_target part write.window) refl

@@ -24,8 +24,8 @@ use Rattle.memory_model.specs.Memory.ScalarSizes.{class_bytes}
 use Rattle.memory_model.specs.Memory.Bytes.{Content, indeterminate, Byte}
 use Rattle.memory_model.specs.Memory.Instances.{live, bytes_at, byte_at, life_at}
 use Rattle.store_sound.specs.Concretization.Matching.{Fits, Matched}
-use Rattle.store_sound.specs.Concretization.ValueMeaning.{Naming, StandsContent}
-use Rattle.store_sound.specs.Concretization.RowMeaning.{MachineState, StandsFor}
+use Rattle.store_sound.specs.Concretization.ValueMeaning.{Naming, InGammaContent}
+use Rattle.store_sound.specs.Concretization.RowMeaning.{MachineState, InGamma}
 use Rattle.store_sound.specs.Operations.Gives.{Gives}
 use Rattle.store_sound.specs.Operations.Shapes.{AreShaped, SeesPadding}
 use Rattle.store_sound.proofs.operations.CellReads.{Sees, blank_stands}
@@ -72,7 +72,7 @@ module _ {I : Type 0} (l : LatticeOf I) (n : IntegersOf I) where
 
 -- ---- a byte
 
-module _ {I : Type 0} {l : LatticeOf I} {n : IntegersOf I} {stands : I → ℤ → Type 0} (o : OrderLaws l) (q : BoundLaws l n stands) (c : SoundLaws l n stands) (flow : Flow) (shaped : AreShaped flow.bases.items) (padding : SeesPadding flow.model flow.bases.items) (naming : Naming) (row : List (Cell I)) (state : MachineState) (s : StandsFor l n stands flow naming row state)
+module _ {I : Type 0} {l : LatticeOf I} {n : IntegersOf I} {gamma : I → ℤ → Type 0} (o : OrderLaws l) (q : BoundLaws l n gamma) (c : SoundLaws l n gamma) (flow : Flow) (shaped : AreShaped flow.bases.items) (padding : SeesPadding flow.model flow.bases.items) (naming : Naming) (row : List (Cell I)) (state : MachineState) (s : InGamma l n gamma flow naming row state)
     (set : Bases) (window : Window) (i x b : ℕ) (base : BaseInfo) (at : slice_get flow.bases.items b ≡ Some base) (named : naming i ≡ Some b) (alive : life_at state.memory i ≡ live) (has : bases_has set b ≡ true) (from : window.lo ≤ x) (to : x ≤ window.hi) (byte : Byte) (here : byte_at state.memory i x ≡ Some byte) (is : byte.content ≡ indeterminate) where
   sees : Fits Char 0 byte.tag → Sees flow.model state.memory i x Char (indeterminate ∷ [])
   sees fits = record { long = refl; each = each }
@@ -92,7 +92,7 @@ module _ {I : Type 0} {l : LatticeOf I} {n : IntegersOf I} {stands : I → ℤ �
   blank_told = blank_read l n flow.model row set window flow.bases.items
       (char_reaches o q flow shaped padding naming row state s (character_access true window) refl i x from to alive inside b base at named byte here {P = λ v. v.indeterminate ≡ true}
       (λ u v h. (value_below l u v h).indeterminate)
-      (λ v d h. byte_flag l n flow.model v d true (subst (StandsContent stands naming state.memory v d) is h))
+      (λ v d h. byte_flag l n flow.model v d true (subst (InGammaContent gamma naming state.memory v d) is h))
       refl
       (λ t v h. absurd (no_text q flow naming row state s i x b base at (record { named = named; alive = alive }) window from to byte here is t))
       (λ fits signed Place Owns v cell place owns. read_flag n flow.model v Char signed true (blank_stands c flow naming state.memory s.sane b Char signed Place Owns v cell i x (record { named = named; alive = alive }) place owns (indeterminate ∷ []) (sees fits) refl))

@@ -65,7 +65,7 @@ use Rattle.semantics.specs.CfgMachine.FlowStates.{Standing, values_of}
 use Rattle.store_sound.specs.Concretization.Matching.{number_in}
 use Rattle.store_sound.specs.Concretization.SeenLabels.{as_set}
 use Rattle.store_sound.specs.Concretization.SoundMemory.{IsContentIn, IsMemoryOf, IsWithin}
-use Rattle.store_sound.specs.Concretization.ValueMeaning.{Naming, StandsInto, StandsByLife, StandsScalar}
+use Rattle.store_sound.specs.Concretization.ValueMeaning.{Naming, InGammaInto, InGammaByLife, InGammaScalar}
 use Rattle.store_sound.specs.Concretization.RowMeaning.{IsLiveOf}
 use Rattle.store_sound.specs.Concretization.Coverage.{state_of}
 use Rattle.store_sound.specs.Operations.Shapes.{AreShaped, IsLaidOut}
@@ -117,8 +117,8 @@ some_range : (x : Range) (z : ℤ) → RangeHas x z → is_some x ≡ true
 some_range None z h = absurd h
 some_range (Some x) z h = refl
 
-module _ {I : Type 0} {l : LatticeOf I} {n : IntegersOf I} {stands : I → ℤ → Type 0} (o : OrderLaws l) (q : BoundLaws l n stands) (flow : Flow) (shaped : AreShaped flow.bases.items) (naming : Naming) (memory : Memory) (sane : IsMemoryOf flow.model flow.bases.items naming memory)
-    (p : Pointers I) (i offset lo hi : ℕ) (st : StandsInto stands naming memory p i offset lo hi) (inside : IsWithin memory i offset lo hi) where
+module _ {I : Type 0} {l : LatticeOf I} {n : IntegersOf I} {gamma : I → ℤ → Type 0} (o : OrderLaws l) (q : BoundLaws l n gamma) (flow : Flow) (shaped : AreShaped flow.bases.items) (naming : Naming) (memory : Memory) (sane : IsMemoryOf flow.model flow.bases.items naming memory)
+    (p : Pointers I) (i offset lo hi : ℕ) (st : InGammaInto gamma naming memory p i offset lo hi) (inside : IsWithin memory i offset lo hi) where
   -- the first of the bytes that a call goes over, where there is room for them
   pub first_touched : (need : Range) (size k : ℕ) → RangeHas need (pos size) → k ≤ size → k ≤ hi - offset → (x : ℕ) → offset ≤ x → x < offset + k → WindowHas (touched_window n p need) x
   unfolding touched_window
@@ -126,7 +126,7 @@ module _ {I : Type 0} {l : LatticeOf I} {n : IntegersOf I} {stands : I → ℤ �
       let a = upper_above need (pos size) has in
       touched_has o q flow shaped naming memory sane p i offset lo hi st inside (Some (pos 0, upper_or (pos 0) need)) k (omega (arith, ints), omega (arith, ints, a, below)) room x from to
 
-module _ {I : Type 0} {l : LatticeOf I} {n : IntegersOf I} {stands : I → ℤ → Type 0} (o : OrderLaws l) (q : BoundLaws l n stands) (c : SoundLaws l n stands) (flow : Flow) (p : HasPremises flow) (naming : Naming) (row : List (Cell I)) (s : Standing) (r : IsReached l n stands flow naming row s) (to : Option ℕ) (has : has_result (names_of flow) to ≡ true) (newest : Option ℕ)
+module _ {I : Type 0} {l : LatticeOf I} {n : IntegersOf I} {gamma : I → ℤ → Type 0} (o : OrderLaws l) (q : BoundLaws l n gamma) (c : SoundLaws l n gamma) (flow : Flow) (p : HasPremises flow) (naming : Naming) (row : List (Cell I)) (s : Standing) (r : IsReached l n gamma flow naming row s) (to : Option ℕ) (has : has_result (names_of flow) to ≡ true) (newest : Option ℕ)
     (items : List ℕ) (wanted : Option ℕ) (vs : List Scalar) (e : values_of s.temps items ≡ Some vs)
     (d : MachinePointer) (m : MachinePointer) (count : ℤ) (lb : Labels) (first : slice_get vs 0 ≡ Some (pointer d)) (second : slice_get vs 1 ≡ Some (pointer m)) (third : slice_get vs 2 ≡ Some (integer count lb)) (sized : pos 0 ≤ℤ count) where
   abbrev call : Call
@@ -179,7 +179,7 @@ module _ {I : Type 0} {l : LatticeOf I} {n : IntegersOf I} {stands : I → ℤ �
   abbrev bounded_plan : Plan I
   bounded_plan = text_from_start l n call target letters zero_rule.Any
 
-  amount_stands : StandsScalar stands naming s.world.memory amount (integer count lb)
+  amount_stands : InGammaScalar gamma naming s.world.memory amount (integer count lb)
   amount_stands = argument_stands o q flow p naming row s r to has newest items wanted vs e 2 (integer count lb) third
 
   size_is : count ≡ pos size
@@ -237,7 +237,7 @@ module _ {I : Type 0} {l : LatticeOf I} {n : IntegersOf I} {stands : I → ℤ �
     within : IsWithin s.world.memory i offset lo hi
     within = given_within o q flow p naming row s r to has newest items wanted vs e 0 i offset lo hi here alive
 
-    st : StandsInto stands naming s.world.memory given.rest i offset lo hi
+    st : InGammaInto gamma naming s.world.memory given.rest i offset lo hi
     st = given_into o q flow p naming row s r to has newest items wanted vs e 0 i offset lo hi here alive
 
     given_on : first_trail.goes_on ≡ true
@@ -268,7 +268,7 @@ module _ {I : Type 0} {l : LatticeOf I} {n : IntegersOf I} {stands : I → ℤ �
         on : target.trail.goes_on ≡ true
         on = goes_further fitting_trail (literal_violations (writes_literal flow.bases.items given.rest.bases cut)) (not (bases_empty (after_write flow.bases.items given.rest.bases cut))) fitted (ap not (not_empty (after_write flow.bases.items given.rest.bases cut) st.base after_there))
 
-        rest : (y : StandsInto stands naming s.world.memory target.rest i offset lo hi) × (y.base ≡ st.base)
+        rest : (y : InGammaInto gamma naming s.world.memory target.rest i offset lo hi) × (y.base ≡ st.base)
         rest = within_stands o q flow p.shaped naming s.world.memory r.stands_for.sane given.rest i offset lo hi st within (after_write flow.bases.items given.rest.bases cut) after_there
 
         start : WindowHas (window_within (offsets n target.rest)) offset
@@ -288,10 +288,10 @@ module _ {I : Type 0} {l : LatticeOf I} {n : IntegersOf I} {stands : I → ℤ �
         -- memory in which numbers of the source, or zeros, were written
         module _ (memory : Memory) (region_here : IsRegion s.world.memory memory i offset size) (sane : IsMemoryOf flow.model flow.bases.items naming memory)
             (numbers : (x : ℕ) (b : Byte) → offset ≤ x → x < offset + size → byte_at memory i x ≡ Some b → (k : ℕ) × (la : Labels) × (b.content ≡ number k la) × (labels_leq (as_set la) letters.labels ≡ true))
-            (characters : (x : ℕ) (y : Labelled) (b : Byte) → offset ≤ x → x < offset + size → byte_at memory i x ≡ Some b → b.content ≡ number_in y → (signed : Bool) → stands (character_value l n letters signed).num (number_of signed (y ∷ []))) where
+            (characters : (x : ℕ) (y : Labelled) (b : Byte) → offset ≤ x → x < offset + size → byte_at memory i x ≡ Some b → b.content ≡ number_in y → (signed : Bool) → gamma (character_value l n letters signed).num (number_of signed (y ∷ []))) where
           result : IsResult q flow p naming memory (pointer_value l target.rest) (pointer d)
           result = subst (λ y. IsResult q flow p naming memory (pointer_value l target.rest) (pointer y)) (sym is) (record {
-            stands_for = scalar_moves (alike_region region_here) stands naming (pointer_value l target.rest) (pointer (into i offset lo hi)) (subst (λ y. StandsByLife stands naming s.world.memory target.rest y i offset lo hi) (sym alive) rest.0);
+            stands_for = scalar_moves (alike_region region_here) gamma naming (pointer_value l target.rest) (pointer (into i offset lo hi)) (subst (λ y. InGammaByLife gamma naming s.world.memory target.rest y i offset lo hi) (sym alive) rest.0);
             near = tt;
             within = pointer_in_moves (alike_region region_here) (into i offset lo hi) within;
           })
@@ -330,7 +330,7 @@ module _ {I : Type 0} {l : LatticeOf I} {n : IntegersOf I} {stands : I → ℤ �
                 let same : y.window ≡ w = same_Some y.window w (sym y.is ∙ some) in
                 subst (λ t. (t.lo ≤ x) × (x ≤ t.hi)) same (y.from, y.to)
 
-            is_text : IsTextWrite l n stands write memory i offset size
+            is_text : IsTextWrite l n gamma write memory i offset size
             is_text = record {
               window = window_has;
               start = (start.from, start.to);
@@ -395,7 +395,7 @@ module _ {I : Type 0} {l : LatticeOf I} {n : IntegersOf I} {stands : I → ℤ �
       right_within : IsWithin s.world.memory j at low high
       right_within = given_within o q flow p naming row s r to has newest items wanted vs e 1 j at low high there right_alive
 
-      right_st : StandsInto stands naming s.world.memory source.rest j at low high
+      right_st : InGammaInto gamma naming s.world.memory source.rest j at low high
       right_st = given_into o q flow p naming row s r to has newest items wanted vs e 1 j at low high there right_alive
 
       right_base : (base : BaseInfo) × (slice_get flow.bases.items right_st.base ≡ Some base)
@@ -510,10 +510,10 @@ module _ {I : Type 0} {l : LatticeOf I} {n : IntegersOf I} {stands : I → ℤ �
         read_window : (k : ℕ) → k < t → RangeHas cut (pos size) → WindowHas (touched_window n source.rest cut) (at + k)
         read_window k less cut_size = let x = count_of.short in let y = short in first_touched o q flow p.shaped naming s.world.memory r.stands_for.sane source.rest j at low high right_st right_within cut size t cut_size x y (at + k) (omega arith) (omega (arith, less))
 
-        letters_have : RangeHas cut (pos size) → (k : ℕ) → k < t → (y : Labelled) (b2 : Byte) → byte_at s.world.memory j (at + k) ≡ Some b2 → b2.content ≡ number_in y → ((signed : Bool) → stands (cond signed letters.signed letters.unsigned) (number_of signed (y ∷ []))) × (labels_leq (as_set y.labels) letters.labels ≡ true)
+        letters_have : RangeHas cut (pos size) → (k : ℕ) → k < t → (y : Labelled) (b2 : Byte) → byte_at s.world.memory j (at + k) ≡ Some b2 → b2.content ≡ number_in y → ((signed : Bool) → gamma (cond signed letters.signed letters.unsigned) (number_of signed (y ∷ []))) × (labels_leq (as_set y.labels) letters.labels ≡ true)
         letters_have cut_size k less y b2 f g =
             let w = read_window k less cut_size in
-            subst (λ v. ((signed : Bool) → stands (cond signed (characters_of l n flow.model flow.bases.items row source.rest.bases v).signed (characters_of l n flow.model flow.bases.items row source.rest.bases v).unsigned) (number_of signed (y ∷ []))) × (labels_leq (as_set y.labels) (characters_of l n flow.model flow.bases.items row source.rest.bases v).labels ≡ true)) (sym w.is) (
+            subst (λ v. ((signed : Bool) → gamma (cond signed (characters_of l n flow.model flow.bases.items row source.rest.bases v).signed (characters_of l n flow.model flow.bases.items row source.rest.bases v).unsigned) (number_of signed (y ∷ []))) × (labels_leq (as_set y.labels) (characters_of l n flow.model flow.bases.items row source.rest.bases v).labels ≡ true)) (sym w.is) (
               (λ signed. source_number o q c flow p.shaped p.padding naming row (state_of s) r.stands_for source.rest.bases w.window j (at + k) right_st.base right_base.0 right_base.1 right_st.named right_alive right_st.among w.from w.to b2 f y g signed),
               source_labels o q c flow p.shaped p.padding naming row (state_of s) r.stands_for source.rest.bases w.window j (at + k) right_st.base right_base.0 right_base.1 right_st.named right_alive right_st.among w.from w.to b2 f y g,
             )
@@ -525,7 +525,7 @@ module _ {I : Type 0} {l : LatticeOf I} {n : IntegersOf I} {stands : I → ℤ �
           pub number_is : x ≡ number digit labels
           pub small : digit < 256
           pub labelled : labels_leq (as_set labels) letters.labels ≡ true
-          pub stood : (signed : Bool) → stands (character_value l n letters signed).num (number_of signed (record { number = digit; labels = labels } ∷ []))
+          pub stood : (signed : Bool) → gamma (character_value l n letters signed).num (number_of signed (record { number = digit; labels = labels } ∷ []))
 
         known_number : RangeHas cut (pos size) → (k : ℕ) (x : Content) → slice_get content_list k ≡ Some x → IsKnownNumber x
         known_number cut_size k x f = elim (padded_at front t size k x f) [
@@ -546,7 +546,7 @@ module _ {I : Type 0} {l : LatticeOf I} {n : IntegersOf I} {stands : I → ℤ �
             number_is = sym h;
             small = omega arith;
             labelled = labels_order.least_below letters.labels;
-            stood = λ signed. q.larger (n.one (pos 0)) (l.join (cond signed letters.signed letters.unsigned) (n.one (pos 0))) (number_of signed (record { number = 0; labels = no_labels } ∷ [])) (o.join_right (cond signed letters.signed letters.unsigned) (n.one (pos 0))) (subst (stands (n.one (pos 0))) (sym (zero_number signed (record { number = 0; labels = no_labels }) refl)) (q.one_stands (pos 0)));
+            stood = λ signed. q.larger (n.one (pos 0)) (l.join (cond signed letters.signed letters.unsigned) (n.one (pos 0))) (number_of signed (record { number = 0; labels = no_labels } ∷ [])) (o.join_right (cond signed letters.signed letters.unsigned) (n.one (pos 0))) (subst (gamma (n.one (pos 0))) (sym (zero_number signed (record { number = 0; labels = no_labels }) refl)) (q.one_stands (pos 0)));
           }
         ]
 
@@ -579,7 +579,7 @@ module _ {I : Type 0} {l : LatticeOf I} {n : IntegersOf I} {stands : I → ℤ �
           padded_good : Fine (goes (Some (pointer d)) (with_contents start_world (reach_of i offset hi) content_list))
           padded_good = memory_good text_on room plain memory region_here sane
               (λ x b2 from below f. let y = byte_known x b2 from below f in (y.digit, y.labels, y.number_is, y.labelled))
-              (λ x y b2 from below f g signed. let z = byte_known x b2 from below f in subst (stands (character_value l n letters signed).num) (known_digit y z.digit z.labels (sym g ∙ z.number_is) signed) (z.stood signed))
+              (λ x y b2 from below f g signed. let z = byte_known x b2 from below f in subst (gamma (character_value l n letters signed).num) (known_digit y z.digit z.labels (sym g ∙ z.number_is) signed) (z.stood signed))
 
           by_overlap : (x : Bool) → Fine (with_result (cond x (stops Left start_world) (goes (pointer d) (with_contents start_world (reach_of i offset hi) content_list))))
           by_overlap true = plain_stop o q flow p naming row s r to has newest bounded_plan found fine Left

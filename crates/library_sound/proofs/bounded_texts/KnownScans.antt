@@ -27,8 +27,8 @@ use Rattle.memory_model.specs.Effects.LibraryChecks as machine
 use Rattle.memory_model.specs.Effects.ScalarBytes.{region, contents}
 use Rattle.store_sound.specs.Concretization.FirstZeroBytes.{first_zero, zero_offset}
 use Rattle.store_sound.specs.Concretization.SoundMemory.{IsWithin}
-use Rattle.store_sound.specs.Concretization.ValueMeaning.{Naming, StandsInto}
-use Rattle.store_sound.specs.Concretization.RowMeaning.{MachineState, StandsFor, array_bytes}
+use Rattle.store_sound.specs.Concretization.ValueMeaning.{Naming, InGammaInto}
+use Rattle.store_sound.specs.Concretization.RowMeaning.{MachineState, InGamma, array_bytes}
 use Rattle.store_sound.specs.Operations.Shapes.{AreShaped}
 use Rattle.store_sound.proofs.operations.Sets.{if_keeps, if_adds}
 use Rattle.store_sound.proofs.operations.Slices.{get_there}
@@ -60,8 +60,8 @@ stands_in part bytes k b e = elim (in_or_not part.size part.offset (part.offset 
   | inr h ↦ (let g : None ≡ Some b = sym ((array_get part.size part.offset bytes k).1 h) ∙ e in cc)
 ]
 
-module _ {I : Type 0} {l : LatticeOf I} {n : IntegersOf I} {stands : I → ℤ → Type 0} (o : OrderLaws l) (q : BoundLaws l n stands) (flow : Flow) (shaped : AreShaped flow.bases.items) (naming : Naming) (row : List (Cell I)) (state : MachineState) (s : StandsFor l n stands flow naming row state)
-    (p : Pointers I) (i offset lo hi : ℕ) (alive : life_at state.memory i ≡ live) (st : StandsInto stands naming state.memory p i offset lo hi) (inside : IsWithin state.memory i offset lo hi) where
+module _ {I : Type 0} {l : LatticeOf I} {n : IntegersOf I} {gamma : I → ℤ → Type 0} (o : OrderLaws l) (q : BoundLaws l n gamma) (flow : Flow) (shaped : AreShaped flow.bases.items) (naming : Naming) (row : List (Cell I)) (state : MachineState) (s : InGamma l n gamma flow naming row state)
+    (p : Pointers I) (i offset lo hi : ℕ) (alive : life_at state.memory i ≡ live) (st : InGammaInto gamma naming state.memory p i offset lo hi) (inside : IsWithin state.memory i offset lo hi) where
   abbrev bytes : List Byte
   bytes = bytes_at state.memory i
 
@@ -71,7 +71,7 @@ module _ {I : Type 0} {l : LatticeOf I} {n : IntegersOf I} {stands : I → ℤ �
   small_instance : length (bytes_at state.memory i) ≤ 2 ^ 64 - 1
   small_instance = s.sane.small i
 
-  room_stands : stands (near_number l n (of_range l n (rooms n p))) (pos (hi - offset))
+  room_stands : gamma (near_number l n (of_range l n (rooms n p))) (pos (hi - offset))
   room_stands =
       let a = inside.above in
       let b = inside.below in

@@ -68,21 +68,21 @@ drawn_end w least most = from_end w least most w.draws refl
 
 -- ---- what a call gives
 
-module _ {I : Type 0} {l : LatticeOf I} {n : IntegersOf I} {stands : I → ℤ → Type 0} (q : BoundLaws l n stands) (flow : Flow) (p : HasPremises flow) (naming : Naming) (row : List (Cell I)) (s : Standing) (r : IsReached l n stands flow naming row s) where
+module _ {I : Type 0} {l : LatticeOf I} {n : IntegersOf I} {gamma : I → ℤ → Type 0} (q : BoundLaws l n gamma) (flow : Flow) (p : HasPremises flow) (naming : Naming) (row : List (Cell I)) (s : Standing) (r : IsReached l n gamma flow naming row s) where
   pub clean : (told : Violations) → AreAdmitted told s.world.violated
   clean told = same_admitted told s.world.violated [] r.begun (none_admitted told)
 
-  pub call_stops : (after : Option (List (Cell I))) (told : Violations) (to : Option ℕ) (why : Why) (w : World) → AreAdmitted told w.violated → IsStoodFor l n stands flow after told (calling s to (stops why w))
-  call_stops after told to why w h = stop_good l n stands flow after told why w h
+  pub call_stops : (after : Option (List (Cell I))) (told : Violations) (to : Option ℕ) (why : Why) (w : World) → AreAdmitted told w.violated → IsStoodFor l n gamma flow after told (calling s to (stops why w))
+  call_stops after told to why w h = stop_good l n gamma flow after told why w h
 
-  pub call_gives : (told : Violations) (to : Option ℕ) → has_result (names_of flow) to ≡ true → (x : Value I) (v : Scalar) (w : World) → IsResult q flow p naming s.world.memory x v → w.memory ≡ s.world.memory → AreAdmitted told w.violated → IsStoodFor l n stands flow (Some (put_result flow to x row)) told (calling s to (goes (Some v) w))
-  call_gives told None has x v w result same h = stop_good l n stands flow _ told Stuck s.world (clean told)
+  pub call_gives : (told : Violations) (to : Option ℕ) → has_result (names_of flow) to ≡ true → (x : Value I) (v : Scalar) (w : World) → IsResult q flow p naming s.world.memory x v → w.memory ≡ s.world.memory → AreAdmitted told w.violated → IsStoodFor l n gamma flow (Some (put_result flow to x row)) told (calling s to (goes (Some v) w))
+  call_gives told None has x v w result same h = stop_good l n gamma flow _ told Stuck s.world (clean told)
   call_gives told (Some t) has x v w result same h = result_good q flow p naming row s r t (ltb-true t flow.temps has) x v w result same (Some (put_result flow (Some t) x row)) told refl h
 
   module _ (to : Option ℕ) (has : has_result (names_of flow) to ≡ true) (newest : Option ℕ) where
     -- what a plan makes of the row is stood for
     abbrev pub GoodPlan : Plan I → Reply (Option Scalar) → Type 0
-    GoodPlan plan reply = IsStoodFor l n stands flow (apply l n flow to newest plan.effect row) plan.violations (calling s to reply)
+    GoodPlan plan reply = IsStoodFor l n gamma flow (apply l n flow to newest plan.effect row) plan.violations (calling s to reply)
 
     pub plan_stops : (plan : Plan I) (why : _) (w : World) → AreAdmitted plan.violations w.violated → GoodPlan plan (stops why w)
     plan_stops plan why w h = call_stops (apply l n flow to newest plan.effect row) plan.violations to why w h
@@ -95,5 +95,5 @@ module _ {I : Type 0} {l : LatticeOf I} {n : IntegersOf I} {stands : I → ℤ �
     plan_is plan other reply e h = subst (λ z. GoodPlan z reply) (sym e) h
 
     -- a number with labels that it has at most
-    pub number_result : (x : I) (labels : _) (z : ℤ) (la : Labels) → stands x z → sets.labels_leq (as_set la) labels ≡ true → IsNearNumber z → IsResult q flow p naming s.world.memory (number_value l x labels) (integer z la)
+    pub number_result : (x : I) (labels : _) (z : ℤ) (la : Labels) → gamma x z → sets.labels_leq (as_set la) labels ≡ true → IsNearNumber z → IsResult q flow p naming s.world.memory (number_value l x labels) (integer z la)
     number_result x labels z la st le near = record { stands_for = (st, le); near = near; within = tt }

@@ -51,39 +51,39 @@ small_sum c h g = saturate_is (c +ℤ pos 32) (omega (arith, ints)) (omega (arit
 small_difference : (c : ℤ) → pos 97 ≤ℤ c → c ≤ℤ pos 122 → abstract.difference_of c (pos 32) ≡ (c -ℤ pos 32)
 small_difference c h g = saturate_is (c -ℤ pos 32) (omega (arith, ints)) (omega (arith, ints))
 
-module _ {I : Type 0} {l : LatticeOf I} {n : IntegersOf I} {stands : I → ℤ → Type 0} (o : OrderLaws l) (q : BoundLaws l n stands) where
-  between_or : (a b z : ℤ) → a ≤ℤ z → z ≤ℤ b → stands (between_or_least l n a b) z
+module _ {I : Type 0} {l : LatticeOf I} {n : IntegersOf I} {gamma : I → ℤ → Type 0} (o : OrderLaws l) (q : BoundLaws l n gamma) where
+  between_or : (a b z : ℤ) → a ≤ℤ z → z ≤ℤ b → gamma (between_or_least l n a b) z
   between_or a b z h k = elim (cases_Bool (int_le a b)) [
     | inl e ↦ rw e (q.larger (n.one z) (n.between a b) z (q.below_between (n.one z) z z a b (q.one_bounds z) h k) (q.one_stands z))
     | inr e ↦ absurd (grind (arith, ints))
   ]
 
-  pub number_between : (a b z : ℤ) → a ≤ℤ z → z ≤ℤ b → stands (between_or_least l n a b) z
+  pub number_between : (a b z : ℤ) → a ≤ℤ z → z ≤ℤ b → gamma (between_or_least l n a b) z
   number_between a b z h k = between_or a b z h k
 
-  truth_number : (b : Bool) → stands (between_or_least l n (pos 0) (pos 1)) (cond b (pos 1) (pos 0))
+  truth_number : (b : Bool) → gamma (between_or_least l n (pos 0) (pos 1)) (cond b (pos 1) (pos 0))
   truth_number true = between_or (pos 0) (pos 1) (pos 1) (omega (arith, ints)) (omega (arith, ints))
   truth_number false = between_or (pos 0) (pos 1) (pos 0) (omega (arith, ints)) (omega (arith, ints))
 
-  one_truth : (b : Bool) → stands (cond b (n.one (pos 1)) (n.one (pos 0))) (cond b (pos 1) (pos 0))
+  one_truth : (b : Bool) → gamma (cond b (n.one (pos 1)) (n.one (pos 0))) (cond b (pos 1) (pos 0))
   one_truth true = q.one_stands (pos 1)
   one_truth false = q.one_stands (pos 0)
 
   -- a test of a character
-  pub tested : (function : LibFn) (lo hi c : ℤ) → lo ≤ℤ c → c ≤ℤ hi → stands (abstract.tested_number l n function lo hi) (cond (abstract.has_class function c) (pos 1) (pos 0))
+  pub tested : (function : LibFn) (lo hi c : ℤ) → lo ≤ℤ c → c ≤ℤ hi → gamma (abstract.tested_number l n function lo hi) (cond (abstract.has_class function c) (pos 1) (pos 0))
   tested function lo hi c h k = elim (cases_Bool (int_eq lo hi)) [
-    | inl e ↦ rw e (subst (λ z. stands (cond (abstract.has_class function lo) (n.one (pos 1)) (n.one (pos 0))) (cond (abstract.has_class function z) (pos 1) (pos 0))) (sym (between_same lo hi c e h k)) (one_truth (abstract.has_class function lo)))
+    | inl e ↦ rw e (subst (λ z. gamma (cond (abstract.has_class function lo) (n.one (pos 1)) (n.one (pos 0))) (cond (abstract.has_class function z) (pos 1) (pos 0))) (sym (between_same lo hi c e h k)) (one_truth (abstract.has_class function lo)))
     | inr e ↦ rw e (truth_number (abstract.has_class function c))
   ]
 
   -- ---- letters of the other case
 
-  choose : (a b : Bool) (x y z : I) (c : ℤ) → (a ≡ true → stands x c) → (a ≡ false → b ≡ true → stands y c) → (a ≡ false → b ≡ false → stands z c) → stands (cond a x (cond b y z)) c
+  choose : (a b : Bool) (x y z : I) (c : ℤ) → (a ≡ true → gamma x c) → (a ≡ false → b ≡ true → gamma y c) → (a ≡ false → b ≡ false → gamma z c) → gamma (cond a x (cond b y z)) c
   choose true b x y z c f g h = f refl
   choose false true x y z c f g h = g refl refl
   choose false false x y z c f g h = h refl refl
 
-  by_letter : (b : Bool) (x : I) (c d : ℤ) → (b ≡ true → stands x c) → (b ≡ false → stands x d) → stands x (cond b c d)
+  by_letter : (b : Bool) (x : I) (c d : ℤ) → (b ≡ true → gamma x c) → (b ≡ false → gamma x d) → gamma x (cond b c d)
   by_letter true x c d f g = f refl
   by_letter false x c d f g = g refl
 
@@ -99,7 +99,7 @@ module _ {I : Type 0} {l : LatticeOf I} {n : IntegersOf I} {stands : I → ℤ �
   ]
 
   -- `toupper`
-  pub raised : (lo hi c : ℤ) → negsuc 0 ≤ℤ lo → hi ≤ℤ pos 255 → lo ≤ℤ c → c ≤ℤ hi → stands (abstract.raised l n lo hi) (cond (machine.is_lower c) (c -ℤ pos 32) c)
+  pub raised : (lo hi c : ℤ) → negsuc 0 ≤ℤ lo → hi ≤ℤ pos 255 → lo ≤ℤ c → c ≤ℤ hi → gamma (abstract.raised l n lo hi) (cond (machine.is_lower c) (c -ℤ pos 32) c)
   raised lo hi c a b p k = choose (int_eq lo hi && machine.is_lower lo) (not (int_eq lo hi) && abstract.meets lo hi (pos 97) (pos 122)) _ _ _ (cond (machine.is_lower c) (c -ℤ pos 32) c)
       (λ h. let t = and_parts (int_eq lo hi) (machine.is_lower lo) h in
       let same = between_same lo hi c t.0 p k in
@@ -114,7 +114,7 @@ module _ {I : Type 0} {l : LatticeOf I} {n : IntegersOf I} {stands : I → ℤ �
       (λ h g. by_letter (machine.is_lower c) _ (c -ℤ pos 32) c (λ e. absurd (none_turned machine.is_lower lo hi (pos 97) (pos 122) c h g p k (lower_is c) e)) (λ e. between_or lo hi c p k))
 
   -- `tolower`
-  pub lowered : (lo hi c : ℤ) → negsuc 0 ≤ℤ lo → hi ≤ℤ pos 255 → lo ≤ℤ c → c ≤ℤ hi → stands (abstract.lowered l n lo hi) (cond (machine.is_upper c) (c +ℤ pos 32) c)
+  pub lowered : (lo hi c : ℤ) → negsuc 0 ≤ℤ lo → hi ≤ℤ pos 255 → lo ≤ℤ c → c ≤ℤ hi → gamma (abstract.lowered l n lo hi) (cond (machine.is_upper c) (c +ℤ pos 32) c)
   lowered lo hi c a b p k = choose (int_eq lo hi && machine.is_upper lo) (not (int_eq lo hi) && abstract.meets lo hi (pos 65) (pos 90)) _ _ _ (cond (machine.is_upper c) (c +ℤ pos 32) c)
       (λ h. let t = and_parts (int_eq lo hi) (machine.is_upper lo) h in
       let same = between_same lo hi c t.0 p k in

@@ -53,7 +53,7 @@ use Rattle.memory_model.specs.Effects.Worlds.{World, Reply, goes, stops, behind,
 use Rattle.semantics.specs.CfgMachine.FlowStates.{Standing, values_of}
 use Rattle.semantics.specs.CfgMachine.FlowActs.{calling}
 use Rattle.store_sound.specs.Concretization.SeenLabels.{as_set}
-use Rattle.store_sound.specs.Concretization.ValueMeaning.{Naming, StandsScalar}
+use Rattle.store_sound.specs.Concretization.ValueMeaning.{Naming, InGammaScalar}
 use Rattle.store_sound.specs.Programs.Premises.{HasPremises}
 use Rattle.transfer_sound.specs.Values.SoundSteps.{IsReached, IsStoodFor, StepIsSound}
 use Rattle.transfer_sound.proofs.values.Admitted.{AreAdmitted, one_admitted, both_admitted}
@@ -89,7 +89,7 @@ letter_near : (b : Bool) (c d : ℤ) → negsuc 999 ≤ℤ c → c ≤ℤ pos 99
 letter_near true c d p k g h = record { from = omega (arith, ints); to = omega (arith, ints) }
 letter_near false c d p k g h = record { from = omega (arith, ints); to = omega (arith, ints) }
 
-module _ {I : Type 0} {l : LatticeOf I} {n : IntegersOf I} {stands : I → ℤ → Type 0} (o : OrderLaws l) (q : BoundLaws l n stands) (c : SoundLaws l n stands) (flow : Flow) (p : HasPremises flow) (naming : Naming) (row : List (Cell I)) (s : Standing) (r : IsReached l n stands flow naming row s) (to : Option ℕ) (has : has_result (names_of flow) to ≡ true) (newest : Option ℕ) where
+module _ {I : Type 0} {l : LatticeOf I} {n : IntegersOf I} {gamma : I → ℤ → Type 0} (o : OrderLaws l) (q : BoundLaws l n gamma) (c : SoundLaws l n gamma) (flow : Flow) (p : HasPremises flow) (naming : Naming) (row : List (Cell I)) (s : Standing) (r : IsReached l n gamma flow naming row s) (to : Option ℕ) (has : has_result (names_of flow) to ≡ true) (newest : Option ℕ) where
   -- ---- `getchar`
 
   getchar_good : DrawnEnd s.world (negsuc 0) (pos 255) (drawn s.world (negsuc 0) (pos 255)) → GoodPlan q flow p naming row s r to has newest (plan_getchar l n flow.model) (with_result (getchar flow.model s.world))
@@ -108,15 +108,15 @@ module _ {I : Type 0} {l : LatticeOf I} {n : IntegersOf I} {stands : I → ℤ �
     first_value = argument_value l n the_call row 0
 
     -- the first argument stands for what it has
-    first_stands : (v : Scalar) (vs : List Scalar) → values_of s.temps items ≡ Some (v ∷ vs) → StandsScalar stands naming s.world.memory (argument_value l n (call_of flow items wanted) row 0) v
+    first_stands : (v : Scalar) (vs : List Scalar) → values_of s.temps items ≡ Some (v ∷ vs) → InGammaScalar gamma naming s.world.memory (argument_value l n (call_of flow items wanted) row 0) v
     unfolding argument_value
     first_stands v vs e =
         let a = first_argument s.temps items v vs e in
-        subst (λ y. StandsScalar stands naming s.world.memory (value_of_argument l n flow row y) v) (sym a.first) (r.stands_for.temps a.temp v a.has)
+        subst (λ y. InGammaScalar gamma naming s.world.memory (value_of_argument l n flow row y) v) (sym a.first) (r.stands_for.temps a.temp v a.has)
 
     -- ---- `putchar`
 
-    putchar_plan : (x : I) (z : ℤ) → stands x z → putchar_of l n first_value x ≡ harmless (effect.Result (number_value l x first_value.labels))
+    putchar_plan : (x : I) (z : ℤ) → gamma x z → putchar_of l n first_value x ≡ harmless (effect.Result (number_value l x first_value.labels))
     putchar_plan x z h = let i = q.inside x z h in rw i.2 refl
 
     putchar_good : (vs : List Scalar) → values_of s.temps items ≡ Some vs → GoodPlan q flow p naming row s r to has newest (plan_putchar l n flow.model first_value) (with_result (putchar vs s.world))
@@ -126,7 +126,7 @@ module _ {I : Type 0} {l : LatticeOf I} {n : IntegersOf I} {stands : I → ℤ �
     putchar_good (integer z la ∷ []) e =
         let h = first_stands (integer z la) [] e in
         let x : I = n.convert first_value.num (kind_of flow.model Char false) in
-        let st : stands x (pos (bits_in 1 z)) = subst (stands x) (wrapped_is z (kind_of flow.model Char false) refl) (c.convert_stands (kind_of flow.model Char false) first_value.num z refl h.0) in
+        let st : gamma x (pos (bits_in 1 z)) = subst (gamma x) (wrapped_is z (kind_of flow.model Char false) refl) (c.convert_stands (kind_of flow.model Char false) first_value.num z refl h.0) in
         let small = bits_small z in
         plan_is q flow p naming row s r to has newest (plan_putchar l n flow.model first_value) (harmless (effect.Result (number_value l x first_value.labels))) (goes (Some (integer (pos (bits_in 1 z)) la)) s.world) (putchar_plan x (pos (bits_in 1 z)) st)
         (plan_gives q flow p naming row s r to has newest no_violations (number_value l x first_value.labels) (integer (pos (bits_in 1 z)) la) s.world
@@ -140,12 +140,12 @@ module _ {I : Type 0} {l : LatticeOf I} {n : IntegersOf I} {stands : I → ℤ �
 
     -- what is asked of a function: its answer for one of the numbers of a range
     abbrev AnswersWell : LibFn → Type 0
-    AnswersWell function = (lo hi z : ℤ) (la : Labels) → negsuc 0 ≤ℤ lo → hi ≤ℤ pos 255 → lo ≤ℤ z → z ≤ℤ hi → StandsScalar stands naming s.world.memory first_value (integer z la) → IsResult q flow p naming s.world.memory (characters.answer l n function first_value lo hi) (machine.answer function z la)
+    AnswersWell function = (lo hi z : ℤ) (la : Labels) → negsuc 0 ≤ℤ lo → hi ≤ℤ pos 255 → lo ≤ℤ z → z ≤ℤ hi → InGammaScalar gamma naming s.world.memory first_value (integer z la) → IsResult q flow p naming s.world.memory (characters.answer l n function first_value lo hi) (machine.answer function z la)
 
     abbrev reply_for : LibFn → ℤ → Labels → Reply (Option Scalar)
     reply_for function z la = with_result (machine.on_character function z la s.world)
 
-    character_met : (function : LibFn) (well : AnswersWell function) (z : ℤ) (la : Labels) → StandsScalar stands naming s.world.memory first_value (integer z la) → (negsuc 0 ≤ℤ z) → (z ≤ℤ pos 255) → (m : IsMet (n.bounds first_value.num) z) → GoodPlan q flow p naming row s r to has newest (plan_in l n function first_value (range_met (n.bounds first_value.num) (negsuc 0) (pos 255))) (goes (Some (machine.answer function z la)) s.world)
+    character_met : (function : LibFn) (well : AnswersWell function) (z : ℤ) (la : Labels) → InGammaScalar gamma naming s.world.memory first_value (integer z la) → (negsuc 0 ≤ℤ z) → (z ≤ℤ pos 255) → (m : IsMet (n.bounds first_value.num) z) → GoodPlan q flow p naming row s r to has newest (plan_in l n function first_value (range_met (n.bounds first_value.num) (negsuc 0) (pos 255))) (goes (Some (machine.answer function z la)) s.world)
     character_met function well z la h a b m =
         plan_is q flow p naming row s r to has newest (plan_in l n function first_value (range_met (n.bounds first_value.num) (negsuc 0) (pos 255))) (planned (trail_of told) (effect.Result (characters.answer l n function first_value m.lo m.hi))) (goes (Some (machine.answer function z la)) s.world) (ap (plan_in l n function first_value) m.is)
         (plan_gives q flow p naming row s r to has newest told (characters.answer l n function first_value m.lo m.hi) (machine.answer function z la) s.world (well m.lo m.hi z la m.first m.last m.above m.below h) refl (clean q flow p naming row s r told))
@@ -154,7 +154,7 @@ module _ {I : Type 0} {l : LatticeOf I} {n : IntegersOf I} {stands : I → ℤ �
     plan_told function None = refl
     plan_told function (Some t) = refl
 
-    character_good : (function : LibFn) (well : AnswersWell function) (z : ℤ) (la : Labels) → StandsScalar stands naming s.world.memory first_value (integer z la) → GoodPlan q flow p naming row s r to has newest (plan_character l n function first_value) (reply_for function z la)
+    character_good : (function : LibFn) (well : AnswersWell function) (z : ℤ) (la : Labels) → InGammaScalar gamma naming s.world.memory first_value (integer z la) → GoodPlan q flow p naming row s r to has newest (plan_character l n function first_value) (reply_for function z la)
     unfolding plan_character
     character_good function well z la h = elim (cases_Bool (lies_in (negsuc 0) (pos 255) z)) [
       | inl e ↦ (let w = inside_is z e in
@@ -176,7 +176,7 @@ module _ {I : Type 0} {l : LatticeOf I} {n : IntegersOf I} {stands : I → ℤ �
 
     -- a test
     test_well : (function : LibFn) (lo hi z : ℤ) (b : Bool) → b ≡ characters.has_class function z → lo ≤ℤ z → z ≤ℤ hi → IsResult q flow p naming s.world.memory (number_value l (characters.tested_number l n function lo hi) sets.no_labels) (truth b)
-    test_well function lo hi z b e h k = number_result q flow p naming row s r to has newest (characters.tested_number l n function lo hi) sets.no_labels (cond b (pos 1) (pos 0)) no_labels (subst (λ y. stands (characters.tested_number l n function lo hi) (cond y (pos 1) (pos 0))) (sym e) (tested o q function lo hi z h k)) refl (truth_near b)
+    test_well function lo hi z b e h k = number_result q flow p naming row s r to has newest (characters.tested_number l n function lo hi) sets.no_labels (cond b (pos 1) (pos 0)) no_labels (subst (λ y. gamma (characters.tested_number l n function lo hi) (cond y (pos 1) (pos 0))) (sym e) (tested o q function lo hi z h k)) refl (truth_near b)
 
     by_name : (name : LibFn) → GivesNumber name → (vs : List Scalar) → values_of s.temps items ≡ Some vs → GoodPlan q flow p naming row s r to has newest (plan_call l n name (call_of flow items wanted) row) (library flow.model wanted name vs s.world)
     unfolding plan_call
@@ -194,13 +194,13 @@ module _ {I : Type 0} {l : LatticeOf I} {n : IntegersOf I} {stands : I → ℤ �
     by_name f.Tolower h vs e = characters_good f.Tolower (λ lo hi z la a b g k w. number_result q flow p naming row s r to has newest (characters.lowered l n lo hi) first_value.labels (cond (is_upper z) (z +ℤ pos 32) z) la (lowered o q lo hi z a b g k) w.1 (letter_near (is_upper z) (z +ℤ pos 32) z (omega (arith, ints)) (omega (arith, ints)) (omega (arith, ints)) (omega (arith, ints)))) vs e
     by_name _ h vs e = absurd h
 
-module _ {I : Type 0} {l : LatticeOf I} {n : IntegersOf I} {stands : I → ℤ → Type 0} (o : OrderLaws l) (q : BoundLaws l n stands) (c : SoundLaws l n stands) (flow : Flow) (p : HasPremises flow) (naming : Naming) (row : List (Cell I)) (s : Standing) (r : IsReached l n stands flow naming row s) where
-  pub result_call_sound : (to : Option ℕ) (name : LibFn) (arguments : _) (newest size : Option ℕ) → GivesNumber name → fits_operation (names_of flow) (op.Library to name arguments newest size) ≡ true → StepIsSound l n stands flow row (op.Library to name arguments newest size) s
+module _ {I : Type 0} {l : LatticeOf I} {n : IntegersOf I} {gamma : I → ℤ → Type 0} (o : OrderLaws l) (q : BoundLaws l n gamma) (c : SoundLaws l n gamma) (flow : Flow) (p : HasPremises flow) (naming : Naming) (row : List (Cell I)) (s : Standing) (r : IsReached l n gamma flow naming row s) where
+  pub result_call_sound : (to : Option ℕ) (name : LibFn) (arguments : _) (newest size : Option ℕ) → GivesNumber name → fits_operation (names_of flow) (op.Library to name arguments newest size) ≡ true → StepIsSound l n gamma flow row (op.Library to name arguments newest size) s
   unfolding operate call_step operation_violations
   result_call_sound to name arguments newest size is fits =
       let has = (and_parts (has_result (names_of flow) to) (list_all (has_temp (names_of flow)) arguments.items && (is_site flow.bases.items newest && is_optional_extent size)) fits).0 in
-      if_some_good l n stands flow _ _ s r.begun (values_of s.temps arguments.items) _ (λ vs e. by_name o q c flow p naming row s r to has newest arguments.items size name is vs e)
+      if_some_good l n gamma flow _ _ s r.begun (values_of s.temps arguments.items) _ (λ vs e. by_name o q c flow p naming row s r to has newest arguments.items size name is vs e)
 
-  pub result_step_sound : (i : Operation) → IsResultCall i → fits_operation (names_of flow) i ≡ true → StepIsSound l n stands flow row i s
+  pub result_step_sound : (i : Operation) → IsResultCall i → fits_operation (names_of flow) i ≡ true → StepIsSound l n gamma flow row i s
   result_step_sound (op.Library to name arguments newest size) is fits = result_call_sound to name arguments newest size is fits
   result_step_sound i is fits = absurd is

@@ -50,7 +50,7 @@ use Rattle.memory_model.specs.Effects.Touches.{storage_at, is_literal, set_bytes
 use Rattle.memory_model.specs.Effects.Worlds.{World, Reply, goes, behind, stopped_by}
 use Rattle.semantics.specs.CfgMachine.FlowStates.{Standing, values_of}
 use Rattle.store_sound.specs.Concretization.SoundMemory.{IsMemoryOf, IsWithin}
-use Rattle.store_sound.specs.Concretization.ValueMeaning.{Naming, StandsInto, StandsByLife, StandsScalar}
+use Rattle.store_sound.specs.Concretization.ValueMeaning.{Naming, InGammaInto, InGammaByLife, InGammaScalar}
 use Rattle.store_sound.specs.Concretization.RowMeaning.{IsLiveOf}
 use Rattle.store_sound.specs.Concretization.Coverage.{state_of}
 use Rattle.store_sound.specs.Operations.Shapes.{IsLaidOut}
@@ -108,7 +108,7 @@ zero_bits (Some p) z h e =
     let same : p.0 ≡ z = omega (arith, ints, b, h0, h1) in
     ap unsigned_abs (ap (λ y. int_rem_euclid y (pos 256)) (sym same) ∙ c)
 
-module _ {I : Type 0} {l : LatticeOf I} {n : IntegersOf I} {stands : I → ℤ → Type 0} (o : OrderLaws l) (q : BoundLaws l n stands) (flow : Flow) (p : HasPremises flow) (naming : Naming) (row : List (Cell I)) (s : Standing) (r : IsReached l n stands flow naming row s) (to : Option ℕ) (has : has_result (names_of flow) to ≡ true) (newest : Option ℕ)
+module _ {I : Type 0} {l : LatticeOf I} {n : IntegersOf I} {gamma : I → ℤ → Type 0} (o : OrderLaws l) (q : BoundLaws l n gamma) (flow : Flow) (p : HasPremises flow) (naming : Naming) (row : List (Cell I)) (s : Standing) (r : IsReached l n gamma flow naming row s) (to : Option ℕ) (has : has_result (names_of flow) to ≡ true) (newest : Option ℕ)
     (items : List ℕ) (wanted : Option ℕ) (vs : List Scalar) (e : values_of s.temps items ≡ Some vs)
     (m : MachinePointer) (z : ℤ) (la : Labels) (count : ℤ) (lb : Labels) (first : slice_get vs 0 ≡ Some (pointer m)) (second : slice_get vs 1 ≡ Some (integer z la)) (third : slice_get vs 2 ≡ Some (integer count lb)) (sized : pos 0 ≤ℤ count) where
   abbrev call : Call
@@ -152,10 +152,10 @@ module _ {I : Type 0} {l : LatticeOf I} {n : IntegersOf I} {stands : I → ℤ �
   abbrev fill_plan : Plan I
   fill_plan = planned target.trail (fill_in_window l n call target character (touched_window n target.rest target.count) (window_within (offsets n target.rest)))
 
-  character_stands : StandsScalar stands naming s.world.memory character (integer z la)
+  character_stands : InGammaScalar gamma naming s.world.memory character (integer z la)
   character_stands = argument_stands o q flow p naming row s r to has newest items wanted vs e 1 (integer z la) second
 
-  amount_stands : StandsScalar stands naming s.world.memory amount (integer count lb)
+  amount_stands : InGammaScalar gamma naming s.world.memory amount (integer count lb)
   amount_stands = argument_stands o q flow p naming row s r to has newest items wanted vs e 2 (integer count lb) third
 
   size_is : count ≡ pos size
@@ -207,7 +207,7 @@ module _ {I : Type 0} {l : LatticeOf I} {n : IntegersOf I} {stands : I → ℤ �
     within : IsWithin s.world.memory i offset lo hi
     within = given_within o q flow p naming row s r to has newest items wanted vs e 0 i offset lo hi here alive
 
-    st : StandsInto stands naming s.world.memory given.rest i offset lo hi
+    st : InGammaInto gamma naming s.world.memory given.rest i offset lo hi
     st = given_into o q flow p naming row s r to has newest items wanted vs e 0 i offset lo hi here alive
 
     pointed : pointer_trail.goes_on ≡ true
@@ -242,7 +242,7 @@ module _ {I : Type 0} {l : LatticeOf I} {n : IntegersOf I} {stands : I → ℤ �
         on : target.trail.goes_on ≡ true
         on = goes_further fitting_trail (literal_violations (writes_literal flow.bases.items given.rest.bases cut)) (not (bases_empty (after_write flow.bases.items given.rest.bases cut))) fitted (ap not (not_empty (after_write flow.bases.items given.rest.bases cut) st.base after_there))
 
-        rest : (y : StandsInto stands naming s.world.memory target.rest i offset lo hi) × (y.base ≡ st.base)
+        rest : (y : InGammaInto gamma naming s.world.memory target.rest i offset lo hi) × (y.base ≡ st.base)
         rest = within_stands o q flow p.shaped naming s.world.memory r.stands_for.sane given.rest i offset lo hi st within (after_write flow.bases.items given.rest.bases cut) after_there
 
         abbrev contents_of : List Content
@@ -268,7 +268,7 @@ module _ {I : Type 0} {l : LatticeOf I} {n : IntegersOf I} {stands : I → ℤ �
 
         result : IsResult q flow p naming memory (pointer_value l target.rest) (pointer m)
         result = subst (λ y. IsResult q flow p naming memory (pointer_value l target.rest) (pointer y)) (sym is) (record {
-          stands_for = scalar_moves (alike_region region) stands naming (pointer_value l target.rest) (pointer (into i offset lo hi)) (subst (λ y. StandsByLife stands naming s.world.memory target.rest y i offset lo hi) (sym alive) rest.0);
+          stands_for = scalar_moves (alike_region region) gamma naming (pointer_value l target.rest) (pointer (into i offset lo hi)) (subst (λ y. InGammaByLife gamma naming s.world.memory target.rest y i offset lo hi) (sym alive) rest.0);
           near = tt;
           within = pointer_in_moves (alike_region region) (into i offset lo hi) within;
         })

@@ -32,8 +32,8 @@ use Rattle.store_sound.specs.Concretization.Matching.{Matched, number_in, Holds}
 use Rattle.store_sound.specs.Concretization.Places.{IsPlaceOf, OwnedByLeaf, OwnedByClass, IsClassPlace}
 use Rattle.store_sound.specs.Concretization.SeenLabels.{as_set}
 use Rattle.store_sound.specs.Concretization.SoundMemory.{IsMemoryOf}
-use Rattle.store_sound.specs.Concretization.ValueMeaning.{Naming, StandsContent, StandsState}
-use Rattle.store_sound.specs.Concretization.RowMeaning.{IsLiveOf, StandsLeaf, StandsClass}
+use Rattle.store_sound.specs.Concretization.ValueMeaning.{Naming, InGammaContent, InGammaState}
+use Rattle.store_sound.specs.Concretization.RowMeaning.{IsLiveOf, InGammaLeaf, InGammaClass}
 use Rattle.store_sound.specs.Operations.Shapes.{IsShaped}
 use Rattle.store_sound.proofs.operations.Classes.{class_above}
 use Rattle.store_sound.proofs.operations.Near.{IsNearValue, value_at_near, near_number_from, near_number_none}
@@ -73,7 +73,7 @@ number_is_nil y la e = ap number_or e
 
 -- ---- the value of a cell that is surely covered
 
-module _ {I : Type 0} {l : LatticeOf I} {n : IntegersOf I} {stands : I → ℤ → Type 0} (o : OrderLaws l) (q : BoundLaws l n stands) (flow : Flow) (naming : Naming) {old new : Memory} {i offset size : ℕ} (s : IsRegion old new i offset size) (sane : IsMemoryOf flow.model flow.bases.items naming new) (write : FillWrite) (k : IsFill write new i offset size) where
+module _ {I : Type 0} {l : LatticeOf I} {n : IntegersOf I} {gamma : I → ℤ → Type 0} (o : OrderLaws l) (q : BoundLaws l n gamma) (flow : Flow) (naming : Naming) {old new : Memory} {i offset size : ℕ} (s : IsRegion old new i offset size) (sane : IsMemoryOf flow.model flow.bases.items naming new) (write : FillWrite) (k : IsFill write new i offset size) where
   module _ (d : Class) (t : Bool) where
     abbrev covered : values.Value I
     covered = covered_value l n flow.model d t write
@@ -102,9 +102,9 @@ module _ {I : Type 0} {l : LatticeOf I} {n : IntegersOf I} {stands : I → ℤ �
     ]
 
     -- all bytes of a place are set
-    covered_number : (a : ℕ) (ns : List Labelled) → offset ≤ a → a + class_bytes flow.model d ≤ offset + size → is_pointer d ≡ false → Holds flow.model new i a d ns → stands covered.num (number_of t ns)
+    covered_number : (a : ℕ) (ns : List Labelled) → offset ≤ a → a + class_bytes flow.model d ≤ offset + size → is_pointer d ≡ false → Holds flow.model new i a d ns → gamma covered.num (number_of t ns)
     covered_number a ns from to p h = elim covered_cases [
-      | inl e ↦ subst (λ v. stands v.num (number_of t ns)) (sym e) (bytes_number o q flow naming s sane write.labels k.numbers d t a ns p h)
+      | inl e ↦ subst (λ v. gamma v.num (number_of t ns)) (sym e) (bytes_number o q flow naming s sane write.labels k.numbers d t a ns p h)
       | inr e ↦ (let nil : number_of t ns ≡ pos 0 = nil_number t ns (nil_unsigned ns (λ j y f.
           let small = slice_get_within ns j y f in
           let long = h.size in
@@ -112,22 +112,22 @@ module _ {I : Type 0} {l : LatticeOf I} {n : IntegersOf I} {stands : I → ℤ �
           let one : Byte = record { content = number_in y; tag = m.tag } in
           let r = k.zeros e.1 (a + j) one (omega (arith, from)) (omega (arith, to, small, long)) m.here in
           number_is_nil y r.0 r.1)) in
-          subst (λ v. stands v.num (number_of t ns)) (sym e.2) (subst (stands (n.one (pos 0))) (sym nil) (q.one_stands (pos 0))))
+          subst (λ v. gamma v.num (number_of t ns)) (sym e.2) (subst (gamma (n.one (pos 0))) (sym nil) (q.one_stands (pos 0))))
     ]
 
-    covered_content : (a j : ℕ) (content : Content) → offset ≤ a → a < offset + size → Matched new i a d j content → StandsContent stands naming new covered d content
+    covered_content : (a j : ℕ) (content : Content) → offset ≤ a → a < offset + size → Matched new i a d j content → InGammaContent gamma naming new covered d content
     covered_content a j content from to m = elim covered_cases [
-      | inl e ↦ subst (λ v. StandsContent stands naming new v d content) (sym e) (bytes_content o q flow naming s sane write.labels k.numbers d t a j content from to m)
+      | inl e ↦ subst (λ v. InGammaContent gamma naming new v d content) (sym e) (bytes_content o q flow naming s sane write.labels k.numbers d t a j content from to m)
       | inr e ↦ (let one : Byte = record { content = content; tag = m.tag } in
           let r = k.numbers a one from to m.here in
           let none = e.0 in
-          subst (λ v. StandsContent stands naming new v d content) (sym e.2) (subst (StandsContent stands naming new (number_value l (n.one (pos 0)) write.labels) d) (sym r.2) (r.3, λ (f : is_pointer d ≡ true). absurd (true≢false (sym f ∙ none)))))
+          subst (λ v. InGammaContent gamma naming new v d content) (sym e.2) (subst (InGammaContent gamma naming new (number_value l (n.one (pos 0)) write.labels) d) (sym r.2) (r.3, λ (f : is_pointer d ≡ true). absurd (true≢false (sym f ∙ none)))))
     ]
 
   -- ---- leaves
 
   module _ (alone : Bool) (b : ℕ) (base : BaseInfo) (shape : IsShaped base) (single : alone ≡ true → 0 < size → (j : ℕ) → IsLiveOf naming old b j → j ≡ i) where
-    module _ (j : ℕ) (leaf : Leaf) (at : slice_get base.shape.cells j ≡ Some leaf) (row : List (Cell I)) (there : leaf_position base j < length row) (cell : StandsLeaf stands flow naming old b leaf (value_at l n row (leaf_position base j))) where
+    module _ (j : ℕ) (leaf : Leaf) (at : slice_get base.shape.cells j ≡ Some leaf) (row : List (Cell I)) (there : leaf_position base j < length row) (cell : InGammaLeaf gamma flow naming old b leaf (value_at l n row (leaf_position base j))) where
       abbrev p : ℕ
       p = leaf_position base j
 
@@ -158,8 +158,8 @@ module _ {I : Type 0} {l : LatticeOf I} {n : IntegersOf I} {stands : I → ℤ �
           let e : place.turn ≡ 0 = omega (arith, few, one) in
           place.there ∙ (ap (λ z. leaf.offset + leaf.stride * z) e ∙ omega arith)
 
-      by_covered : (c : Bool) → is_covered flow.model leaf write alone ≡ c → StandsLeaf stands flow naming new b leaf (value_at l n (cond c (write_value l n row p (covered_value l n flow.model leaf.class leaf.signed write) true) (write_value l n row p (byte_written l n flow.model leaf.class leaf.signed write.labels) false)) p)
-      by_covered false e = subst (StandsLeaf stands flow naming new b leaf) (sym (write_is l n flow.model row p (byte_written l n flow.model leaf.class leaf.signed write.labels) false there))
+      by_covered : (c : Bool) → is_covered flow.model leaf write alone ≡ c → InGammaLeaf gamma flow naming new b leaf (value_at l n (cond c (write_value l n row p (covered_value l n flow.model leaf.class leaf.signed write) true) (write_value l n row p (byte_written l n flow.model leaf.class leaf.signed write.labels) false)) p)
+      by_covered false e = subst (InGammaLeaf gamma flow naming new b leaf) (sym (write_is l n flow.model row p (byte_written l n flow.model leaf.class leaf.signed write.labels) false there))
           (cell_numbers o q flow naming s sane write.labels k.numbers leaf.class leaf.signed b (λ size a. IsPlaceOf leaf a) (OwnedByLeaf flow.model leaf) (value_at l n row p) (value_at_near o q row p) cell)
       by_covered true e =
           let c = covered_is e in
@@ -167,7 +167,7 @@ module _ {I : Type 0} {l : LatticeOf I} {n : IntegersOf I} {stands : I → ℤ �
           let to = c.3 in
           let some = class_above flow.model leaf.class in
           let one : (h : ℕ) → IsLiveOf naming old b h → h ≡ i = single c.0 (omega (arith, from, to, some)) in
-          subst (StandsLeaf stands flow naming new b leaf) (sym (write_is l n flow.model row p (covered_value l n flow.model leaf.class leaf.signed write) true there))
+          subst (InGammaLeaf gamma flow naming new b leaf) (sym (write_is l n flow.model row p (covered_value l n flow.model leaf.class leaf.signed write) true there))
           (cell_covered o q flow naming s b leaf.class leaf.signed (λ size a. IsPlaceOf leaf a) (OwnedByLeaf flow.model leaf) (covered_value l n flow.model leaf.class leaf.signed write) (covered_near leaf.class leaf.signed)
           (λ a ns u place z g h ptr held. let at_offset = one_place c.1 a place in covered_number leaf.class leaf.signed a ns (omega (arith, from, at_offset)) (omega (arith, to, at_offset)) ptr held)
           (λ a y content u owns g h m. covered_content leaf.class leaf.signed a y content g h m)
@@ -179,18 +179,18 @@ module _ {I : Type 0} {l : LatticeOf I} {n : IntegersOf I} {stands : I → ℤ �
           let small = owns.small in
           (one h u, omega (arith, sum, at_offset, from), omega (arith, sum, at_offset, to, small))))
 
-      by_hit : (hit : Bool) → is_overlapped flow.model leaf write.window ≡ hit → StandsLeaf stands flow naming new b leaf (value_at l n (cond hit (fill_leaf l n flow.model leaf write alone p row) row) p)
+      by_hit : (hit : Bool) → is_overlapped flow.model leaf write.window ≡ hit → InGammaLeaf gamma flow naming new b leaf (value_at l n (cond hit (fill_leaf l n flow.model leaf write alone p row) row) p)
       unfolding fill_leaf
       by_hit true e = by_covered (is_covered flow.model leaf write alone) refl
       by_hit false e = leaf_missed o q flow naming s b leaf write.window (shape.strides j leaf at) k.window e (value_at l n row p) cell
 
-      pub leaf_filled : StandsLeaf stands flow naming new b leaf (value_at l n (fill_leaf_of l n flow.model base write alone leaf j row) (leaf_position base j))
+      pub leaf_filled : InGammaLeaf gamma flow naming new b leaf (value_at l n (fill_leaf_of l n flow.model base write alone leaf j row) (leaf_position base j))
       unfolding fill_leaf_of
       leaf_filled = by_hit (is_overlapped flow.model leaf write.window) refl
 
     -- ---- class cells
 
-    module _ (row : List (Cell I)) (states : (j : ℕ) → base.shape.heap ≡ true → naming j ≡ Some b → StandsState stands naming old (state_at l n row (state_position base)) (life_at old j) (length (bytes_at old j))) (heap : base.shape.heap ≡ true) where
+    module _ (row : List (Cell I)) (states : (j : ℕ) → base.shape.heap ≡ true → naming j ≡ Some b → InGammaState gamma naming old (state_at l n row (state_position base)) (life_at old j) (length (bytes_at old j))) (heap : base.shape.heap ≡ true) where
       -- the region is all of the instance
       is_whole : clears_instance l n base row write ≡ true → IsLiveOf naming old b i → (write.zero ≡ true) × (offset ≡ 0) × (length (bytes_at old i) ≤ size)
       unfolding clears_instance
@@ -200,7 +200,7 @@ module _ {I : Type 0} {l : LatticeOf I} {n : IntegersOf I} {stands : I → ℤ �
           let y = and_parts (write.start.lo == 0) (write.start.hi == 0) z.1 in
           let hi = eqb-true write.start.hi 0 y.1 in
           let below = k.start.1 in
-          let st = (subst (λ life. StandsState stands naming old (state_at l n row (state_position base)) life (length (bytes_at old i))) u.alive (states i heap u.named)).0 in
+          let st = (subst (λ life. InGammaState gamma naming old (state_at l n row (state_position base)) life (length (bytes_at old i))) u.alive (states i heap u.named)).0 in
           let at = q.inside (state_at l n row (state_position base)).size (pos (length (bytes_at old i))) st in
           let w : holds_whole write.least (Some (at.0, at.1)) ≡ true = subst (λ t. holds_whole write.least t ≡ true) at.2 r.1 in
           let high : at.1 ≤ℤ write.least = grind (arith, ints) in
@@ -210,7 +210,7 @@ module _ {I : Type 0} {l : LatticeOf I} {n : IntegersOf I} {stands : I → ℤ �
 
       module _ (c : Class) where
         -- the value with which a class cell is joined stands for what is set
-        class_stands : (cleared : Bool) → clears_instance l n base row write ≡ cleared → (y : values.Value I) → IsNearValue l n y → StandsClass stands flow naming old b base c y → StandsClass stands flow naming new b base c (written l n flow.model y (class_value l n flow.model c write cleared) false)
+        class_stands : (cleared : Bool) → clears_instance l n base row write ≡ cleared → (y : values.Value I) → IsNearValue l n y → InGammaClass gamma flow naming old b base c y → InGammaClass gamma flow naming new b base c (written l n flow.model y (class_value l n flow.model c write cleared) false)
         class_stands false e y fine cell = cell_numbers o q flow naming s sane write.labels k.numbers c true b (IsClassPlace flow.model base.shape.cells c) (OwnedByClass flow.model base.shape.cells c) y fine cell
         class_stands true e y fine cell = cell_joined o q flow naming s b c true (IsClassPlace flow.model base.shape.cells c) (OwnedByClass flow.model base.shape.cells c) (covered_value l n flow.model c true write) (covered_near c true)
             (λ a ns u place z from to ptr held.
@@ -224,18 +224,18 @@ module _ {I : Type 0} {l : LatticeOf I} {n : IntegersOf I} {stands : I → ℤ �
 
     -- a class cell that is joined
     pub class_joined : (c : Class) (at : ℕ) (row r : List (Cell I)) (cleared : Bool) → clears_instance l n base row write ≡ cleared → base.shape.heap ≡ true
-        → ((j : ℕ) → base.shape.heap ≡ true → naming j ≡ Some b → StandsState stands naming old (state_at l n row (state_position base)) (life_at old j) (length (bytes_at old j)))
-        → class_position base at < length r → StandsClass stands flow naming old b base c (value_at l n r (class_position base at)) → StandsClass stands flow naming new b base c (value_at l n (join_value l n r (class_position base at) (class_value l n flow.model c write cleared)) (class_position base at))
+        → ((j : ℕ) → base.shape.heap ≡ true → naming j ≡ Some b → InGammaState gamma naming old (state_at l n row (state_position base)) (life_at old j) (length (bytes_at old j)))
+        → class_position base at < length r → InGammaClass gamma flow naming old b base c (value_at l n r (class_position base at)) → InGammaClass gamma flow naming new b base c (value_at l n (join_value l n r (class_position base at) (class_value l n flow.model c write cleared)) (class_position base at))
     class_joined c at row r cleared e heap states there cell =
-        subst (StandsClass stands flow naming new b base c) (sym (join_is l n flow.model r (class_position base at) (class_value l n flow.model c write cleared) there))
+        subst (InGammaClass gamma flow naming new b base c) (sym (join_is l n flow.model r (class_position base at) (class_value l n flow.model c write cleared) there))
         (class_stands row states heap c cleared e (value_at l n r (class_position base at)) (value_at_near o q r (class_position base at)) cell)
 
     -- the class cell of characters
     pub char_filled : (row r : List (Cell I)) (cleared : Bool) → clears_instance l n base row write ≡ cleared → base.shape.heap ≡ true
-        → ((j : ℕ) → base.shape.heap ≡ true → naming j ≡ Some b → StandsState stands naming old (state_at l n row (state_position base)) (life_at old j) (length (bytes_at old j)))
-        → class_position base 0 < length r → StandsClass stands flow naming old b base Char (value_at l n r (class_position base 0)) → StandsClass stands flow naming new b base Char (value_at l n (fill_stray l n flow.model base write cleared r) (class_position base 0))
+        → ((j : ℕ) → base.shape.heap ≡ true → naming j ≡ Some b → InGammaState gamma naming old (state_at l n row (state_position base)) (life_at old j) (length (bytes_at old j)))
+        → class_position base 0 < length r → InGammaClass gamma flow naming old b base Char (value_at l n r (class_position base 0)) → InGammaClass gamma flow naming new b base Char (value_at l n (fill_stray l n flow.model base write cleared r) (class_position base 0))
     char_filled row r cleared e heap states there cell = by_stray (has_stray base.shape.cells Char write.window) refl
       where
-        by_stray : (stray : Bool) → has_stray base.shape.cells Char write.window ≡ stray → StandsClass stands flow naming new b base Char (value_at l n (cond stray (join_value l n r (class_position base 0) (class_value l n flow.model Char write cleared)) r) (class_position base 0))
+        by_stray : (stray : Bool) → has_stray base.shape.cells Char write.window ≡ stray → InGammaClass gamma flow naming new b base Char (value_at l n (cond stray (join_value l n r (class_position base 0) (class_value l n flow.model Char write cleared)) r) (class_position base 0))
         by_stray true f = class_joined Char 0 row r cleared e heap states there cell
         by_stray false f = char_missed o q flow naming s b base write.window shape heap k.window f (value_at l n r (class_position base 0)) cell

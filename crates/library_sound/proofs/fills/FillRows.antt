@@ -24,13 +24,13 @@ use Rattle.transfer_library_writes.specs.declared.fill_writes.FillWrite.{FillWri
 use Rattle.memory_model.specs.Memory.Instances.{Memory, bytes_at, life_at}
 use Rattle.store_cells.specs.ByteWrites.{byte_written}
 use Rattle.store_sound.specs.Concretization.SoundMemory.{IsMemoryOf}
-use Rattle.store_sound.specs.Concretization.ValueMeaning.{Naming, StandsZero, StandsState}
-use Rattle.store_sound.specs.Concretization.RowMeaning.{MachineState, array_bytes, IsLiveOf, StandsLeaf, StandsClass, StandsFor}
+use Rattle.store_sound.specs.Concretization.ValueMeaning.{Naming, InGammaZero, InGammaState}
+use Rattle.store_sound.specs.Concretization.RowMeaning.{MachineState, array_bytes, IsLiveOf, InGammaLeaf, InGammaClass, InGamma}
 use Rattle.store_sound.specs.Operations.Shapes.{IsShaped, IsLaidOut}
 use Rattle.store_sound.proofs.operations.Only.{Only, only_more, only_same, only_put, only_cond, only_if, only_then}
 use Rattle.store_sound.proofs.operations.StoreRows.{Fits, leaf_is, class_is, zero_is, join_only}
 use Rattle.store_sound.proofs.operations.StoreValues.{same_value}
-use Rattle.store_sound.specs.Regions.RegionWrites.{IsRegion, WritesWithin, StandsBase}
+use Rattle.store_sound.specs.Regions.RegionWrites.{IsRegion, WritesWithin, InGammaBase}
 use Rattle.store_sound.proofs.regions.BaseRows.{writes_stand, writes_long}
 use Rattle.store_sound.proofs.regions.ByteRegions.{write_only}
 use Rattle.store_sound.proofs.regions.Layers.{value_turn, zero_turn, leaves_within, leaf_turn, zeros_within, part_turn, classes_within, class_turn, class_spared, layers_within, layers_stand}
@@ -95,19 +95,19 @@ module _ {I : Type 0} (l : LatticeOf I) (n : IntegersOf I) (m : Model) (base : B
 
 -- ---- a base, and all
 
-module _ {I : Type 0} {l : LatticeOf I} {n : IntegersOf I} {stands : I → ℤ → Type 0} (o : OrderLaws l) (q : BoundLaws l n stands) (flow : Flow) (naming : Naming) {old new : Memory} {i offset size : ℕ} (s : IsRegion old new i offset size) (sane : IsMemoryOf flow.model flow.bases.items naming new) (write : FillWrite) (k : IsFill write new i offset size)
-    (alone : Bool) (b : ℕ) (base : BaseInfo) (fits : Fits base) (shape : IsShaped base) (single : alone ≡ true → 0 < size → (j : ℕ) → IsLiveOf naming old b j → j ≡ i) (row : List (Cell I)) (long : base.first + base_values base ≤ length row) (t : StandsBase l n stands flow naming old b base row) where
-  leaf_new : (j : ℕ) (leaf : Leaf) → slice_get base.shape.cells j ≡ Some leaf → StandsLeaf stands flow naming new b leaf (value_at l n (fill_leaves l n flow.model base write alone row) (leaf_position base j))
+module _ {I : Type 0} {l : LatticeOf I} {n : IntegersOf I} {gamma : I → ℤ → Type 0} (o : OrderLaws l) (q : BoundLaws l n gamma) (flow : Flow) (naming : Naming) {old new : Memory} {i offset size : ℕ} (s : IsRegion old new i offset size) (sane : IsMemoryOf flow.model flow.bases.items naming new) (write : FillWrite) (k : IsFill write new i offset size)
+    (alone : Bool) (b : ℕ) (base : BaseInfo) (fits : Fits base) (shape : IsShaped base) (single : alone ≡ true → 0 < size → (j : ℕ) → IsLiveOf naming old b j → j ≡ i) (row : List (Cell I)) (long : base.first + base_values base ≤ length row) (t : InGammaBase l n gamma flow naming old b base row) where
+  leaf_new : (j : ℕ) (leaf : Leaf) → slice_get base.shape.cells j ≡ Some leaf → InGammaLeaf gamma flow naming new b leaf (value_at l n (fill_leaves l n flow.model base write alone row) (leaf_position base j))
   unfolding fill_leaves
   leaf_new j leaf e =
       let x = leaf_is base j fits (slice_get_within base.shape.cells j leaf e) in
       let u = slice_get_within base.shape.cells j leaf e in
-      value_turn l n (StandsLeaf stands flow naming old b leaf) (StandsLeaf stands flow naming new b leaf) (leaf_position base j) (fill_leaf_of l n flow.model base write alone leaf j) row (walk (fill_leaf_of l n flow.model base write alone) 0 base.shape.cells row)
+      value_turn l n (InGammaLeaf gamma flow naming old b leaf) (InGammaLeaf gamma flow naming new b leaf) (leaf_position base j) (fill_leaf_of l n flow.model base write alone leaf j) row (walk (fill_leaf_of l n flow.model base write alone) 0 base.shape.cells row)
       (leaf_turn base fits (fill_leaf_of l n flow.model base write alone) (leaf_only l n flow.model base fits write alone) j leaf e row)
       (λ r same cell. leaf_filled o q flow naming s sane write k alone b base shape single j leaf e r (omega (arith, x, u, same, long)) cell)
       (t.leaves j leaf e)
 
-  module _ (r : List (Cell I)) (same : length r ≡ length row) (states : (j : ℕ) → base.shape.heap ≡ true → naming j ≡ Some b → StandsState stands naming old (state_at l n r (state_position base)) (life_at old j) (length (bytes_at old j))) (heap : base.shape.heap ≡ true) where
+  module _ (r : List (Cell I)) (same : length r ≡ length row) (states : (j : ℕ) → base.shape.heap ≡ true → naming j ≡ Some b → InGammaState gamma naming old (state_at l n r (state_position base)) (life_at old j) (length (bytes_at old j))) (heap : base.shape.heap ≡ true) where
     six : cond {A = ℕ} base.shape.heap 6 0 ≡ 6
     six = rw heap refl
 
@@ -118,10 +118,10 @@ module _ {I : Type 0} {l : LatticeOf I} {n : IntegersOf I} {stands : I → ℤ �
       after_stray : List (Cell I)
       after_stray = fill_stray l n flow.model base write cleared r
 
-      class_by : (c : ℕ) → c < 6 → StandsClass stands flow naming old b base (class_at c) (value_at l n r (class_position base c)) → StandsClass stands flow naming new b base (class_at c) (value_at l n (turns (fill_class l n flow.model base write cleared) 5 (fill_stray l n flow.model base write cleared r)) (class_position base c))
+      class_by : (c : ℕ) → c < 6 → InGammaClass gamma flow naming old b base (class_at c) (value_at l n r (class_position base c)) → InGammaClass gamma flow naming new b base (class_at c) (value_at l n (turns (fill_class l n flow.model base write cleared) 5 (fill_stray l n flow.model base write cleared r)) (class_position base c))
       class_by zero small cell =
           let spared = class_spared base fits heap 1 5 (omega arith) (fill_class l n flow.model base write cleared) (class_only l n flow.model base fits write alone cleared) 0 (omega arith) in
-          subst (StandsClass stands flow naming new b base Char) (sym (same_value l n (fill_stray l n flow.model base write cleared r) _ (class_position base 0) (spared.keeps (fill_stray l n flow.model base write cleared r))))
+          subst (InGammaClass gamma flow naming new b base Char) (sym (same_value l n (fill_stray l n flow.model base write cleared r) _ (class_position base 0) (spared.keeps (fill_stray l n flow.model base write cleared r))))
           (char_filled o q flow naming s sane write k alone b base shape single r r cleared is heap states (class_there 0 (omega arith)) cell)
       class_by (suc c) small cell =
           let next : c + 1 ≡ suc c = omega arith in
@@ -129,44 +129,44 @@ module _ {I : Type 0} {l : LatticeOf I} {n : IntegersOf I} {stands : I → ℤ �
           let d = six in
           let y = class_is base (suc c) fits (omega (arith, d, small)) in
           let stray = stray_only l n flow.model base fits write alone cleared in
-          subst (λ z. StandsClass stands flow naming new b base (class_at z) (value_at l n (turns (fill_class l n flow.model base write cleared) 5 (fill_stray l n flow.model base write cleared r)) (class_position base z))) next
-          (value_turn l n (StandsClass stands flow naming old b base (class_at (c + 1))) (StandsClass stands flow naming new b base (class_at (c + 1))) (class_position base (c + 1)) (fill_class l n flow.model base write cleared c) (fill_stray l n flow.model base write cleared r) _
+          subst (λ z. InGammaClass gamma flow naming new b base (class_at z) (value_at l n (turns (fill_class l n flow.model base write cleared) 5 (fill_stray l n flow.model base write cleared r)) (class_position base z))) next
+          (value_turn l n (InGammaClass gamma flow naming old b base (class_at (c + 1))) (InGammaClass gamma flow naming new b base (class_at (c + 1))) (class_position base (c + 1)) (fill_class l n flow.model base write cleared c) (fill_stray l n flow.model base write cleared r) _
           (class_turn base fits heap 1 5 (omega arith) (fill_class l n flow.model base write cleared) (class_only l n flow.model base fits write alone cleared) c (omega (arith, small)) (fill_stray l n flow.model base write cleared r))
           (λ r2 equal cell2. class_joined o q flow naming s sane write k alone b base shape single (class_at (c + 1)) (c + 1) r r2 cleared is heap states (let there = class_there (c + 1) (omega (arith, small)) in let stray_long = stray.long r in omega (arith, there, stray_long, equal)) cell2)
-          (subst (λ z. StandsClass stands flow naming old b base (class_at z) (value_at l n (fill_stray l n flow.model base write cleared r) (class_position base z))) (sym next)
-          (subst (StandsClass stands flow naming old b base (class_at (suc c))) (sym (same_value l n r _ (class_position base (suc c)) (stray.keeps r (class_position base (suc c)) (λ v w. omega (arith, x, y, v, w))))) cell)))
+          (subst (λ z. InGammaClass gamma flow naming old b base (class_at z) (value_at l n (fill_stray l n flow.model base write cleared r) (class_position base z))) (sym next)
+          (subst (InGammaClass gamma flow naming old b base (class_at (suc c))) (sym (same_value l n r _ (class_position base (suc c)) (stray.keeps r (class_position base (suc c)) (λ v w. omega (arith, x, y, v, w))))) cell)))
 
     heap_is : fill_heap_part l n flow.model base write r ≡ fill_classes l n flow.model base write (clears_instance l n base r write) r
     unfolding fill_class_cells
     heap_is = cond_hit base.shape.heap (fill_classes l n flow.model base write (clears_instance l n base r write) r) r heap
 
-    class_new : (c : ℕ) → c < 6 → StandsClass stands flow naming old b base (class_at c) (value_at l n r (class_position base c)) → StandsClass stands flow naming new b base (class_at c) (value_at l n (fill_heap_part l n flow.model base write r) (class_position base c))
-    class_new c small cell = subst (λ z. StandsClass stands flow naming new b base (class_at c) (value_at l n z (class_position base c))) (sym heap_is) (class_by (clears_instance l n base r write) refl c small cell)
+    class_new : (c : ℕ) → c < 6 → InGammaClass gamma flow naming old b base (class_at c) (value_at l n r (class_position base c)) → InGammaClass gamma flow naming new b base (class_at c) (value_at l n (fill_heap_part l n flow.model base write r) (class_position base c))
+    class_new c small cell = subst (λ z. InGammaClass gamma flow naming new b base (class_at c) (value_at l n z (class_position base c))) (sym heap_is) (class_by (clears_instance l n base r write) refl c small cell)
 
-  zero_new : (r : List (Cell I)) → length r ≡ length row → (z : ℕ) (part : ZeroPart) → slice_get base.shape.zeros z ≡ Some part → ((j : ℕ) → IsLiveOf naming old b j → StandsZero stands naming old (zero_at l n r (zero_position base z)) (array_bytes part (bytes_at old j))) → (j : ℕ) → IsLiveOf naming old b j → StandsZero stands naming new (zero_at l n (fill_zeros l n base write alone r) (zero_position base z)) (array_bytes part (bytes_at new j))
+  zero_new : (r : List (Cell I)) → length r ≡ length row → (z : ℕ) (part : ZeroPart) → slice_get base.shape.zeros z ≡ Some part → ((j : ℕ) → IsLiveOf naming old b j → InGammaZero gamma naming old (zero_at l n r (zero_position base z)) (array_bytes part (bytes_at old j))) → (j : ℕ) → IsLiveOf naming old b j → InGammaZero gamma naming new (zero_at l n (fill_zeros l n base write alone r) (zero_position base z)) (array_bytes part (bytes_at new j))
   unfolding fill_zeros
   zero_new r same z part e zeros j alive =
       let u = slice_get_within base.shape.zeros z part e in
       let x = zero_is base z fits (omega (arith, u)) in
-      zero_turn l n (λ f. (h : ℕ) → IsLiveOf naming old b h → StandsZero stands naming old f (array_bytes part (bytes_at old h))) (λ f. StandsZero stands naming new f (array_bytes part (bytes_at new j))) (zero_position base z) (fill_zero l n base write alone part z) r _
+      zero_turn l n (λ f. (h : ℕ) → IsLiveOf naming old b h → InGammaZero gamma naming old f (array_bytes part (bytes_at old h))) (λ f. InGammaZero gamma naming new f (array_bytes part (bytes_at new j))) (zero_position base z) (fill_zero l n base write alone part z) r _
       (part_turn base fits (fill_zero l n base write alone) (zero_only l n flow.model base fits write alone) z part e r)
       (λ r2 equal zeros2. zero_filled o q flow naming s sane write k alone b single base z part r2 (omega (arith, x, u, equal, same, long)) zeros2 j alive)
       zeros
 
-  pub base_filled : StandsBase l n stands flow naming new b base (fill_base l n flow.model base write alone row)
+  pub base_filled : InGammaBase l n gamma flow naming new b base (fill_base l n flow.model base write alone row)
   unfolding fill_base
   base_filled = layers_stand o q flow naming s b base fits (fill_leaves l n flow.model base write alone) (fill_heap_part l n flow.model base write) (fill_zeros l n base write alone)
       (leaves_only l n flow.model base fits write alone) (heap_only l n flow.model base fits write alone) (all_zeros_only l n flow.model base fits write alone) row t
       leaf_new (λ r same states c heap small cell. class_new r same states heap c small cell) zero_new
 
-module _ {I : Type 0} {l : LatticeOf I} {n : IntegersOf I} {stands : I → ℤ → Type 0} (o : OrderLaws l) (q : BoundLaws l n stands) (flow : Flow) (naming : Naming) (row : List (Cell I)) (state : MachineState) (laid : IsLaidOut flow (length row)) (s : StandsFor l n stands flow naming row state)
+module _ {I : Type 0} {l : LatticeOf I} {n : IntegersOf I} {gamma : I → ℤ → Type 0} (o : OrderLaws l) (q : BoundLaws l n gamma) (flow : Flow) (naming : Naming) (row : List (Cell I)) (state : MachineState) (laid : IsLaidOut flow (length row)) (s : InGamma l n gamma flow naming row state)
     (new : Memory) (i offset size : ℕ) (region : IsRegion state.memory new i offset size) (sane : IsMemoryOf flow.model flow.bases.items naming new) (write : FillWrite) (k : IsFill write new i offset size)
     (here : (b : ℕ) → naming i ≡ Some b → 0 < size → has_base write.bases b ≡ true)
     (single : is_one_instance flow.bases.items write.bases ≡ true → 0 < size → (b j : ℕ) → has_base write.bases b ≡ true → IsLiveOf naming state.memory b j → j ≡ i) where
   base_long : (b : ℕ) (base : BaseInfo) → slice_get flow.bases.items b ≡ Some base → (base.first + base_values base ≤ 2 ^ 64 - 1) × (base.first + base_values base ≤ length row)
   base_long b base e = let c = laid.laid.close b base e in let d = laid.laid.small in let f = laid.long in (omega (arith, c, d), omega (arith, c, f))
 
-  pub fill_stands : StandsFor l n stands flow naming (write_fill l n flow write row) (record { memory = new; temps = state.temps; entered = state.entered })
+  pub fill_stands : InGamma l n gamma flow naming (write_fill l n flow write row) (record { memory = new; temps = state.temps; entered = state.entered })
   unfolding write_fill fill_base_if
   fill_stands = writes_stand o q flow naming row state laid s new i offset size region sane write.bases (λ base number r. fill_base l n flow.model base write (is_one_instance flow.bases.items write.bases) r)
       (λ b base e. base_within l n flow.model base (base_long b base e).0 write (is_one_instance flow.bases.items write.bases))

@@ -27,7 +27,7 @@ use Rattle.transfer_checks.specs.Touches.{is_nowhere, is_literal_or, any_literal
 use Rattle.memory_model.specs.Memory.Instances.{Memory, live, life_at}
 use Rattle.memory_model.specs.Effects.Touches.{storage_of, storage_at, is_literal}
 use Rattle.store_sound.specs.Concretization.SoundMemory.{storage_for, IsInstanceOf, IsMemoryOf, IsWithin}
-use Rattle.store_sound.specs.Concretization.ValueMeaning.{Naming, StandsInto}
+use Rattle.store_sound.specs.Concretization.ValueMeaning.{Naming, InGammaInto}
 use Rattle.store_sound.specs.Operations.Shapes.{AreShaped}
 use Rattle.store_sound.proofs.operations.LoadSound.{instance_there}
 use Rattle.store_sound.proofs.operations.OneBases.{one_base}
@@ -112,8 +112,8 @@ alone_is bases set b has h =
 
 -- ---- the pointer and the bytes that it reaches
 
-module _ {I : Type 0} {l : LatticeOf I} {n : IntegersOf I} {stands : I → ℤ → Type 0} (o : OrderLaws l) (q : BoundLaws l n stands) (flow : Flow) (shaped : AreShaped flow.bases.items) (naming : Naming) (memory : Memory) (sane : IsMemoryOf flow.model flow.bases.items naming memory)
-    (p : Pointers I) (i offset lo hi : ℕ) (st : StandsInto stands naming memory p i offset lo hi) (inside : IsWithin memory i offset lo hi) where
+module _ {I : Type 0} {l : LatticeOf I} {n : IntegersOf I} {gamma : I → ℤ → Type 0} (o : OrderLaws l) (q : BoundLaws l n gamma) (flow : Flow) (shaped : AreShaped flow.bases.items) (naming : Naming) (memory : Memory) (sane : IsMemoryOf flow.model flow.bases.items naming memory)
+    (p : Pointers I) (i offset lo hi : ℕ) (st : InGammaInto gamma naming memory p i offset lo hi) (inside : IsWithin memory i offset lo hi) where
   small : hi ≤ last_offset
   small = let a = sane.small i in let b = inside.within in omega (arith, a, b)
 
@@ -152,13 +152,13 @@ module _ {I : Type 0} {l : LatticeOf I} {n : IntegersOf I} {stands : I → ℤ �
 
   -- ---- the pointers that go on
 
-  pub within_stands : (set : Bases) → bases_has set st.base ≡ true → (r : StandsInto stands naming memory (within_bases l n p set) i offset lo hi) × (r.base ≡ st.base)
+  pub within_stands : (set : Bases) → bases_has set st.base ≡ true → (r : InGammaInto gamma naming memory (within_bases l n p set) i offset lo hi) × (r.base ≡ st.base)
   within_stands set has =
       let somewhere : is_nowhere n set p.rel ≡ false = or_none _ _ (not_empty set st.base has) (bounded o q p.rel (pos offset -ℤ pos lo) st.relative) in
       let a = inside.above in
       let b = inside.below in
       let c = small in
-      let r : StandsInto stands naming memory (within_bases l n p set) i offset lo hi = rw somewhere (record {
+      let r : InGammaInto gamma naming memory (within_bases l n p set) i offset lo hi = rw somewhere (record {
         base = st.base;
         named = st.named;
         among = has;

@@ -37,12 +37,12 @@ use Rattle.semantics.specs.CfgMachine.FlowStates.{Standing, and_value, values_of
 use Rattle.semantics.specs.CfgMachine.FlowActs.{calling}
 use Rattle.store_sound.specs.Concretization.SeenLabels.{as_set}
 use Rattle.store_sound.specs.Concretization.SoundMemory.{IsPointerIn, IsWithin}
-use Rattle.store_sound.specs.Concretization.ValueMeaning.{Naming, StandsInto, StandsPointer, StandsScalar}
-use Rattle.store_sound.specs.Concretization.RowMeaning.{StandsFor}
+use Rattle.store_sound.specs.Concretization.ValueMeaning.{Naming, InGammaInto, InGammaPointer, InGammaScalar}
+use Rattle.store_sound.specs.Concretization.RowMeaning.{InGamma}
 use Rattle.store_sound.specs.Concretization.Coverage.{state_of}
 use Rattle.store_sound.specs.Programs.Premises.{HasPremises}
 use Rattle.transfer_sound.specs.Values.OperandTypes.{HasThirdSize}
-use Rattle.transfer_sound.specs.Values.SoundSteps.{AreShort, IsReached, StandsBehind, IsStoodFor}
+use Rattle.transfer_sound.specs.Values.SoundSteps.{AreShort, IsReached, InGammaAfter, IsStoodFor}
 use Rattle.transfer_sound.proofs.values.Admitted.{AreAdmitted, none_admitted, one_admitted, both_admitted}
 use Rattle.transfer_sound.proofs.values.PutTemps.{IsResult, put_stands, put_long}
 use Rattle.transfer_sound.proofs.values.Replies.{stop_good}
@@ -110,7 +110,7 @@ sink_told t told labels below tells = by_flag (not (is_unlabelled t)) refl
     by_flag false e = none_admitted told
     by_flag true e = one_admitted told rule.Taintsink (tells rule.Taintsink (labels_shown t labels below e))
 
-module _ {I : Type 0} {l : LatticeOf I} {n : IntegersOf I} {stands : I → ℤ → Type 0} (o : OrderLaws l) (q : BoundLaws l n stands) (flow : Flow) (p : HasPremises flow) (naming : Naming) (row : List (Cell I)) (s : Standing) (r : IsReached l n stands flow naming row s) (to : Option ℕ) (has : has_result (names_of flow) to ≡ true) (newest : Option ℕ) where
+module _ {I : Type 0} {l : LatticeOf I} {n : IntegersOf I} {gamma : I → ℤ → Type 0} (o : OrderLaws l) (q : BoundLaws l n gamma) (flow : Flow) (p : HasPremises flow) (naming : Naming) (row : List (Cell I)) (s : Standing) (r : IsReached l n gamma flow naming row s) (to : Option ℕ) (has : has_result (names_of flow) to ≡ true) (newest : Option ℕ) where
   abbrev pub Good : Plan I → Reply (Option Scalar) → Type 0
   Good plan reply = GoodPlan q flow p naming row s r to has newest plan reply
 
@@ -132,21 +132,21 @@ module _ {I : Type 0} {l : LatticeOf I} {n : IntegersOf I} {stands : I → ℤ �
   -- ---- what goes on with another memory
 
   module _ (plan : Plan I) (found : List Rule) (fine : AreAdmitted plan.violations found) (memory : Memory) (lengths : (j : ℕ) → length (bytes_at memory j) ≡ length (bytes_at s.world.memory j)) (after : List (Cell I)) (long : length after ≡ length row)
-      (stands_after : StandsFor l n stands flow naming after (record { memory = memory; temps = s.temps; entered = s.bases })) (x : Value I) (v : Scalar) (result : IsResult q flow p naming memory x v) (is : apply l n flow to newest plan.effect row ≡ Some (put_result flow to x after)) where
+      (stands_after : InGamma l n gamma flow naming after (record { memory = memory; temps = s.temps; entered = s.bases })) (x : Value I) (v : Scalar) (result : IsResult q flow p naming memory x v) (is : apply l n flow to newest plan.effect row ≡ Some (put_result flow to x after)) where
     abbrev world_after : World
     world_after = record (s.world) { memory = memory; violated = found }
 
     short_after : AreShort flow.model memory
     short_after j = subst (λ z. pos z ≤ℤ greatest_of (kind_of flow.model Pointer true)) (sym (lengths j)) (r.short j)
 
-    by_result : (t : Option ℕ) → has_result (names_of flow) t ≡ true → IsStoodFor l n stands flow (Some (put_result flow t x after)) plan.violations (calling s t (goes (Some v) world_after))
-    by_result None h = stop_good l n stands flow _ plan.violations Stuck s.world (clean q flow p naming row s r plan.violations)
+    by_result : (t : Option ℕ) → has_result (names_of flow) t ≡ true → IsStoodFor l n gamma flow (Some (put_result flow t x after)) plan.violations (calling s t (goes (Some v) world_after))
+    by_result None h = stop_good l n gamma flow _ plan.violations Stuck s.world (clean q flow p naming row s r plan.violations)
     by_result (Some t) h = record {
       goes_on = λ u w e.
           let now : Standing = record s { at = suc s.at; temps = put_at s.temps t v; world = world_after } in
           let a : now ≡ u = cc in
           let b : world_after ≡ w = cc in
-          let here : StandsBehind l n stands flow (Some (put_result flow (Some t) x after)) (record now { world = world_after }) = record {
+          let here : InGammaAfter l n gamma flow (Some (put_result flow (Some t) x after)) (record now { world = world_after }) = record {
             row = put_result flow (Some t) x after;
             is = refl;
             long = put_long q flow p naming after (long ∙ r.long) (record { memory = memory; temps = s.temps; entered = s.bases }) stands_after t (ltb-true t flow.temps h) x v result;
@@ -154,13 +154,13 @@ module _ {I : Type 0} {l : LatticeOf I} {n : IntegersOf I} {stands : I → ℤ �
             stands_for = put_stands q flow p naming after (long ∙ r.long) (record { memory = memory; temps = s.temps; entered = s.bases }) stands_after t (ltb-true t flow.temps h) x v result;
             short = short_after;
           } in
-          subst (λ z. StandsBehind l n stands flow (Some (put_result flow (Some t) x after)) (record z { world = w })) a
-          (subst (λ z. StandsBehind l n stands flow (Some (put_result flow (Some t) x after)) (record now { world = z })) b here);
+          subst (λ z. InGammaAfter l n gamma flow (Some (put_result flow (Some t) x after)) (record z { world = w })) a
+          (subst (λ z. InGammaAfter l n gamma flow (Some (put_result flow (Some t) x after)) (record now { world = z })) b here);
       admits = fine;
     }
 
     pub written_good : Good plan (goes (Some v) world_after)
-    written_good = subst (λ z. IsStoodFor l n stands flow z plan.violations (calling s to (goes (Some v) world_after))) (sym is) (by_result to has)
+    written_good = subst (λ z. IsStoodFor l n gamma flow z plan.violations (calling s to (goes (Some v) world_after))) (sym is) (by_result to has)
 
   module _ (items : List ℕ) (wanted : Option ℕ) (vs : List Scalar) (e : values_of s.temps items ≡ Some vs) where
     abbrev pub the_call : Call
@@ -172,11 +172,11 @@ module _ {I : Type 0} {l : LatticeOf I} {n : IntegersOf I} {stands : I → ℤ �
     abbrev pub given_at : ℕ → Argument I
     given_at at = argument_at l n the_call row at
 
-    pub argument_stands : (at : ℕ) (v : Scalar) → slice_get vs at ≡ Some v → StandsScalar stands naming s.world.memory (argument_value l n (call_of flow items wanted) row at) v
+    pub argument_stands : (at : ℕ) (v : Scalar) → slice_get vs at ≡ Some v → InGammaScalar gamma naming s.world.memory (argument_value l n (call_of flow items wanted) row at) v
     unfolding argument_value
     argument_stands at v h =
         let a = argument_there s.temps items vs e at v h in
-        subst (λ y. StandsScalar stands naming s.world.memory (value_of_argument l n flow row y) v) (sym a.there) (r.stands_for.temps a.temp v a.has)
+        subst (λ y. InGammaScalar gamma naming s.world.memory (value_of_argument l n flow row y) v) (sym a.there) (r.stands_for.temps a.temp v a.has)
 
     pub argument_in : (at : ℕ) (m : MachinePointer) → slice_get vs at ≡ Some (pointer m) → IsPointerIn s.world.memory m
     argument_in at m h = let a = argument_there s.temps items vs e at (pointer m) h in r.stands_for.held.within a.temp (pointer m) a.has
@@ -185,7 +185,7 @@ module _ {I : Type 0} {l : LatticeOf I} {n : IntegersOf I} {stands : I → ℤ �
 
     -- the plan tells the rule at which the machine stops, or both go on with what the pointer reaches
     module _ (plan : Plan I) (found : List Rule) (fine : AreAdmitted plan.violations found) (at : ℕ) (m : MachinePointer) (there : slice_get vs at ≡ Some (pointer m)) (tells : (rl : Rule) → violates (given_at at).violations rl ≡ true → violates plan.violations rl ≡ true) (further : machine.Reach → World → Reply (Option Scalar)) (on : (i offset lo hi : ℕ) → m ≡ into i offset lo hi → life_at s.world.memory i ≡ live → Good plan (further (reach_of i offset hi) (world_with found))) where
-      stands_here : StandsPointer stands naming s.world.memory (value_of at).pointer m
+      stands_here : InGammaPointer gamma naming s.world.memory (value_of at).pointer m
       stands_here = argument_stands at (pointer m) there
 
       by_end : ReachEnd (world_with found) m → Good plan (behind (machine.reached m (world_with found)) further)
@@ -193,13 +193,13 @@ module _ {I : Type 0} {l : LatticeOf I} {n : IntegersOf I} {stands : I → ℤ �
           let a : machine.reached m (world_with found) ≡ goes (reach_of i offset hi) (world_with found) = ap (λ z. machine.reached z (world_with found)) is ∙ ap (λ z. machine.reached_by (world_with found) z i offset hi) alive in
           subst (λ z. Good plan (behind z further)) (sym a) (on i offset lo hi is alive)
       by_end (into_nothing a is) =
-          subst (λ z. Good plan (behind z further)) (sym a) (told_stop plan found fine rule.Nullref (tells rule.Nullref (null_told o q flow p.shaped naming row (state_of s) r.stands_for (value_of at).pointer (subst (StandsPointer stands naming s.world.memory (value_of at).pointer) is stands_here))))
+          subst (λ z. Good plan (behind z further)) (sym a) (told_stop plan found fine rule.Nullref (tells rule.Nullref (null_told o q flow p.shaped naming row (state_of s) r.stands_for (value_of at).pointer (subst (InGammaPointer gamma naming s.world.memory (value_of at).pointer) is stands_here))))
       by_end (into_ended i offset lo hi is life) =
           let a : machine.reached m (world_with found) ≡ stopped_by (world_with found) rule.Nullref = ap (λ z. machine.reached z (world_with found)) is ∙ ap (λ z. machine.reached_by (world_with found) z i offset hi) life in
-          subst (λ z. Good plan (behind z further)) (sym a) (told_stop plan found fine rule.Nullref (tells rule.Nullref (ended_told o q flow p.shaped naming row (state_of s) r.stands_for (value_of at).pointer i offset lo hi life (subst (StandsPointer stands naming s.world.memory (value_of at).pointer) is stands_here))))
+          subst (λ z. Good plan (behind z further)) (sym a) (told_stop plan found fine rule.Nullref (tells rule.Nullref (ended_told o q flow p.shaped naming row (state_of s) r.stands_for (value_of at).pointer i offset lo hi life (subst (InGammaPointer gamma naming s.world.memory (value_of at).pointer) is stands_here))))
       by_end (into_freed i offset lo hi is life) =
           let a : machine.reached m (world_with found) ≡ stopped_by (world_with found) rule.Accfree = ap (λ z. machine.reached z (world_with found)) is ∙ ap (λ z. machine.reached_by (world_with found) z i offset hi) life in
-          subst (λ z. Good plan (behind z further)) (sym a) (told_stop plan found fine rule.Accfree (tells rule.Accfree (freed_told o q flow p.shaped naming row (state_of s) r.stands_for (value_of at).pointer i offset lo hi life (subst (StandsPointer stands naming s.world.memory (value_of at).pointer) is stands_here))))
+          subst (λ z. Good plan (behind z further)) (sym a) (told_stop plan found fine rule.Accfree (tells rule.Accfree (freed_told o q flow p.shaped naming row (state_of s) r.stands_for (value_of at).pointer i offset lo hi life (subst (InGammaPointer gamma naming s.world.memory (value_of at).pointer) is stands_here))))
 
       pub reach_good : Good plan (behind (machine.reached m (world_with found)) further)
       reach_good = by_end (reach_end (world_with found) m)
@@ -211,5 +211,5 @@ module _ {I : Type 0} {l : LatticeOf I} {n : IntegersOf I} {stands : I → ℤ �
       pub goes_given : not (bases_empty (given_at at).rest.bases) ≡ true
       goes_given = given_some o q flow p.shaped naming row (state_of s) r.stands_for (value_of at).pointer i offset lo hi alive (argument_stands at (pointer (into i offset lo hi)) there) given_within
 
-      pub given_into : StandsInto stands naming s.world.memory (given_at at).rest i offset lo hi
+      pub given_into : InGammaInto gamma naming s.world.memory (given_at at).rest i offset lo hi
       given_into = given_stands o q flow p.shaped naming row (state_of s) r.stands_for (value_of at).pointer i offset lo hi alive (argument_stands at (pointer (into i offset lo hi)) there) given_within

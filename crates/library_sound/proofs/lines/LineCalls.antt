@@ -59,8 +59,8 @@ use Rattle.semantics.specs.CfgMachine.FlowStates.{Standing, values_of}
 use Rattle.store_sound.specs.Concretization.Matching.{number_in}
 use Rattle.store_sound.specs.Concretization.SeenLabels.{as_set}
 use Rattle.store_sound.specs.Concretization.SoundMemory.{IsMemoryOf, IsWithin}
-use Rattle.store_sound.specs.Concretization.ValueMeaning.{Naming, StandsInto, StandsByLife, StandsPointer, StandsScalar}
-use Rattle.store_sound.specs.Concretization.RowMeaning.{IsLiveOf, StandsFor}
+use Rattle.store_sound.specs.Concretization.ValueMeaning.{Naming, InGammaInto, InGammaByLife, InGammaPointer, InGammaScalar}
+use Rattle.store_sound.specs.Concretization.RowMeaning.{IsLiveOf, InGamma}
 use Rattle.store_sound.specs.Concretization.Coverage.{state_of}
 use Rattle.store_sound.specs.Operations.Shapes.{IsLaidOut}
 use Rattle.store_sound.proofs.operations.CharValues.{padding_stands}
@@ -121,7 +121,7 @@ upper_some : (x : Range) (z : ℤ) → RangeHas x z → z ≤ℤ upper_or (pos 1
 upper_some None z h = absurd h
 upper_some (Some x) z h = h.1
 
-module _ {I : Type 0} {l : LatticeOf I} {n : IntegersOf I} {stands : I → ℤ → Type 0} (o : OrderLaws l) (q : BoundLaws l n stands) (flow : Flow) (p : HasPremises flow) (naming : Naming) (row : List (Cell I)) (s : Standing) (r : IsReached l n stands flow naming row s) (to : Option ℕ) (has : has_result (names_of flow) to ≡ true)
+module _ {I : Type 0} {l : LatticeOf I} {n : IntegersOf I} {gamma : I → ℤ → Type 0} (o : OrderLaws l) (q : BoundLaws l n gamma) (flow : Flow) (p : HasPremises flow) (naming : Naming) (row : List (Cell I)) (s : Standing) (r : IsReached l n gamma flow naming row s) (to : Option ℕ) (has : has_result (names_of flow) to ≡ true)
     (line : ℕ) (most : ℕ) (stream : ℕ) (vs : List Scalar) (e : values_of s.temps (line ∷ (most ∷ (stream ∷ []))) ≡ Some vs)
     (d : MachinePointer) (z : ℤ) (lb : Labels) (first : slice_get vs 0 ≡ Some (pointer d)) (second : slice_get vs 1 ≡ Some (integer z lb)) where
   abbrev items : List ℕ
@@ -165,12 +165,12 @@ module _ {I : Type 0} {l : LatticeOf I} {n : IntegersOf I} {stands : I → ℤ �
   abbrev pub line_plan : Plan I
   line_plan = text_from_start l n call target letters (line_rule l n cut)
 
-  amount_stands : StandsScalar stands naming s.world.memory amount (integer z lb)
+  amount_stands : InGammaScalar gamma naming s.world.memory amount (integer z lb)
   amount_stands = argument_stands o q flow p naming row s r to has None items None vs e 1 (integer z lb) second
 
   amount_near : IsNearNumber z
   unfolding argument_value
-  amount_near = near_has q amount.num z (subst (λ y. stands y z) (sym (value_at_near o q row (temp_position flow most)).num) amount_stands.0)
+  amount_near = near_has q amount.num z (subst (λ y. gamma y z) (sym (value_at_near o q row (temp_position flow most)).num) amount_stands.0)
 
   literal_on : (rl : Rule) → violates fitting_trail.violations rl ≡ true → violates target.trail.violations rl ≡ true
   literal_on rl h = still_told fitting_trail (literal_violations (writes_literal flow.bases.items given.rest.bases cut)) (not (bases_empty (after_write flow.bases.items given.rest.bases cut))) rl h
@@ -199,7 +199,7 @@ module _ {I : Type 0} {l : LatticeOf I} {n : IntegersOf I} {stands : I → ℤ �
     pub value : Value I
     pub plans : line_plan.effect ≡ effect.Text write value
     pub long : length (write_text l n flow write row) ≡ length row
-    pub stands_for : StandsFor l n stands flow naming (write_text l n flow write row) (record { memory = w.memory; temps = s.temps; entered = s.bases })
+    pub stands_for : InGamma l n gamma flow naming (write_text l n flow write row) (record { memory = w.memory; temps = s.temps; entered = s.bases })
     pub result : IsResult q flow p naming w.memory value v
     pub lengths : (j : ℕ) → length (bytes_at w.memory j) ≡ length (bytes_at s.world.memory j)
 
@@ -230,7 +230,7 @@ module _ {I : Type 0} {l : LatticeOf I} {n : IntegersOf I} {stands : I → ℤ �
     within : IsWithin s.world.memory i offset lo hi
     within = given_within o q flow p naming row s r to has None items None vs e 0 i offset lo hi here alive
 
-    st : StandsInto stands naming s.world.memory given.rest i offset lo hi
+    st : InGammaInto gamma naming s.world.memory given.rest i offset lo hi
     st = given_into o q flow p naming row s r to has None items None vs e 0 i offset lo hi here alive
 
     pointed : pointer_trail.goes_on ≡ true
@@ -280,7 +280,7 @@ module _ {I : Type 0} {l : LatticeOf I} {n : IntegersOf I} {stands : I → ℤ �
           on : target.trail.goes_on ≡ true
           on = goes_further fitting_trail (literal_violations (writes_literal flow.bases.items given.rest.bases cut)) (not (bases_empty (after_write flow.bases.items given.rest.bases cut))) fitted (ap not (not_empty (after_write flow.bases.items given.rest.bases cut) st.base after_there))
 
-          rest : (y : StandsInto stands naming s.world.memory target.rest i offset lo hi) × (y.base ≡ st.base)
+          rest : (y : InGammaInto gamma naming s.world.memory target.rest i offset lo hi) × (y.base ≡ st.base)
           rest = within_stands o q flow p.shaped naming s.world.memory r.stands_for.sane given.rest i offset lo hi st within (after_write flow.bases.items given.rest.bases cut) after_there
 
           laid : IsLaidOut flow (length row)
@@ -354,9 +354,9 @@ module _ {I : Type 0} {l : LatticeOf I} {n : IntegersOf I} {stands : I → ℤ �
               pub equal : x ≡ number digit labels
               pub small : digit < 256
               pub labelled : labels_leq (as_set labels) letters.labels ≡ true
-              pub stood : (signed : Bool) → stands (character_value l n letters signed).num (number_of signed (record { number = digit; labels = labels } ∷ []))
+              pub stood : (signed : Bool) → gamma (character_value l n letters signed).num (number_of signed (record { number = digit; labels = labels } ∷ []))
 
-            input_stood : (digit : ℕ) (labels : Labels) → digit < 256 → (signed : Bool) → stands (cond signed letters.signed letters.unsigned) (number_of signed (record { number = digit; labels = labels } ∷ []))
+            input_stood : (digit : ℕ) (labels : Labels) → digit < 256 → (signed : Bool) → gamma (cond signed letters.signed letters.unsigned) (number_of signed (record { number = digit; labels = labels } ∷ []))
             input_stood digit labels small true = (padding_stands o q flow.model naming s.world.memory true (record { number = digit; labels = labels }) small).0
             input_stood digit labels small false = (padding_stands o q flow.model naming s.world.memory false (record { number = digit; labels = labels }) small).0
 
@@ -375,7 +375,7 @@ module _ {I : Type 0} {l : LatticeOf I} {n : IntegersOf I} {stands : I → ℤ �
               equal = k;
               small = omega arith;
               labelled = labels_order.least_below letters.labels;
-              stood = λ signed. q.larger (n.one (pos 0)) (l.join (cond signed letters.signed letters.unsigned) (n.one (pos 0))) (number_of signed (record { number = 0; labels = no_labels } ∷ [])) (o.join_right (cond signed letters.signed letters.unsigned) (n.one (pos 0))) (subst (stands (n.one (pos 0))) (sym (zero_number signed)) (q.one_stands (pos 0)));
+              stood = λ signed. q.larger (n.one (pos 0)) (l.join (cond signed letters.signed letters.unsigned) (n.one (pos 0))) (number_of signed (record { number = 0; labels = no_labels } ∷ [])) (o.join_right (cond signed letters.signed letters.unsigned) (n.one (pos 0))) (subst (gamma (n.one (pos 0))) (sym (zero_number signed)) (q.one_stands (pos 0)));
             }
 
             known : (k : ℕ) (x : Content) → slice_get content_list k ≡ Some x → IsKnownNumber x
@@ -412,13 +412,13 @@ module _ {I : Type 0} {l : LatticeOf I} {n : IntegersOf I} {stands : I → ℤ �
                 let same : y.window ≡ window_at.window = same_Some y.window window_at.window (sym y.is ∙ window_at.is) in
                 subst (λ v. (v.lo ≤ x) × (x ≤ v.hi)) same (y.from, y.to)
 
-            is_text : IsTextWrite l n stands write memory i offset (length content_list)
+            is_text : IsTextWrite l n gamma write memory i offset (length content_list)
             is_text = record {
               window = window_has;
               start = (start.from, start.to);
               one_byte = λ f. let a = content_long in let y = one_has o q flow p.shaped naming s.world.memory r.stands_for.sane target.rest i offset lo hi rest.0 within cut size cut_size f in omega (arith, a, y, fits_size);
               numbers = λ x b from below f. let y = byte_known x b from below f in (y.digit, y.labels, y.equal, y.labelled);
-              characters = λ x y b from below f g signed. let k = byte_known x b from below f in subst (stands (character_value l n letters signed).num) (known_digit y k.digit k.labels (sym g ∙ k.equal) signed) (k.stood signed);
+              characters = λ x y b from below f g signed. let k = byte_known x b from below f in subst (gamma (character_value l n letters signed).num) (known_digit y k.digit k.labels (sym g ∙ k.equal) signed) (k.stood signed);
             }
 
             -- ---- the first zero of the line
@@ -443,7 +443,7 @@ module _ {I : Type 0} {l : LatticeOf I} {n : IntegersOf I} {stands : I → ℤ �
                   closed = λ b f. first_is.here b.content (at_place ends b inside f);
                 }
 
-            counted : stands lengths (pos ends)
+            counted : gamma lengths (pos ends)
             counted =
                 let inside = first_is.inside in
                 let a = content_long in
@@ -451,7 +451,7 @@ module _ {I : Type 0} {l : LatticeOf I} {n : IntegersOf I} {stands : I → ℤ �
 
             result : IsResult q flow p naming memory (pointer_value l target.rest) (pointer d)
             result = subst (λ y. IsResult q flow p naming memory (pointer_value l target.rest) (pointer y)) (sym is) (record {
-              stands_for = scalar_moves (alike_region region_here) stands naming (pointer_value l target.rest) (pointer (into i offset lo hi)) (subst (λ y. StandsByLife stands naming s.world.memory target.rest y i offset lo hi) (sym alive) rest.0);
+              stands_for = scalar_moves (alike_region region_here) gamma naming (pointer_value l target.rest) (pointer (into i offset lo hi)) (subst (λ y. InGammaByLife gamma naming s.world.memory target.rest y i offset lo hi) (sym alive) rest.0);
               near = tt;
               within = pointer_in_moves (alike_region region_here) (into i offset lo hi) within;
             })
@@ -526,7 +526,7 @@ module _ {I : Type 0} {l : LatticeOf I} {n : IntegersOf I} {stands : I → ℤ �
         at_least : int_lt z (pos 1) ≡ false → pos 1 ≤ℤ z
         at_least g = grind (arith, ints)
 
-  stands_here : StandsPointer stands naming s.world.memory (value_of o q flow p naming row s r to has None items None vs e 0).pointer d
+  stands_here : InGammaPointer gamma naming s.world.memory (value_of o q flow p naming row s r to has None items None vs e 0).pointer d
   stands_here = argument_stands o q flow p naming row s r to has None items None vs e 0 (pointer d) first
 
   pointer_stop : (rl : Rule) → violates given.violations rl ≡ true → violates line_plan.violations rl ≡ true
@@ -537,13 +537,13 @@ module _ {I : Type 0} {l : LatticeOf I} {n : IntegersOf I} {stands : I → ℤ �
       let a : machine.reached d start_world ≡ goes (reach_of i offset hi) start_world = ap (λ y. machine.reached y start_world) is ∙ ap (λ y. machine.reached_by start_world y i offset hi) alive in
       subst (λ y. IsGoodLine (behind y (read_into flow.model d z))) (sym a) (by_sign i offset lo hi is alive (int_lt z (pos 1)) refl)
   by_end (into_nothing a is) =
-      subst (λ y. IsGoodLine (behind y (read_into flow.model d z))) (sym a) (told rule.Nullref (pointer_stop rule.Nullref (null_told o q flow p.shaped naming row (state_of s) r.stands_for (value_of o q flow p naming row s r to has None items None vs e 0).pointer (subst (StandsPointer stands naming s.world.memory (value_of o q flow p naming row s r to has None items None vs e 0).pointer) is stands_here))))
+      subst (λ y. IsGoodLine (behind y (read_into flow.model d z))) (sym a) (told rule.Nullref (pointer_stop rule.Nullref (null_told o q flow p.shaped naming row (state_of s) r.stands_for (value_of o q flow p naming row s r to has None items None vs e 0).pointer (subst (InGammaPointer gamma naming s.world.memory (value_of o q flow p naming row s r to has None items None vs e 0).pointer) is stands_here))))
   by_end (into_ended i offset lo hi is life) =
       let a : machine.reached d start_world ≡ stopped_by start_world rule.Nullref = ap (λ y. machine.reached y start_world) is ∙ ap (λ y. machine.reached_by start_world y i offset hi) life in
-      subst (λ y. IsGoodLine (behind y (read_into flow.model d z))) (sym a) (told rule.Nullref (pointer_stop rule.Nullref (ended_told o q flow p.shaped naming row (state_of s) r.stands_for (value_of o q flow p naming row s r to has None items None vs e 0).pointer i offset lo hi life (subst (StandsPointer stands naming s.world.memory (value_of o q flow p naming row s r to has None items None vs e 0).pointer) is stands_here))))
+      subst (λ y. IsGoodLine (behind y (read_into flow.model d z))) (sym a) (told rule.Nullref (pointer_stop rule.Nullref (ended_told o q flow p.shaped naming row (state_of s) r.stands_for (value_of o q flow p naming row s r to has None items None vs e 0).pointer i offset lo hi life (subst (InGammaPointer gamma naming s.world.memory (value_of o q flow p naming row s r to has None items None vs e 0).pointer) is stands_here))))
   by_end (into_freed i offset lo hi is life) =
       let a : machine.reached d start_world ≡ stopped_by start_world rule.Accfree = ap (λ y. machine.reached y start_world) is ∙ ap (λ y. machine.reached_by start_world y i offset hi) life in
-      subst (λ y. IsGoodLine (behind y (read_into flow.model d z))) (sym a) (told rule.Accfree (pointer_stop rule.Accfree (freed_told o q flow p.shaped naming row (state_of s) r.stands_for (value_of o q flow p naming row s r to has None items None vs e 0).pointer i offset lo hi life (subst (StandsPointer stands naming s.world.memory (value_of o q flow p naming row s r to has None items None vs e 0).pointer) is stands_here))))
+      subst (λ y. IsGoodLine (behind y (read_into flow.model d z))) (sym a) (told rule.Accfree (pointer_stop rule.Accfree (freed_told o q flow p.shaped naming row (state_of s) r.stands_for (value_of o q flow p naming row s r to has None items None vs e 0).pointer i offset lo hi life (subst (InGammaPointer gamma naming s.world.memory (value_of o q flow p naming row s r to has None items None vs e 0).pointer) is stands_here))))
 
   pub line_good : IsGoodLine (behind (machine.reached d (machine.with_size s.world lb)) (read_into flow.model d z))
   line_good = by_end (reach_end start_world d)

@@ -41,10 +41,10 @@ use Rattle.semantics.specs.CfgMachine.FlowStates.{Standing, values_of, if_some, 
 use Rattle.semantics.specs.CfgMachine.FlowEdges.{is_taken, edge_taken, edges_of, at_block, along, on_way}
 use Rattle.semantics.specs.CfgMachine.FlowSteps.{block_of, on_edge, reading_line}
 use Rattle.store_sound.specs.Concretization.ValueMeaning.{Naming}
-use Rattle.store_sound.specs.Concretization.RowMeaning.{StandsFor}
+use Rattle.store_sound.specs.Concretization.RowMeaning.{InGamma}
 use Rattle.store_sound.specs.Programs.Premises.{HasPremises}
 use Rattle.store_sound.proofs.programs.ShapedBases.{all_at}
-use Rattle.transfer_sound.specs.Values.SoundSteps.{AreShort, IsReached, StandsBehind}
+use Rattle.transfer_sound.specs.Values.SoundSteps.{AreShort, IsReached, InGammaAfter}
 use Rattle.transfer_sound.proofs.values.Admitted.{AreAdmitted}
 use Rattle.transfer_sound.proofs.values.PutTemps.{IsResult, put_stands, put_long}
 use Rattle.transfer_sound.specs.Induction.SoundEnds.{EdgeBehind, EndIsSound}
@@ -54,14 +54,14 @@ use Rattle.library_sound.proofs.calls.Calls.{clean}
 use Rattle.library_sound.specs.Lines.LineEnds.{IsLineEnd}
 use Rattle.library_sound.proofs.lines.LineCalls.{IsLine, GoesOn, no_line, a_line, IsGoodLine, line_good}
 
-module _ {I : Type 0} {l : LatticeOf I} {n : IntegersOf I} {stands : I → ℤ → Type 0} (o : OrderLaws l) (q : BoundLaws l n stands) (flow : Flow) (p : HasPremises flow) (naming : Naming) (row : List (Cell I)) (s : Standing) (r : IsReached l n stands flow naming row s) where
+module _ {I : Type 0} {l : LatticeOf I} {n : IntegersOf I} {gamma : I → ℤ → Type 0} (o : OrderLaws l) (q : BoundLaws l n gamma) (flow : Flow) (p : HasPremises flow) (naming : Naming) (row : List (Cell I)) (s : Standing) (r : IsReached l n gamma flow naming row s) where
   abbrev f : FlowView
   f = flow_view flow
 
   -- ---- what the call gives, in its temporary
 
-  put_behind : (w : World) (after : List (Cell I)) → length after ≡ flow.width → StandsFor l n stands flow naming after (record { memory = w.memory; temps = s.temps; entered = s.bases }) → AreShort flow.model w.memory → (x : Value I) (v : Scalar) → IsResult q flow p naming w.memory x v
-      → (t : Option ℕ) → has_result (names_of flow) t ≡ true → StandsBehind l n stands flow (Some (put_result flow t x after)) (record (put_if s t v w) { world = w })
+  put_behind : (w : World) (after : List (Cell I)) → length after ≡ flow.width → InGamma l n gamma flow naming after (record { memory = w.memory; temps = s.temps; entered = s.bases }) → AreShort flow.model w.memory → (x : Value I) (v : Scalar) → IsResult q flow p naming w.memory x v
+      → (t : Option ℕ) → has_result (names_of flow) t ≡ true → InGammaAfter l n gamma flow (Some (put_result flow t x after)) (record (put_if s t v w) { world = w })
   put_behind w after long st short x v result None fits = record { row = after; is = refl; long = long; naming = naming; stands_for = st; short = short }
   put_behind w after long st short x v result (Some t) fits = record {
     row = put_result flow (Some t) x after;
@@ -114,20 +114,20 @@ module _ {I : Type 0} {l : LatticeOf I} {n : IntegersOf I} {stands : I → ℤ �
     -- ---- an edge is passed
 
     record PassesLine (reply : Reply Standing) : Type 0 where
-      goes_along : (t : Standing) (w : World) → reply ≡ goes t w → EdgeBehind l n stands flow row (op.ReadLine to line most stream) s.block (record t { world = w })
+      goes_along : (t : Standing) (w : World) → reply ≡ goes t w → EdgeBehind l n gamma flow row (op.ReadLine to line most stream) s.block (record t { world = w })
       admits : AreAdmitted plan.violations (world_of reply).violated
 
     stop_passes : (why : Why) (w : World) → AreAdmitted plan.violations w.violated → PassesLine (stops why w)
     stop_passes why w h = record { goes_along = λ t u g. cc; admits = h }
 
     module _ (v : Scalar) (w : World) (admitted : AreAdmitted plan.violations w.violated) (stays : operate l n flow row (op.ReadLine to line most stream) ≡ Some row) (u : Standing) (at : u.block ≡ s.block) (world : u.world ≡ w)
-        (behind_edge : (e : EdgeView) (x : IsTakenEdge flow s.block v e ByLine) → StandsBehind l n stands flow (follow l n flow row x.it.from x.it.kind) (record u { world = w })) where
+        (behind_edge : (e : EdgeView) (x : IsTakenEdge flow s.block v e ByLine) → InGammaAfter l n gamma flow (follow l n flow row x.it.from x.it.kind) (record u { world = w })) where
       along_good : (e : EdgeView) (x : IsTakenEdge flow s.block v e ByLine) → PassesLine (along f u (Some e))
       unfolding edge
       along_good e x =
           let sb = behind_edge e x in
           let now : Standing = record (at_block x.it.to u) { world = w } in
-          let eb : EdgeBehind l n stands flow row (op.ReadLine to line most stream) s.block now = record {
+          let eb : EdgeBehind l n gamma flow row (op.ReadLine to line most stream) s.block now = record {
             stays = stays;
             number = x.number;
             taken = x.it;
@@ -142,7 +142,7 @@ module _ {I : Type 0} {l : LatticeOf I} {n : IntegersOf I} {stands : I → ℤ �
             goes_along = λ t z g.
                 let a : at_block x.it.to u ≡ t = cc in
                 let b : w ≡ z = cc in
-                subst (λ y. EdgeBehind l n stands flow row (op.ReadLine to line most stream) s.block (record y { world = z })) a (subst (λ y. EdgeBehind l n stands flow row (op.ReadLine to line most stream) s.block (record (at_block x.it.to u) { world = y })) b eb);
+                subst (λ y. EdgeBehind l n gamma flow row (op.ReadLine to line most stream) s.block (record y { world = z })) a (subst (λ y. EdgeBehind l n gamma flow row (op.ReadLine to line most stream) s.block (record (at_block x.it.to u) { world = y })) b eb);
             admits = admitted;
           }))
 
@@ -165,13 +165,13 @@ module _ {I : Type 0} {l : LatticeOf I} {n : IntegersOf I} {stands : I → ℤ �
     row_long = r.long
 
     -- no line, and a null pointer
-    null_edge : (w : World) → w.memory ≡ s.world.memory → (from : ℕ) → from ≡ s.block → (k : EdgeKind) → FitsLead ByLine k → is_taken (pointer null) (way k) ≡ true → StandsBehind l n stands flow (follow l n flow row from k) (record (put_if s to (pointer null) w) { world = w })
+    null_edge : (w : World) → w.memory ≡ s.world.memory → (from : ℕ) → from ≡ s.block → (k : EdgeKind) → FitsLead ByLine k → is_taken (pointer null) (way k) ≡ true → InGammaAfter l n gamma flow (follow l n flow row from k) (record (put_if s to (pointer null) w) { world = w })
     unfolding follow no_line_edge
     null_edge w m from e kind.NoLine h t =
-        let st = subst (λ y. StandsFor l n stands flow naming row (record { memory = y; temps = s.temps; entered = s.bases })) (sym m) r.stands_for in
+        let st = subst (λ y. InGamma l n gamma flow naming row (record { memory = y; temps = s.temps; entered = s.bases })) (sym m) r.stands_for in
         let short : AreShort flow.model w.memory = short_by w.memory (λ j. ap (λ y. length (bytes_at y j)) m) in
         let behind_null = put_behind w row row_long st short (pointer_value l (null_pointer l)) (pointer null) (record { stands_for = refl; near = tt; within = tt }) to has in
-        subst (λ y. StandsBehind l n stands flow y (record (put_if s to (pointer null) w) { world = w })) (sym (ap (no_line_edge l flow row) (call_is from e) ∙ ap Some (null_put to row))) behind_null
+        subst (λ y. InGammaAfter l n gamma flow y (record (put_if s to (pointer null) w) { world = w })) (sym (ap (no_line_edge l flow row) (call_is from e) ∙ ap Some (null_put to row))) behind_null
     null_edge w m from e kind.Line h t = absurd (true≢false (sym t))
     null_edge w m from e _ h t = absurd h
 
@@ -181,12 +181,12 @@ module _ {I : Type 0} {l : LatticeOf I} {n : IntegersOf I} {stands : I → ℤ �
       abbrev Line : Reply Scalar → Type 0
       Line reply = IsGoodLine o q flow p naming row s r to has line most stream (pointer d ∷ (integer z la ∷ (pointer k ∷ []))) e d z la refl refl reply
 
-      line_row : (v : Scalar) (w : World) → IsLine o q flow p naming row s r to has line most stream (pointer d ∷ (integer z la ∷ (pointer k ∷ []))) e d z la refl refl v w → (from : ℕ) → from ≡ s.block → (c : EdgeKind) → FitsLead ByLine c → is_taken v (way c) ≡ true → StandsBehind l n stands flow (follow l n flow row from c) (record (put_if s to v w) { world = w })
+      line_row : (v : Scalar) (w : World) → IsLine o q flow p naming row s r to has line most stream (pointer d ∷ (integer z la ∷ (pointer k ∷ []))) e d z la refl refl v w → (from : ℕ) → from ≡ s.block → (c : EdgeKind) → FitsLead ByLine c → is_taken v (way c) ≡ true → InGammaAfter l n gamma flow (follow l n flow row from c) (record (put_if s to v w) { world = w })
       unfolding follow line_edge write_line apply plan_fgets
       line_row v w x from b kind.NoLine h t = absurd (true≢false (sym t ∙ x.truth))
       line_row v w x from b kind.Line h t =
           let behind_line = put_behind w _ (x.long ∙ row_long) x.stands_for (short_by w.memory x.lengths) x.value v x.result to has in
-          subst (λ y. StandsBehind l n stands flow y (record (put_if s to v w) { world = w })) (sym (ap (line_edge l n flow row) (call_is from b) ∙ ap (λ y. apply l n flow to None y row) x.plans)) behind_line
+          subst (λ y. InGammaAfter l n gamma flow y (record (put_if s to v w) { world = w })) (sym (ap (line_edge l n flow row) (call_is from b) ∙ ap (λ y. apply l n flow to None y row) x.plans)) behind_line
       line_row v w x from b _ h t = absurd h
 
       stays_by : goes_on plan.effect ≡ true → operate l n flow row (op.ReadLine to line most stream) ≡ Some row
@@ -218,15 +218,15 @@ module _ {I : Type 0} {l : LatticeOf I} {n : IntegersOf I} {stands : I → ℤ �
     by_values (Some (pointer d ∷ (integer z la ∷ (pointer k ∷ [])))) e =
         by_reply d z la k e (fgets flow.model (pointer d ∷ (integer z la ∷ (pointer k ∷ []))) s.world) (line_good o q flow p naming row s r to has line most stream (pointer d ∷ (integer z la ∷ (pointer k ∷ []))) e d z la refl refl)
 
-    line_passes : EndIsSound l n stands flow row (op.ReadLine to line most stream) s
+    line_passes : EndIsSound l n gamma flow row (op.ReadLine to line most stream) s
     unfolding operation_violations
     line_passes =
         let h = by_values (values_of s.temps (line ∷ (most ∷ (stream ∷ [])))) refl in
         record { goes_on = λ t w g. h.goes_along t w g; admits = h.admits }
 
-  by_operation : (limits : Limits) → is_well_formed limits flow ≡ true → (i : Instruction) → last_instruction flow s.block ≡ Some i → (x : Operation) → i.operation ≡ x → IsLineEnd x → EndIsSound l n stands flow row x s
+  by_operation : (limits : Limits) → is_well_formed limits flow ≡ true → (i : Instruction) → last_instruction flow s.block ≡ Some i → (x : Operation) → i.operation ≡ x → IsLineEnd x → EndIsSound l n gamma flow row x s
   by_operation limits good i last (op.ReadLine to line most stream) e h = line_passes limits good i last to line most stream e
   by_operation limits good i last x e h = absurd h
 
-  pub line_end_sound : (limits : Limits) → is_well_formed limits flow ≡ true → (i : Instruction) → last_instruction flow s.block ≡ Some i → IsLineEnd i.operation → EndIsSound l n stands flow row i.operation s
+  pub line_end_sound : (limits : Limits) → is_well_formed limits flow ≡ true → (i : Instruction) → last_instruction flow s.block ≡ Some i → IsLineEnd i.operation → EndIsSound l n gamma flow row i.operation s
   line_end_sound limits good i last is = by_operation limits good i last i.operation refl is

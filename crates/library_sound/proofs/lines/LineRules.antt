@@ -26,8 +26,8 @@ use Rattle.memory_model.specs.Memory.Bytes.{Byte}
 use Rattle.memory_model.specs.Memory.Instances.{Memory, bytes_at, byte_at}
 use Rattle.store_sound.specs.Concretization.FirstZeroBytes.{end, character, seen_as, first_zero, zero_offset}
 use Rattle.store_sound.specs.Concretization.SoundMemory.{IsMemoryOf}
-use Rattle.store_sound.specs.Concretization.ValueMeaning.{Naming, StandsZero}
-use Rattle.store_sound.specs.Concretization.RowMeaning.{MachineState, array_bytes, IsLiveOf, StandsFor}
+use Rattle.store_sound.specs.Concretization.ValueMeaning.{Naming, InGammaZero}
+use Rattle.store_sound.specs.Concretization.RowMeaning.{MachineState, array_bytes, IsLiveOf, InGamma}
 use Rattle.store_sound.specs.Operations.Shapes.{IsLaidOut}
 use Rattle.store_sound.proofs.operations.Near.{near_number_from}
 use Rattle.store_sound.proofs.operations.Slices.{get_there}
@@ -47,7 +47,7 @@ pub record HasTextFirst (new : Memory) (i offset size t : ℕ) : Type 0 where
   pub text : (x : ℕ) (b : Byte) → x < t → byte_at new i (offset + x) ≡ Some b → seen_as b.content ≡ character
   pub closed : (b : Byte) → byte_at new i (offset + t) ≡ Some b → seen_as b.content ≡ end
 
-module _ {I : Type 0} {l : LatticeOf I} {n : IntegersOf I} {stands : I → ℤ → Type 0} (o : OrderLaws l) (q : BoundLaws l n stands) where
+module _ {I : Type 0} {l : LatticeOf I} {n : IntegersOf I} {gamma : I → ℤ → Type 0} (o : OrderLaws l) (q : BoundLaws l n gamma) where
   -- the numbers from 0 to one that is no greater than the end
   between_count : (lo hi : ℤ) → pos 0 ≤ℤ lo → lo ≤ℤ hi → hi ≤ℤ the_end → IsCount l n (near_number l n (between_or_least l n lo hi))
   between_count lo hi low some high =
@@ -65,9 +65,9 @@ module _ {I : Type 0} {l : LatticeOf I} {n : IntegersOf I} {stands : I → ℤ �
   -- ---- an array that has all of the bytes
 
   module _ (flow : Flow) (naming : Naming) {old new : Memory} {i offset size : ℕ} (s : IsRegion old new i offset size) (sane : IsMemoryOf flow.model flow.bases.items naming new) (start : Window) (first : start.lo ≤ offset) (last : offset ≤ start.hi)
-      (t : ℕ) (has : HasTextFirst new i offset size t) (len : I) (counted : stands len (pos t)) (count : IsCount l n (near_number l n len)) where
+      (t : ℕ) (has : HasTextFirst new i offset size t) (len : I) (counted : gamma len (pos t)) (count : IsCount l n (near_number l n len)) where
     line_rule : (part : ZeroPart) (target : ZeroTarget) (f : FirstZero I) → zero_target part start ≡ Some target → IsIn part.size part.offset offset → IsIn part.size part.offset (offset + (size - 1)) → IsNear (n.bounds f.at)
-        → StandsZero stands naming old f (array_bytes part (bytes_at old i)) → StandsZero stands naming new (text_at l n f (offsets_of l n target.local) (near_number l n len)) (array_bytes part (bytes_at new i))
+        → InGammaZero gamma naming old f (array_bytes part (bytes_at old i)) → InGammaZero gamma naming new (text_at l n f (offsets_of l n target.local) (near_number l n len)) (array_bytes part (bytes_at new i))
     unfolding byte_at
     line_rule part target f found inside ends near h =
         let from = starts_in part.size part.offset offset inside in
@@ -103,22 +103,22 @@ module _ {I : Type 0} {l : LatticeOf I} {n : IntegersOf I} {stands : I → ℤ �
 
 -- ---- the row
 
-module _ {I : Type 0} {l : LatticeOf I} {n : IntegersOf I} {stands : I → ℤ → Type 0} (o : OrderLaws l) (q : BoundLaws l n stands) (flow : Flow) (naming : Naming) (row : List (Cell I)) (state : MachineState) (laid : IsLaidOut flow (length row)) (s : StandsFor l n stands flow naming row state)
-    (new : Memory) (i offset size : ℕ) (region : IsRegion state.memory new i offset size) (sane : IsMemoryOf flow.model flow.bases.items naming new) (write : TextWrite I) (k : IsTextWrite l n stands write new i offset size)
-    (len : I) (is : write.zero ≡ Text len) (t : ℕ) (has : HasTextFirst new i offset size t) (counted : stands len (pos t)) (count : IsCount l n (near_number l n len))
+module _ {I : Type 0} {l : LatticeOf I} {n : IntegersOf I} {gamma : I → ℤ → Type 0} (o : OrderLaws l) (q : BoundLaws l n gamma) (flow : Flow) (naming : Naming) (row : List (Cell I)) (state : MachineState) (laid : IsLaidOut flow (length row)) (s : InGamma l n gamma flow naming row state)
+    (new : Memory) (i offset size : ℕ) (region : IsRegion state.memory new i offset size) (sane : IsMemoryOf flow.model flow.bases.items naming new) (write : TextWrite I) (k : IsTextWrite l n gamma write new i offset size)
+    (len : I) (is : write.zero ≡ Text len) (t : ℕ) (has : HasTextFirst new i offset size t) (counted : gamma len (pos t)) (count : IsCount l n (near_number l n len))
     (here : (b : ℕ) → naming i ≡ Some b → 0 < size → has_base write.bases b ≡ true)
     (single : is_one_instance flow.bases.items write.bases ≡ true → 0 < size → (b j : ℕ) → has_base write.bases b ≡ true → IsLiveOf naming state.memory b j → j ≡ i) where
-  of_base : (b : ℕ) → IsTextWrite l n stands (write_into write b) new i offset size
+  of_base : (b : ℕ) → IsTextWrite l n gamma (write_into write b) new i offset size
   of_base b = record { window = k.window; start = k.start; one_byte = k.one_byte; numbers = k.numbers; characters = k.characters }
 
   ruled : (b : ℕ) (base : BaseInfo) → slice_get flow.bases.items b ≡ Some base → (in_set : has_base write.bases b ≡ true) → IsRuled o q flow naming region sane (write_into write b) (of_base b) (is_one_instance flow.bases.items write.bases) b base (λ alone some j alive. single alone some b j in_set alive)
   ruled b base at in_set =
       let short = has.short in
       says (omega (arith, short)) (λ z part target f among named found inside last near old.
-      subst (λ y. StandsZero stands naming new (zero_after l n f target.local y) (array_bytes part (bytes_at new i))) (sym (ap (λ y. rule_in y b) is))
+      subst (λ y. InGammaZero gamma naming new (zero_after l n f target.local y) (array_bytes part (bytes_at new i))) (sym (ap (λ y. rule_in y b) is))
       (line_rule o q flow naming region sane write.start k.start.0 k.start.1 t has len counted count part target f found inside last near old))
 
-  pub line_stands : StandsFor l n stands flow naming (write_text l n flow write row) (record { memory = new; temps = state.temps; entered = state.entered })
+  pub line_stands : InGamma l n gamma flow naming (write_text l n flow write row) (record { memory = new; temps = state.temps; entered = state.entered })
   line_stands = text_stands o q flow naming row state laid s new i offset size region sane write here single of_base ruled
 
   pub line_long : length (write_text l n flow write row) ≡ length row

@@ -34,7 +34,7 @@ use Rattle.memory_model.specs.Effects.Worlds.{World}
 use Rattle.semantics.specs.CfgMachine.FlowStates.{Standing}
 use Rattle.store_sound.specs.Concretization.SoundMemory.{IsMemoryOf}
 use Rattle.store_sound.specs.Concretization.ValueMeaning.{Naming}
-use Rattle.store_sound.specs.Concretization.RowMeaning.{IsLiveOf, StandsFor}
+use Rattle.store_sound.specs.Concretization.RowMeaning.{IsLiveOf, InGamma}
 use Rattle.store_sound.specs.Concretization.Coverage.{state_of}
 use Rattle.store_sound.specs.Operations.Shapes.{IsLaidOut}
 use Rattle.store_sound.proofs.operations.LoadSound.{instance_there}
@@ -42,7 +42,7 @@ use Rattle.store_sound.specs.Programs.Premises.{HasPremises}
 use Rattle.store_sound.proofs.programs.ShapedBases.{all_at}
 use Rattle.store_sound.specs.Regions.RegionWrites.{IsRegion}
 use Rattle.store_sound.proofs.regions.ContentRegions.{IsWritten, contents_written, contents_sane, region_content}
-use Rattle.transfer_sound.specs.Values.SoundSteps.{AreShort, IsReached, StandsBehind, StepIsSound}
+use Rattle.transfer_sound.specs.Values.SoundSteps.{AreShort, IsReached, InGammaAfter, StepIsSound}
 use Rattle.transfer_sound.proofs.values.Admitted.{none_admitted, same_admitted}
 use Rattle.transfer_sound.proofs.values.PartSteps.{declared_storage}
 use Rattle.transfer_sound.proofs.values.Replies.{if_some_good}
@@ -57,7 +57,7 @@ use Rattle.library_sound.proofs.spelling.SpelledRows.{IsSpelled, spelled_stands}
 live_ended : live ≡ ended → ⊥
 live_ended e = cc
 
-module _ {I : Type 0} {l : LatticeOf I} {n : IntegersOf I} {stands : I → ℤ → Type 0} (o : OrderLaws l) (q : BoundLaws l n stands) (flow : Flow) (p : HasPremises flow) (limits : Limits) (good : is_well_formed limits flow ≡ true) (naming : Naming) (row : List (Cell I)) (s : Standing) (r : IsReached l n stands flow naming row s) where
+module _ {I : Type 0} {l : LatticeOf I} {n : IntegersOf I} {gamma : I → ℤ → Type 0} (o : OrderLaws l) (q : BoundLaws l n gamma) (flow : Flow) (p : HasPremises flow) (limits : Limits) (good : is_well_formed limits flow ≡ true) (naming : Naming) (row : List (Cell I)) (s : Standing) (r : IsReached l n gamma flow naming row s) where
   module _ (b i offset room : ℕ) (text : List ℕ) (info : BaseInfo) (at : slice_get flow.bases.items b ≡ Some info) (entered : s.bases b ≡ Some i) (declared : info.shape.heap ≡ false) (kind : info.kind ≡ Older → ⊥) (fits : has_room offset room (Some info) ≡ true) (h : SpellsBytes flow b offset room text) where
     abbrev old : Memory
     old = s.world.memory
@@ -126,7 +126,7 @@ module _ {I : Type 0} {l : LatticeOf I} {n : IntegersOf I} {stands : I → ℤ �
       rooms = λ z part e. all_at (is_room_or_apart offset room) info.shape.zeros z part (and_parts (ends_by offset room info.size) (list_all (is_room_or_apart offset room) info.shape.zeros) fits).1 e;
     }
 
-    row_stands : StandsFor l n stands flow naming (spell_object l n offset room text info row) (record { memory = new; temps = s.temps; entered = s.bases })
+    row_stands : InGamma l n gamma flow naming (spell_object l n offset room text info row) (record { memory = new; temps = s.temps; entered = s.bases })
     row_stands = spelled_stands o q flow naming row (state_of s) (subst (IsLaidOut flow) (sym r.long) p.laid) r.stands_for new i offset room text b info at named is_spelled sane single
 
     still_short : AreShort flow.model new
@@ -146,20 +146,20 @@ module _ {I : Type 0} {l : LatticeOf I} {n : IntegersOf I} {stands : I → ℤ �
     unfolding spell
     spell_length = spell_keeps l n flow.bases.items b offset room text row
 
-    spell_sound : StepIsSound l n stands flow row (op.Spell b offset room text) s
+    spell_sound : StepIsSound l n gamma flow row (op.Spell b offset room text) s
     unfolding operate spell operation_violations
     spell_sound =
         let k = some_kind flow.bases.items b fitting.0 in
         let info : BaseInfo = k.0 in
         let declared : info.shape.heap ≡ false = sym (p.shaped.each b info k.1).kind ∙ declared_storage info.kind (automatic_storage info.kind k.2) in
         let fits : has_room offset room (Some info) ≡ true = subst (λ z. has_room offset room z ≡ true) k.1 fitting.1 in
-        if_some_good l n stands flow _ no_violations s r.begun (s.bases b) _ (λ i e. record {
+        if_some_good l n gamma flow _ no_violations s r.begun (s.bases b) _ (λ i e. record {
           goes_on = λ t u f.
               let w : World = spelled i offset room text s.world in
               let now : Standing = record s { at = suc s.at; world = w } in
               let a : now ≡ t = cc in
               let c : w ≡ u = cc in
-              let here : StandsBehind l n stands flow (Some (after (slice_get flow.bases.items b))) (record now { world = w }) = record {
+              let here : InGammaAfter l n gamma flow (Some (after (slice_get flow.bases.items b))) (record now { world = w }) = record {
                 row = spell_object l n offset room text info row;
                 is = ap (λ z. Some (after z)) k.1;
                 long = sym (ap (λ z. length (after z)) k.1) ∙ (spell_length ∙ r.long);
@@ -167,10 +167,10 @@ module _ {I : Type 0} {l : LatticeOf I} {n : IntegersOf I} {stands : I → ℤ �
                 stands_for = row_stands b i offset room text info k.1 e declared (automatic_declared info.kind k.2) fits h;
                 short = still_short b i offset room text info k.1 e declared (automatic_declared info.kind k.2) fits h;
               } in
-              subst (λ z. StandsBehind l n stands flow (Some (after (slice_get flow.bases.items b))) (record z { world = u })) a (subst (λ z. StandsBehind l n stands flow (Some (after (slice_get flow.bases.items b))) (record now { world = z })) c here);
+              subst (λ z. InGammaAfter l n gamma flow (Some (after (slice_get flow.bases.items b))) (record z { world = u })) a (subst (λ z. InGammaAfter l n gamma flow (Some (after (slice_get flow.bases.items b))) (record now { world = z })) c here);
           admits = same_admitted no_violations s.world.violated [] r.begun (none_admitted no_violations);
         })
 
-  pub spell_step_sound : (x : Operation) → SpellsCharacters flow x → fits_operation (names_of flow) x ≡ true → StepIsSound l n stands flow row x s
+  pub spell_step_sound : (x : Operation) → SpellsCharacters flow x → fits_operation (names_of flow) x ≡ true → StepIsSound l n gamma flow row x s
   spell_step_sound (op.Spell b offset room text) is h = spell_sound b offset room text h is
   spell_step_sound x is h = absurd is

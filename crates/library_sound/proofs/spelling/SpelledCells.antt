@@ -28,8 +28,8 @@ use Rattle.memory_model.specs.Memory.Numbers.{Labelled, number_of}
 use Rattle.memory_model.specs.Memory.Tags.{tag_of}
 use Rattle.store_sound.specs.Concretization.Matching.{Fits, Matched, number_in, Holds}
 use Rattle.store_sound.specs.Concretization.Places.{IsPlaceOf, OwnedByLeaf}
-use Rattle.store_sound.specs.Concretization.ValueMeaning.{Naming, StandsContent}
-use Rattle.store_sound.specs.Concretization.RowMeaning.{IsLiveOf, StandsLeaf}
+use Rattle.store_sound.specs.Concretization.ValueMeaning.{Naming, InGammaContent}
+use Rattle.store_sound.specs.Concretization.RowMeaning.{IsLiveOf, InGammaLeaf}
 use Rattle.store_sound.proofs.operations.Classes.{same_class_is, is_same_class, class_above}
 use Rattle.store_sound.proofs.operations.Larger.{value_below}
 use Rattle.store_sound.proofs.operations.Near.{IsNearValue, value_at_near}
@@ -69,7 +69,7 @@ pub record IsText (new : Memory) (i offset count : ℕ) (text : List ℕ) : Type
   pub tag : (a : ℕ) (x : Byte) → offset ≤ a → a < offset + count → byte_at new i a ≡ Some x → x.tag ≡ tag_of Char 0
   pub last : offset + count ≤ 2 ^ 64 - 1
 
-module _ {I : Type 0} {l : LatticeOf I} {n : IntegersOf I} {stands : I → ℤ → Type 0} (o : OrderLaws l) (q : BoundLaws l n stands) (flow : Flow) (naming : Naming) {old new : Memory} {i offset count : ℕ} (s : IsRegion old new i offset count) (text : List ℕ) (small : AreBytes text) (k : IsText new i offset count text)
+module _ {I : Type 0} {l : LatticeOf I} {n : IntegersOf I} {gamma : I → ℤ → Type 0} (o : OrderLaws l) (q : BoundLaws l n gamma) (flow : Flow) (naming : Naming) {old new : Memory} {i offset count : ℕ} (s : IsRegion old new i offset count) (text : List ℕ) (small : AreBytes text) (k : IsText new i offset count text)
     (b : ℕ) (single : (j : ℕ) → IsLiveOf naming old b j → j ≡ i) (leaf : Leaf) (stride : 0 < leaf.stride) where
   abbrev Place : ℕ → ℕ → Type 0
   Place size a = IsPlaceOf leaf a
@@ -135,7 +135,7 @@ module _ {I : Type 0} {l : LatticeOf I} {n : IntegersOf I} {stands : I → ℤ �
 
   -- ---- a leaf of which nothing is spelled
 
-  unspelled : is_spelled leaf offset count ≡ false → (v : values.Value I) → StandsLeaf stands flow naming old b leaf v → StandsLeaf stands flow naming new b leaf v
+  unspelled : is_spelled leaf offset count ≡ false → (v : values.Value I) → InGammaLeaf gamma flow naming old b leaf v → InGammaLeaf gamma flow naming new b leaf v
   unspelled none v cell = cell_rewritten q flow naming s b leaf.class leaf.signed Place Owns v v cell
       (λ j a u p e. value_below l v v ((value_order o).reflexive v))
       (λ j a y u p e. value_below l v v ((value_order o).reflexive v))
@@ -144,29 +144,29 @@ module _ {I : Type 0} {l : LatticeOf I} {n : IntegersOf I} {stands : I → ℤ �
 
   -- ---- a leaf that is spelled
 
-  module _ (class : leaf.class ≡ Char) (v : values.Value I) (bare : (content : Content) → (d : ℕ) → content ≡ number d no_labels → StandsContent stands naming new v leaf.class content) where
-    new_byte : (a y : ℕ) (content : Content) → IsLiveOf naming old b i → Owns a y → offset ≤ a → a < offset + count → Matched new i a leaf.class y content → StandsContent stands naming new v leaf.class content
+  module _ (class : leaf.class ≡ Char) (v : values.Value I) (bare : (content : Content) → (d : ℕ) → content ≡ number d no_labels → InGammaContent gamma naming new v leaf.class content) where
+    new_byte : (a y : ℕ) (content : Content) → IsLiveOf naming old b i → Owns a y → offset ≤ a → a < offset + count → Matched new i a leaf.class y content → InGammaContent gamma naming new v leaf.class content
     new_byte a y content u w from to m = bare content (character text (a - offset)) (met a y content from to m).is
 
-  characters_bare : (count : ℕ) → leaf.class ≡ Char → (content : Content) (d : ℕ) → content ≡ number d no_labels → StandsContent stands naming new (characters l n leaf offset count text) leaf.class content
+  characters_bare : (count : ℕ) → leaf.class ≡ Char → (content : Content) (d : ℕ) → content ≡ number d no_labels → InGammaContent gamma naming new (characters l n leaf offset count text) leaf.class content
   unfolding characters
-  characters_bare count class content d e = subst (StandsContent stands naming new (characters l n leaf offset count text) leaf.class) (sym e) (refl, λ f. absurd (true≢false (sym f ∙ char_plain leaf.class class)))
+  characters_bare count class content d e = subst (InGammaContent gamma naming new (characters l n leaf offset count text) leaf.class) (sym e) (refl, λ f. absurd (true≢false (sym f ∙ char_plain leaf.class class)))
 
-  one_bare : leaf.class ≡ Char → (content : Content) (d : ℕ) → content ≡ number d no_labels → StandsContent stands naming new (one_character l n leaf offset text) leaf.class content
+  one_bare : leaf.class ≡ Char → (content : Content) (d : ℕ) → content ≡ number d no_labels → InGammaContent gamma naming new (one_character l n leaf offset text) leaf.class content
   unfolding one_character
-  one_bare class content d e = subst (StandsContent stands naming new (one_character l n leaf offset text) leaf.class) (sym e) (refl, λ f. absurd (true≢false (sym f ∙ char_plain leaf.class class)))
+  one_bare class content d e = subst (InGammaContent gamma naming new (one_character l n leaf offset text) leaf.class) (sym e) (refl, λ f. absurd (true≢false (sym f ∙ char_plain leaf.class class)))
 
-  characters_number : (a : ℕ) (ns : List Labelled) → IsPlaceOf leaf a → IsWhole a ns → stands (characters l n leaf offset count text).num (number_of leaf.signed ns)
+  characters_number : (a : ℕ) (ns : List Labelled) → IsPlaceOf leaf a → IsWhole a ns → gamma (characters l n leaf offset count text).num (number_of leaf.signed ns)
   unfolding characters
   characters_number a ns place r =
       let from = r.from in
       let to = r.to in
       let last = k.last in
       let at : capped (offset + (a - offset)) ≡ a = omega (arith, from, to, last) in
-      subst (stands (characters l n leaf offset count text).num) (sym r.number)
+      subst (gamma (characters l n leaf offset count text).num) (sym r.number)
       (hull_stands o q leaf offset text small count (a - offset) (omega (arith, from, to)) (subst (λ z. begins_at leaf z ≡ true) (sym at) (place_selected leaf (window_between a a) a place stride (omega arith) (omega arith))))
 
-  joined : leaf.class ≡ Char → (y : values.Value I) → IsNearValue l n y → StandsLeaf stands flow naming old b leaf y → StandsLeaf stands flow naming new b leaf (written l n flow.model y (characters l n leaf offset count text) false)
+  joined : leaf.class ≡ Char → (y : values.Value I) → IsNearValue l n y → InGammaLeaf gamma flow naming old b leaf y → InGammaLeaf gamma flow naming new b leaf (written l n flow.model y (characters l n leaf offset count text) false)
   joined class y fine cell = cell_joined o q flow naming s b leaf.class leaf.signed Place Owns (characters l n leaf offset count text) (near_characters o q leaf offset text small count)
       (λ a ns u p some to from e h. characters_number a ns p (whole a ns some to from h))
       (new_byte class (characters l n leaf offset count text) (characters_bare count class)) y fine cell
@@ -178,11 +178,11 @@ module _ {I : Type 0} {l : LatticeOf I} {n : IntegersOf I} {stands : I → ℤ �
         let e : place.turn ≡ 0 = omega (arith, few, one) in
         place.there ∙ (ap (λ z. leaf.offset + leaf.stride * z) e ∙ omega arith)
 
-    one_stands : (a : ℕ) (ns : List Labelled) → IsPlaceOf leaf a → IsWhole a ns → stands (one_character l n leaf offset text).num (number_of leaf.signed ns)
+    one_stands : (a : ℕ) (ns : List Labelled) → IsPlaceOf leaf a → IsWhole a ns → gamma (one_character l n leaf offset text).num (number_of leaf.signed ns)
     unfolding one_character
-    one_stands a ns place r = subst (stands (one_character l n leaf offset text).num) (sym (r.number ∙ ap (λ z. character_number (character text (z - offset)) leaf.signed) (at_start a place))) (q.one_stands (character_number (character text (leaf.offset - offset)) leaf.signed))
+    one_stands a ns place r = subst (gamma (one_character l n leaf offset text).num) (sym (r.number ∙ ap (λ z. character_number (character text (z - offset)) leaf.signed) (at_start a place))) (q.one_stands (character_number (character text (leaf.offset - offset)) leaf.signed))
 
-    covered : (y : values.Value I) → StandsLeaf stands flow naming old b leaf y → StandsLeaf stands flow naming new b leaf (written l n flow.model y (one_character l n leaf offset text) true)
+    covered : (y : values.Value I) → InGammaLeaf gamma flow naming old b leaf y → InGammaLeaf gamma flow naming new b leaf (written l n flow.model y (one_character l n leaf offset text) true)
     covered y cell =
         let wide = class_above flow.model leaf.class in
         let narrow = char_bytes flow.model leaf.class class in
@@ -198,9 +198,9 @@ module _ {I : Type 0} {l : LatticeOf I} {n : IntegersOf I} {stands : I → ℤ �
 
   -- ---- the row
 
-  module _ (p : ℕ) (row : List (Cell I)) (there : p < length row) (cell : StandsLeaf stands flow naming old b leaf (value_at l n row p)) where
+  module _ (p : ℕ) (row : List (Cell I)) (there : p < length row) (cell : InGammaLeaf gamma flow naming old b leaf (value_at l n row p)) where
     abbrev After : List (Cell I) → Type 0
-    After r = StandsLeaf stands flow naming new b leaf (value_at l n r p)
+    After r = InGammaLeaf gamma flow naming new b leaf (value_at l n r p)
 
     module _ (spelled : is_spelled leaf offset count ≡ true) where
       parts : (0 < count) × (leaf.class ≡ Char) × (has_place_in leaf (written_window offset count) ≡ true)
@@ -219,9 +219,9 @@ module _ {I : Type 0} {l : LatticeOf I} {n : IntegersOf I} {stands : I → ℤ �
           let w = and_parts _ _ inside in
           let from = leb-true _ _ w.0 in
           let to = ltb-true _ _ w.1 in
-          subst (StandsLeaf stands flow naming new b leaf) (sym (write_is l n flow.model row p (one_character l n leaf offset text) true there))
+          subst (InGammaLeaf gamma flow naming new b leaf) (sym (write_is l n flow.model row p (one_character l n leaf offset text) true there))
           (covered parts.1 d from (omega (arith, to, some, last)) (value_at l n row p) cell)
-      by_place false e = subst (StandsLeaf stands flow naming new b leaf) (sym (join_is l n flow.model row p (characters l n leaf offset count text) there))
+      by_place false e = subst (InGammaLeaf gamma flow naming new b leaf) (sym (join_is l n flow.model row p (characters l n leaf offset count text) there))
           (joined parts.1 (value_at l n row p) (value_at_near o q row p) cell)
 
     by_spelled : (spelled : Bool) → is_spelled leaf offset count ≡ spelled → After (cond spelled (spell_cell l n row p leaf offset count text) row)

@@ -15,7 +15,7 @@ use Rattle.memory_model.specs.Memory.Bytes.{number}
 use Rattle.memory_model.specs.Memory.Labels.{no_labels}
 use Rattle.memory_model.specs.Memory.Instances.{Memory, bytes_at, byte_at}
 use Rattle.store_sound.specs.Concretization.SoundMemory.{IsMemoryOf}
-use Rattle.store_sound.specs.Concretization.ValueMeaning.{Naming, StandsZero}
+use Rattle.store_sound.specs.Concretization.ValueMeaning.{Naming, InGammaZero}
 use Rattle.store_sound.specs.Concretization.RowMeaning.{IsLiveOf, array_of, array_bytes}
 use Rattle.store_sound.proofs.operations.Slices.{get_take, get_drop}
 use Rattle.store_sound.proofs.chars.ByteArrays.{IsIn}
@@ -60,7 +60,7 @@ in_part part x = by_size part.size
     by_size None some h = absurd (omega (arith, some))
     by_size (Some size) some h = h
 
-module _ {I : Type 0} {l : LatticeOf I} {n : IntegersOf I} {stands : I → ℤ → Type 0} (o : OrderLaws l) (q : BoundLaws l n stands) (flow : Flow) (naming : Naming) {old new : Memory} {i offset room : ℕ} (text : List ℕ) (s : IsRegion old new i offset (written_count room text)) (sane : IsMemoryOf flow.model flow.bases.items naming new) (k : IsText new i offset (written_count room text) text)
+module _ {I : Type 0} {l : LatticeOf I} {n : IntegersOf I} {gamma : I → ℤ → Type 0} (o : OrderLaws l) (q : BoundLaws l n gamma) (flow : Flow) (naming : Naming) {old new : Memory} {i offset room : ℕ} (text : List ℕ) (s : IsRegion old new i offset (written_count room text)) (sane : IsMemoryOf flow.model flow.bases.items naming new) (k : IsText new i offset (written_count room text) text)
     (some : 0 < room) (inside : offset + room ≤ length (bytes_at new i)) (b : ℕ) (single : (j : ℕ) → IsLiveOf naming old b j → j ≡ i) (part : ZeroPart) (full : 0 < part_size part) (fits : is_room_or_apart offset room part ≡ true) where
   small_array : (j : ℕ) → length (array_bytes part (bytes_at new j)) ≤ 2 ^ 64 - 1
   small_array j = let a = array_short part (bytes_at new j) in let c = sane.small j in omega (arith, a, c)
@@ -84,12 +84,12 @@ module _ {I : Type 0} {l : LatticeOf I} {n : IntegersOf I} {stands : I → ℤ �
         let at : offset + x - offset ≡ x = omega arith in
         k.content (offset + x) byte (omega arith) (omega (arith, less, few)) (sym (get_drop offset (bytes_at new i) x (offset + x) refl) ∙ r.1) ∙ ap (λ z. number (character text z) no_labels) at
 
-    room_stands : StandsZero stands naming new (first_zero_of n room text) (array_bytes part (bytes_at new i))
-    room_stands = subst (StandsZero stands naming new (first_zero_of n room text)) (sym room_is) (first_zero_stands q room text (take room (drop offset (bytes_at new i))) room_long room_text)
+    room_stands : InGammaZero gamma naming new (first_zero_of n room text) (array_bytes part (bytes_at new i))
+    room_stands = subst (InGammaZero gamma naming new (first_zero_of n room text)) (sym room_is) (first_zero_stands q room text (take room (drop offset (bytes_at new i))) room_long room_text)
 
-  module _ (p : ℕ) (row : List (Cell I)) (there : p < length row) (j : ℕ) (alive : IsLiveOf naming old b j) (zero : StandsZero stands naming old (zero_at l n row p) (array_bytes part (bytes_at old j))) where
-    apart : (part.offset + part_size part ≤ offset) ⊎ (offset + room ≤ part.offset) → StandsZero stands naming new (zero_at l n row p) (array_bytes part (bytes_at new j))
-    apart h = subst (StandsZero stands naming new (zero_at l n row p))
+  module _ (p : ℕ) (row : List (Cell I)) (there : p < length row) (j : ℕ) (alive : IsLiveOf naming old b j) (zero : InGammaZero gamma naming old (zero_at l n row p) (array_bytes part (bytes_at old j))) where
+    apart : (part.offset + part_size part ≤ offset) ⊎ (offset + room ≤ part.offset) → InGammaZero gamma naming new (zero_at l n row p) (array_bytes part (bytes_at new j))
+    apart h = subst (InGammaZero gamma naming new (zero_at l n row p))
         (sym (array_apart s part j (λ d x at from to.
         let w = in_part part x full at in
         let w0 = w.0 in
@@ -97,9 +97,9 @@ module _ {I : Type 0} {l : LatticeOf I} {n : IntegersOf I} {stands : I → ℤ �
         elim h [ inl e ↦ omega (arith, e, from, w1) | inr e ↦ omega (arith, e, to, w0) ])))
         zero
 
-    by_start : (same : Bool) → (part.offset == offset) ≡ same → StandsZero stands naming new (zero_at l n (spell_part_at offset (first_zero_of n room text) part p row) p) (array_bytes part (bytes_at new j))
+    by_start : (same : Bool) → (part.offset == offset) ≡ same → InGammaZero gamma naming new (zero_at l n (spell_part_at offset (first_zero_of n room text) part p row) p) (array_bytes part (bytes_at new j))
     by_start true e = rw e (put_zero_stands o q naming new row p (first_zero_of n room text) (array_bytes part (bytes_at new j)) there (small_array j)
-        (subst (λ z. StandsZero stands naming new (first_zero_of n room text) (array_bytes part (bytes_at new z))) (sym (single j alive))
+        (subst (λ z. InGammaZero gamma naming new (first_zero_of n room text) (array_bytes part (bytes_at new z))) (sym (single j alive))
         (let start = eqb-true part.offset offset e in
         elim (room_or_apart offset room part fits) [
           | inl is ↦ room_stands is
@@ -110,5 +110,5 @@ module _ {I : Type 0} {l : LatticeOf I} {n : IntegersOf I} {stands : I → ℤ �
       | inr h ↦ apart h
     ])
 
-    pub zero_spelled : StandsZero stands naming new (zero_at l n (spell_part_at offset (first_zero_of n room text) part p row) p) (array_bytes part (bytes_at new j))
+    pub zero_spelled : InGammaZero gamma naming new (zero_at l n (spell_part_at offset (first_zero_of n room text) part p row) p) (array_bytes part (bytes_at new j))
     zero_spelled = by_start (part.offset == offset) refl

@@ -73,7 +73,7 @@ one_number true byte (y ∷ []) long each = signed_number y ∙ ap (λ k. charac
 one_number false byte (y ∷ []) long each = let e = each y refl in ap pos (omega (arith, e))
 one_number signed byte (y ∷ (z ∷ ns)) long each = absurd (omega (arith, long))
 
-module _ {I : Type 0} {l : LatticeOf I} {n : IntegersOf I} {stands : I → ℤ → Type 0} (o : OrderLaws l) (q : BoundLaws l n stands) where
+module _ {I : Type 0} {l : LatticeOf I} {n : IntegersOf I} {gamma : I → ℤ → Type 0} (o : OrderLaws l) (q : BoundLaws l n gamma) where
   -- ---- values
 
   pub near_character : (text : List ℕ) (at : ℕ) (signed : Bool) → AreBytes text → near_number l n (spelling.number_of n (character text at) signed) ≡ spelling.number_of n (character text at) signed
@@ -98,17 +98,17 @@ module _ {I : Type 0} {l : LatticeOf I} {n : IntegersOf I} {stands : I → ℤ �
         (λ e. near_hull count)
 
     -- the hull has each character at a place of the leaf
-    pub hull_stands : (count at : ℕ) → at < count → begins_at leaf (capped (offset + at)) ≡ true → stands (hull l n leaf offset count text) (character_number (character text at) leaf.signed)
+    pub hull_stands : (count at : ℕ) → at < count → begins_at leaf (capped (offset + at)) ≡ true → gamma (hull l n leaf offset count text) (character_number (character text at) leaf.signed)
     unfolding hull
     hull_stands zero at h e = absurd (omega (arith, h))
     hull_stands (suc count) at h e = elim (cases_eq at count) [
       | inl d ↦ (let f : begins_at leaf (capped (offset + count)) ≡ true = subst (λ z. begins_at leaf (capped (offset + z)) ≡ true) d e in
           let x : I = spelling.number_of n (character text count) leaf.signed in
-          subst (λ z. stands z (character_number (character text at) leaf.signed)) (sym (cond_hit (begins_at leaf (capped (offset + count))) (l.join (hull l n leaf offset count text) x) (hull l n leaf offset count text) f))
-          (subst (λ z. stands (l.join (hull l n leaf offset count text) x) (character_number (character text z) leaf.signed)) (sym d)
+          subst (λ z. gamma z (character_number (character text at) leaf.signed)) (sym (cond_hit (begins_at leaf (capped (offset + count))) (l.join (hull l n leaf offset count text) x) (hull l n leaf offset count text) f))
+          (subst (λ z. gamma (l.join (hull l n leaf offset count text) x) (character_number (character text z) leaf.signed)) (sym d)
           (q.larger x (l.join (hull l n leaf offset count text) x) _ (o.join_right (hull l n leaf offset count text) x) (q.one_stands (character_number (character text count) leaf.signed)))))
       | inr d ↦ (let k = hull_stands count at (omega (arith, h, d)) e in
-          cond_both (begins_at leaf (capped (offset + count))) (l.join (hull l n leaf offset count text) (spelling.number_of n (character text count) leaf.signed)) (hull l n leaf offset count text) (λ z. stands z (character_number (character text at) leaf.signed))
+          cond_both (begins_at leaf (capped (offset + count))) (l.join (hull l n leaf offset count text) (spelling.number_of n (character text count) leaf.signed)) (hull l n leaf offset count text) (λ z. gamma z (character_number (character text at) leaf.signed))
           (λ f. q.larger (hull l n leaf offset count text) _ _ (o.join_left (hull l n leaf offset count text) (spelling.number_of n (character text count) leaf.signed)) k)
           (λ f. k))
     ]
@@ -155,13 +155,13 @@ text_ends (suc x ∷ xs) (b ∷ bs) h =
       outside = λ k. ap (λ y. zero_by (seen_as y) (first_zero bs)) e ∙ ap one_more (r.outside (omega (arith, k)));
     })
 
-module _ {I : Type 0} {l : LatticeOf I} {n : IntegersOf I} {stands : I → ℤ → Type 0} (q : BoundLaws l n stands) where
-  pub first_zero_stands : (room : ℕ) (text : List ℕ) (bytes : List Byte) → length bytes ≡ room → AreOf text bytes → stands (first_zero_of n room text).at (zero_offset (first_zero bytes))
+module _ {I : Type 0} {l : LatticeOf I} {n : IntegersOf I} {gamma : I → ℤ → Type 0} (q : BoundLaws l n gamma) where
+  pub first_zero_stands : (room : ℕ) (text : List ℕ) (bytes : List Byte) → length bytes ≡ room → AreOf text bytes → gamma (first_zero_of n room text).at (zero_offset (first_zero bytes))
   first_zero_stands room text bytes long h = by_room (nat_lt (text_length text) room) refl
     where
       ends : EndsAt (text_length text) bytes
       ends = text_ends text bytes h
 
-      by_room : (fits : Bool) → nat_lt (text_length text) room ≡ fits → stands (cond fits (zero_of (n.one (pos (text_length text)))) (no_zero n)).at (zero_offset (first_zero bytes))
-      by_room true e = let f = ltb-true (text_length text) room e in subst (λ z. stands (n.one (pos (text_length text))) (zero_offset z)) (sym (ends.inside (omega (arith, long, f)))) (q.one_stands (pos (text_length text)))
-      by_room false e = let f = ltb-false (text_length text) room e in subst (λ z. stands (n.one the_end) (zero_offset z)) (sym (ends.outside (omega (arith, long, f)))) (q.one_stands the_end)
+      by_room : (fits : Bool) → nat_lt (text_length text) room ≡ fits → gamma (cond fits (zero_of (n.one (pos (text_length text)))) (no_zero n)).at (zero_offset (first_zero bytes))
+      by_room true e = let f = ltb-true (text_length text) room e in subst (λ z. gamma (n.one (pos (text_length text))) (zero_offset z)) (sym (ends.inside (omega (arith, long, f)))) (q.one_stands (pos (text_length text)))
+      by_room false e = let f = ltb-false (text_length text) room e in subst (λ z. gamma (n.one the_end) (zero_offset z)) (sym (ends.outside (omega (arith, long, f)))) (q.one_stands the_end)

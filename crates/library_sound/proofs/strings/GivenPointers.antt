@@ -31,8 +31,8 @@ use Rattle.memory_model.specs.Effects.Accesses.{is_freed_life}
 use Rattle.memory_model.specs.Effects.LibraryChecks.{Reach, reached}
 use Rattle.memory_model.specs.Effects.Worlds.{World, stopped_by}
 use Rattle.store_sound.specs.Concretization.SoundMemory.{IsWithin}
-use Rattle.store_sound.specs.Concretization.ValueMeaning.{Naming, StandsInto, StandsByLife, StandsPointer, StandsState}
-use Rattle.store_sound.specs.Concretization.RowMeaning.{MachineState, StandsFor}
+use Rattle.store_sound.specs.Concretization.ValueMeaning.{Naming, InGammaInto, InGammaByLife, InGammaPointer, InGammaState}
+use Rattle.store_sound.specs.Concretization.RowMeaning.{MachineState, InGamma}
 use Rattle.store_sound.specs.Operations.Shapes.{AreShaped}
 use Rattle.store_sound.proofs.operations.Freed.{freed_shows}
 use Rattle.store_sound.proofs.operations.LoadSound.{live_if}
@@ -84,7 +84,7 @@ sum_has (Some p) (Some r) a b h k =
     let y = k.to in
     record { low = p.0 +ℤ r.0; high = p.1 +ℤ r.1; is = refl; from = omega (arith, ints); to = omega (arith, ints) }
 
-module _ {I : Type 0} {l : LatticeOf I} {n : IntegersOf I} {stands : I → ℤ → Type 0} (o : OrderLaws l) (q : BoundLaws l n stands) (flow : Flow) (shaped : AreShaped flow.bases.items) (naming : Naming) (row : List (Cell I)) (state : MachineState) (s : StandsFor l n stands flow naming row state) (v : Pointers I) where
+module _ {I : Type 0} {l : LatticeOf I} {n : IntegersOf I} {gamma : I → ℤ → Type 0} (o : OrderLaws l) (q : BoundLaws l n gamma) (flow : Flow) (shaped : AreShaped flow.bases.items) (naming : Naming) (row : List (Cell I)) (state : MachineState) (s : InGamma l n gamma flow naming row state) (v : Pointers I) where
   abbrev pub given : Argument I
   given = placed l n (check_argument l n flow.bases.items row v)
 
@@ -98,20 +98,20 @@ module _ {I : Type 0} {l : LatticeOf I} {n : IntegersOf I} {stands : I → ℤ �
 
   -- ---- stops
 
-  pub null_told : StandsPointer stands naming state.memory v null → violates given.violations rule.Nullref ≡ true
+  pub null_told : InGammaPointer gamma naming state.memory v null → violates given.violations rule.Nullref ≡ true
   null_told h = told rule.Nullref (or_left v.null v.ended h)
 
-  pub ended_told : (i offset lo hi : ℕ) → life_at state.memory i ≡ ended → StandsPointer stands naming state.memory v (into i offset lo hi) → violates given.violations rule.Nullref ≡ true
-  ended_told i offset lo hi e h = told rule.Nullref (or_right v.null v.ended (subst (λ z. StandsByLife stands naming state.memory v z i offset lo hi) e h))
+  pub ended_told : (i offset lo hi : ℕ) → life_at state.memory i ≡ ended → InGammaPointer gamma naming state.memory v (into i offset lo hi) → violates given.violations rule.Nullref ≡ true
+  ended_told i offset lo hi e h = told rule.Nullref (or_right v.null v.ended (subst (λ z. InGammaByLife gamma naming state.memory v z i offset lo hi) e h))
 
-  pub freed_told : (i offset lo hi : ℕ) → life_at state.memory i ≡ freed → StandsPointer stands naming state.memory v (into i offset lo hi) → violates given.violations rule.Accfree ≡ true
+  pub freed_told : (i offset lo hi : ℕ) → life_at state.memory i ≡ freed → InGammaPointer gamma naming state.memory v (into i offset lo hi) → violates given.violations rule.Accfree ≡ true
   freed_told i offset lo hi e h = told rule.Accfree (freed_shows flow shaped naming row state s (pointer_value l v) (pointer (into i offset lo hi)) h (ap is_freed_life e))
 
   -- ---- what goes on
 
-  module _ (i offset lo hi : ℕ) (alive : life_at state.memory i ≡ live) (h : StandsPointer stands naming state.memory v (into i offset lo hi)) (inside : IsWithin state.memory i offset lo hi) where
-    st : StandsInto stands naming state.memory v i offset lo hi
-    st = subst (λ z. StandsByLife stands naming state.memory v z i offset lo hi) alive h
+  module _ (i offset lo hi : ℕ) (alive : life_at state.memory i ≡ live) (h : InGammaPointer gamma naming state.memory v (into i offset lo hi)) (inside : IsWithin state.memory i offset lo hi) where
+    st : InGammaInto gamma naming state.memory v i offset lo hi
+    st = subst (λ z. InGammaByLife gamma naming state.memory v z i offset lo hi) alive h
 
     abbrev live_set : Bases
     live_set = live_of l n flow.bases.items row v.bases
@@ -123,7 +123,7 @@ module _ {I : Type 0} {l : LatticeOf I} {n : IntegersOf I} {stands : I → ℤ �
         let top = slice_get_within flow.bases.items st.base base.0 base.1 in
         let may : may_be_live l n base.0 row ≡ true = live_if base.0.shape.heap _ (λ e.
         let y = s.states st.base i base.0 base.1 e st.named in
-        (subst (λ z. StandsState stands naming state.memory (state_at l n row (state_position base.0)) z (length (bytes_at state.memory i))) alive y).1) in
+        (subst (λ z. InGammaState gamma naming state.memory (state_at l n row (state_position base.0)) z (length (bytes_at state.memory i))) alive y).1) in
         let live_in : is_live_in l n row v.bases base.0 st.base ≡ true = and_from _ _ (and_from _ _ (lt-ltb _ _ (omega arith)) st.among) may in
         (and_parts (nat_lt st.base most_bases) (bases_has live_set st.base) (in_live l n flow.bases.items shaped.few row v.bases st.base base.0 base.1 live_in)).1
 
@@ -133,7 +133,7 @@ module _ {I : Type 0} {l : LatticeOf I} {n : IntegersOf I} {stands : I → ℤ �
     abbrev rest : Pointers I
     rest = within_bases l n v live_set
 
-    rest_into : StandsInto stands naming state.memory rest i offset lo hi
+    rest_into : InGammaInto gamma naming state.memory rest i offset lo hi
     rest_into =
         let small = s.sane.small i in
         let top = inside.within in
@@ -164,8 +164,8 @@ module _ {I : Type 0} {l : LatticeOf I} {n : IntegersOf I} {stands : I → ℤ �
     given_is = ap (λ b. (cond {A = Argument I} b (record { violations = argument_violations l n flow.bases.items row v; rest = rest }) (record { violations = argument_violations l n flow.bases.items row v; rest = within_bases l n rest no_base })).rest) place_there
 
     -- what goes on stands for the pointer
-    pub given_stands : StandsInto stands naming state.memory given.rest i offset lo hi
-    given_stands = subst (λ z. StandsInto stands naming state.memory z i offset lo hi) (sym given_is) rest_into
+    pub given_stands : InGammaInto gamma naming state.memory given.rest i offset lo hi
+    given_stands = subst (λ z. InGammaInto gamma naming state.memory z i offset lo hi) (sym given_is) rest_into
 
     pub given_some : not (bases_empty given.rest.bases) ≡ true
     given_some = ap not (not_empty given.rest.bases given_stands.base given_stands.among)

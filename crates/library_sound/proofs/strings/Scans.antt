@@ -32,8 +32,8 @@ use Rattle.memory_model.specs.Effects.LibraryChecks as machine
 use Rattle.memory_model.specs.Effects.ScalarBytes.{region, contents}
 use Rattle.store_sound.specs.Concretization.FirstZeroBytes.{first_zero, zero_offset}
 use Rattle.store_sound.specs.Concretization.SoundMemory.{IsWithin}
-use Rattle.store_sound.specs.Concretization.ValueMeaning.{Naming, StandsInto}
-use Rattle.store_sound.specs.Concretization.RowMeaning.{MachineState, StandsFor, array_of, array_bytes}
+use Rattle.store_sound.specs.Concretization.ValueMeaning.{Naming, InGammaInto}
+use Rattle.store_sound.specs.Concretization.RowMeaning.{MachineState, InGamma, array_of, array_bytes}
 use Rattle.store_sound.specs.Operations.Shapes.{AreShaped}
 use Rattle.store_sound.proofs.operations.Sets.{if_keeps, if_adds}
 use Rattle.store_sound.proofs.operations.Slices.{get_drop, get_there}
@@ -99,8 +99,8 @@ array_in part bytes j b e = by_size part.size e
       | inr h ↦ (let g : None ≡ Some b = sym ((take_by n (drop part.offset bytes) j).1 h) ∙ f in cc)
     ]
 
-module _ {I : Type 0} {l : LatticeOf I} {n : IntegersOf I} {stands : I → ℤ → Type 0} (o : OrderLaws l) (q : BoundLaws l n stands) (flow : Flow) (shaped : AreShaped flow.bases.items) (naming : Naming) (row : List (Cell I)) (state : MachineState) (s : StandsFor l n stands flow naming row state)
-    (p : Pointers I) (i offset lo hi : ℕ) (alive : life_at state.memory i ≡ live) (st : StandsInto stands naming state.memory p i offset lo hi) (inside : IsWithin state.memory i offset lo hi) where
+module _ {I : Type 0} {l : LatticeOf I} {n : IntegersOf I} {gamma : I → ℤ → Type 0} (o : OrderLaws l) (q : BoundLaws l n gamma) (flow : Flow) (shaped : AreShaped flow.bases.items) (naming : Naming) (row : List (Cell I)) (state : MachineState) (s : InGamma l n gamma flow naming row state)
+    (p : Pointers I) (i offset lo hi : ℕ) (alive : life_at state.memory i ≡ live) (st : InGammaInto gamma naming state.memory p i offset lo hi) (inside : IsWithin state.memory i offset lo hi) where
   abbrev bytes : List Byte
   bytes = bytes_at state.memory i
 
@@ -124,7 +124,7 @@ module _ {I : Type 0} {l : LatticeOf I} {n : IntegersOf I} {stands : I → ℤ �
       (subst (RangeHas (range_difference (n.bounds p.len) (n.bounds p.rel))) e (difference_has (n.bounds p.len) (n.bounds p.rel) (pos hi -ℤ pos lo) (pos offset -ℤ pos lo) (bounds_have q p.len _ st.room) (bounds_have q p.rel _ st.relative)))
       (omega (arith, ints)) (omega (arith, ints))
 
-  room_stands : stands (near_number l n (of_range l n (rooms n p))) (pos (hi - offset))
+  room_stands : gamma (near_number l n (of_range l n (rooms n p))) (pos (hi - offset))
   room_stands =
       let c = inside.within in
       let d = small_instance in
@@ -142,7 +142,7 @@ module _ {I : Type 0} {l : LatticeOf I} {n : IntegersOf I} {stands : I → ℤ �
 
   -- ---- where the end is unknown
 
-  unknown_stands : (m : ℕ) → found_text ≡ machine.ends m → stands (unknown_length l n p) (pos m)
+  unknown_stands : (m : ℕ) → found_text ≡ machine.ends m → gamma (unknown_length l n p) (pos m)
   unknown_stands m e =
       let a = ends_in_room m e in
       let c = inside.within in
@@ -166,7 +166,7 @@ module _ {I : Type 0} {l : LatticeOf I} {n : IntegersOf I} {stands : I → ℤ �
   pub record IsKnown (x : I) : Type 0 where
     pub length : ℕ
     pub found : IsFound found_text length
-    pub stood : stands x (pos length)
+    pub stood : gamma x (pos length)
 
   in_room : (start z : ℕ) → start ≤ offset → offset - start ≤ z → start + z < length (bytes_at state.memory i) → (b : Bool) → p.part ≡ b → (b ≡ true → pos (z - (offset - start)) <ℤ pos (hi - offset)) → z - (offset - start) < hi - offset
   in_room start z low before in_bytes false d g = let t = st.whole d in let u = t.1 in omega arith
@@ -205,17 +205,17 @@ module _ {I : Type 0} {l : LatticeOf I} {n : IntegersOf I} {stands : I → ℤ �
       record {
         length = g.0 - (offset - part.offset);
         found = array_scanned (array_bytes part bytes) bytes part.offset offset room g.0 (λ j b h. array_in part bytes j b h) g.1 (omega arith) before less;
-        stood = subst (stands x) length_is (meaning.length zero (offsets_of l n r.1) (near_number l n (of_range l n (rooms n p))) x p.part a at_k (pos (hi - offset)) near z offs room_stands known (omega (arith, ints)));
+        stood = subst (gamma x) length_is (meaning.length zero (offsets_of l n r.1) (near_number l n (of_range l n (rooms n p))) x p.part a at_k (pos (hi - offset)) near z offs room_stands known (omega (arith, ints)));
       }
 
   -- the scan of one base
   pub record IsOneScan (found : I) (unknown : Bool) : Type 0 where
-    pub ended : (m : ℕ) → found_text ≡ machine.ends m → stands found (pos m)
+    pub ended : (m : ℕ) → found_text ≡ machine.ends m → gamma found (pos m)
     pub open_end : found_text ≡ machine.unended → unknown ≡ true
 
-  found_ends : (x : I) → IsKnown x → (m : ℕ) → found_text ≡ machine.ends m → stands x (pos m)
+  found_ends : (x : I) → IsKnown x → (m : ℕ) → found_text ≡ machine.ends m → gamma x (pos m)
   found_ends x k m e = elim k.found [
-    | inl h ↦ (let d : machine.ends k.length ≡ machine.ends m = sym h ∙ e in let g : k.length ≡ m = same_end k.length m d in subst (λ z. stands x (pos z)) g k.stood)
+    | inl h ↦ (let d : machine.ends k.length ≡ machine.ends m = sym h ∙ e in let g : k.length ≡ m = same_end k.length m d in subst (λ z. gamma x (pos z)) g k.stood)
     | inr h ↦ (let d : machine.broken ≡ machine.ends m = sym h ∙ e in cc)
   ]
     where
@@ -286,7 +286,7 @@ module _ {I : Type 0} {l : LatticeOf I} {n : IntegersOf I} {stands : I → ℤ �
   })
 
   pub record IsScan (found : Scanned I) : Type 0 where
-    pub ended : (m : ℕ) → found_text ≡ machine.ends m → stands found.length (pos m)
+    pub ended : (m : ℕ) → found_text ≡ machine.ends m → gamma found.length (pos m)
     pub own : (m : ℕ) → found_text ≡ machine.ends m → has_base found.bases st.base ≡ true
     pub based : (m : ℕ) → found_text ≡ machine.ends m → not (bases_empty found.bases) ≡ true
     pub open_end : found_text ≡ machine.unended → not (bases_empty found.unknown) ≡ true

@@ -53,7 +53,7 @@ use Rattle.memory_model.specs.Effects.StringCalls.{plain, compare_strings, order
 use Rattle.memory_model.specs.Effects.Worlds.{World, Why, Reply, goes, stops, behind, stopped_by, Left, Stuck, Violated}
 use Rattle.semantics.specs.CfgMachine.FlowStates.{Standing, and_value, values_of}
 use Rattle.store_sound.specs.Concretization.SoundMemory.{IsPointerIn, IsWithin}
-use Rattle.store_sound.specs.Concretization.ValueMeaning.{Naming, StandsPointer, StandsScalar}
+use Rattle.store_sound.specs.Concretization.ValueMeaning.{Naming, InGammaPointer, InGammaScalar}
 use Rattle.store_sound.specs.Concretization.Coverage.{state_of}
 use Rattle.store_sound.specs.Programs.Premises.{HasPremises}
 use Rattle.transfer_sound.specs.Values.SoundSteps.{IsReached, StepIsSound}
@@ -106,7 +106,7 @@ order_small [] ds = (omega (arith, ints), omega (arith, ints))
 order_small (c ∷ cs) [] = (omega (arith, ints), omega (arith, ints))
 order_small (c ∷ cs) (d ∷ ds) = order_by _ _ (order_in cs ds) (order_small cs ds)
 
-module _ {I : Type 0} {l : LatticeOf I} {n : IntegersOf I} {stands : I → ℤ → Type 0} (o : OrderLaws l) (q : BoundLaws l n stands) (flow : Flow) (p : HasPremises flow) (naming : Naming) (row : List (Cell I)) (s : Standing) (r : IsReached l n stands flow naming row s) (to : Option ℕ) (has : has_result (names_of flow) to ≡ true) (newest : Option ℕ) where
+module _ {I : Type 0} {l : LatticeOf I} {n : IntegersOf I} {gamma : I → ℤ → Type 0} (o : OrderLaws l) (q : BoundLaws l n gamma) (flow : Flow) (p : HasPremises flow) (naming : Naming) (row : List (Cell I)) (s : Standing) (r : IsReached l n gamma flow naming row s) (to : Option ℕ) (has : has_result (names_of flow) to ≡ true) (newest : Option ℕ) where
   abbrev Good : Plan I → Reply (Option Scalar) → Type 0
   Good plan reply = GoodPlan q flow p naming row s r to has newest plan reply
 
@@ -137,11 +137,11 @@ module _ {I : Type 0} {l : LatticeOf I} {n : IntegersOf I} {stands : I → ℤ �
     abbrev scanned_at : ℕ → Scanned I
     scanned_at at = scan_at l n the_call row (given_at at)
 
-    pub argument_stands : (at : ℕ) (v : Scalar) → slice_get vs at ≡ Some v → StandsScalar stands naming s.world.memory (argument_value l n (call_of flow items wanted) row at) v
+    pub argument_stands : (at : ℕ) (v : Scalar) → slice_get vs at ≡ Some v → InGammaScalar gamma naming s.world.memory (argument_value l n (call_of flow items wanted) row at) v
     unfolding argument_value
     argument_stands at v h =
         let a = argument_there s.temps items vs e at v h in
-        subst (λ y. StandsScalar stands naming s.world.memory (value_of_argument l n flow row y) v) (sym a.there) (r.stands_for.temps a.temp v a.has)
+        subst (λ y. InGammaScalar gamma naming s.world.memory (value_of_argument l n flow row y) v) (sym a.there) (r.stands_for.temps a.temp v a.has)
 
     argument_in : (at : ℕ) (m : MachinePointer) → slice_get vs at ≡ Some (pointer m) → IsPointerIn s.world.memory m
     argument_in at m h = let a = argument_there s.temps items vs e at (pointer m) h in r.stands_for.held.within a.temp (pointer m) a.has
@@ -150,7 +150,7 @@ module _ {I : Type 0} {l : LatticeOf I} {n : IntegersOf I} {stands : I → ℤ �
 
     -- the plan tells the rule at which the machine stops, or both go on with what the pointer reaches
     module _ (plan : Plan I) (at : ℕ) (m : MachinePointer) (there : slice_get vs at ≡ Some (pointer m)) (tells : (rule : Rule) → violates (given_at at).violations rule ≡ true → violates plan.violations rule ≡ true) (further : machine.Reach → World → Reply (Option Scalar)) (on : (i offset lo hi : ℕ) → m ≡ into i offset lo hi → life_at s.world.memory i ≡ live → Good plan (further (reach_of i offset hi) s.world)) where
-      stands_here : StandsPointer stands naming s.world.memory (pointer_of at) m
+      stands_here : InGammaPointer gamma naming s.world.memory (pointer_of at) m
       stands_here = argument_stands at (pointer m) there
 
       by_end : ReachEnd s.world m → Good plan (behind (machine.reached m s.world) further)
@@ -158,13 +158,13 @@ module _ {I : Type 0} {l : LatticeOf I} {n : IntegersOf I} {stands : I → ℤ �
           let a : machine.reached m s.world ≡ goes (reach_of i offset hi) s.world = ap (λ z. machine.reached z s.world) is ∙ ap (λ z. machine.reached_by s.world z i offset hi) alive in
           subst (λ z. Good plan (behind z further)) (sym a) (on i offset lo hi is alive)
       by_end (into_nothing a is) =
-          subst (λ z. Good plan (behind z further)) (sym a) (told_stop plan rule.Nullref (tells rule.Nullref (null_told o q flow p.shaped naming row (state_of s) r.stands_for (pointer_of at) (subst (StandsPointer stands naming s.world.memory (pointer_of at)) is stands_here))))
+          subst (λ z. Good plan (behind z further)) (sym a) (told_stop plan rule.Nullref (tells rule.Nullref (null_told o q flow p.shaped naming row (state_of s) r.stands_for (pointer_of at) (subst (InGammaPointer gamma naming s.world.memory (pointer_of at)) is stands_here))))
       by_end (into_ended i offset lo hi is life) =
           let a : machine.reached m s.world ≡ stopped_by s.world rule.Nullref = ap (λ z. machine.reached z s.world) is ∙ ap (λ z. machine.reached_by s.world z i offset hi) life in
-          subst (λ z. Good plan (behind z further)) (sym a) (told_stop plan rule.Nullref (tells rule.Nullref (ended_told o q flow p.shaped naming row (state_of s) r.stands_for (pointer_of at) i offset lo hi life (subst (StandsPointer stands naming s.world.memory (pointer_of at)) is stands_here))))
+          subst (λ z. Good plan (behind z further)) (sym a) (told_stop plan rule.Nullref (tells rule.Nullref (ended_told o q flow p.shaped naming row (state_of s) r.stands_for (pointer_of at) i offset lo hi life (subst (InGammaPointer gamma naming s.world.memory (pointer_of at)) is stands_here))))
       by_end (into_freed i offset lo hi is life) =
           let a : machine.reached m s.world ≡ stopped_by s.world rule.Accfree = ap (λ z. machine.reached z s.world) is ∙ ap (λ z. machine.reached_by s.world z i offset hi) life in
-          subst (λ z. Good plan (behind z further)) (sym a) (told_stop plan rule.Accfree (tells rule.Accfree (freed_told o q flow p.shaped naming row (state_of s) r.stands_for (pointer_of at) i offset lo hi life (subst (StandsPointer stands naming s.world.memory (pointer_of at)) is stands_here))))
+          subst (λ z. Good plan (behind z further)) (sym a) (told_stop plan rule.Accfree (tells rule.Accfree (freed_told o q flow p.shaped naming row (state_of s) r.stands_for (pointer_of at) i offset lo hi life (subst (InGammaPointer gamma naming s.world.memory (pointer_of at)) is stands_here))))
 
       pub reach_good : Good plan (behind (machine.reached m s.world) further)
       reach_good = by_end (reach_end s.world m)
@@ -236,7 +236,7 @@ module _ {I : Type 0} {l : LatticeOf I} {n : IntegersOf I} {stands : I → ℤ �
           let c = same_room i in
           let small = r.stands_for.sane.small i in
           let d = ends_here 0 i offset lo hi here alive k h in
-          let st : stands length_found (pos k) = of_range_stands q (range_met (n.bounds (scanned_at 0).length) (pos 0) (greatest_of (kind_of flow.model Pointer false))) (pos k) (met_has (n.bounds (scanned_at 0).length) (pos 0) (greatest_of (kind_of flow.model Pointer false)) (pos k) (bounds_have q (scanned_at 0).length (pos k) (found.ended k h)) (omega (arith, ints)) (omega (arith, ints))) in
+          let st : gamma length_found (pos k) = of_range_stands q (range_met (n.bounds (scanned_at 0).length) (pos 0) (greatest_of (kind_of flow.model Pointer false))) (pos k) (met_has (n.bounds (scanned_at 0).length) (pos 0) (greatest_of (kind_of flow.model Pointer false)) (pos k) (bounds_have q (scanned_at 0).length (pos k) (found.ended k h)) (omega (arith, ints)) (omega (arith, ints))) in
           let some = q.inside length_found (pos k) st in
           trail_gives length_trail (number_value l length_found sets.no_labels) (plain (pos k))
           (goes_further first_trail (scan_violations (scanned_at 0)) (is_some (n.bounds length_found)) reached (ap is_some some.2))
@@ -407,13 +407,13 @@ module _ {I : Type 0} {l : LatticeOf I} {n : IntegersOf I} {stands : I → ℤ �
   by_name f.Strcmp h items wanted (pointer m ∷ (pointer k ∷ [])) e = compare_good items wanted (pointer m ∷ (pointer k ∷ [])) e m k refl refl
   by_name _ h items wanted vs e = absurd h
 
-module _ {I : Type 0} {l : LatticeOf I} {n : IntegersOf I} {stands : I → ℤ → Type 0} (o : OrderLaws l) (q : BoundLaws l n stands) (flow : Flow) (p : HasPremises flow) (naming : Naming) (row : List (Cell I)) (s : Standing) (r : IsReached l n stands flow naming row s) where
-  pub string_call_sound : (to : Option ℕ) (name : LibFn) (arguments : _) (newest size : Option ℕ) → ReadsStrings name → fits_operation (names_of flow) (op.Library to name arguments newest size) ≡ true → StepIsSound l n stands flow row (op.Library to name arguments newest size) s
+module _ {I : Type 0} {l : LatticeOf I} {n : IntegersOf I} {gamma : I → ℤ → Type 0} (o : OrderLaws l) (q : BoundLaws l n gamma) (flow : Flow) (p : HasPremises flow) (naming : Naming) (row : List (Cell I)) (s : Standing) (r : IsReached l n gamma flow naming row s) where
+  pub string_call_sound : (to : Option ℕ) (name : LibFn) (arguments : _) (newest size : Option ℕ) → ReadsStrings name → fits_operation (names_of flow) (op.Library to name arguments newest size) ≡ true → StepIsSound l n gamma flow row (op.Library to name arguments newest size) s
   unfolding operate call_step operation_violations
   string_call_sound to name arguments newest size is fits =
       let has = (and_parts (has_result (names_of flow) to) (list_all (has_temp (names_of flow)) arguments.items && (is_site flow.bases.items newest && is_optional_extent size)) fits).0 in
-      if_some_good l n stands flow _ _ s r.begun (values_of s.temps arguments.items) _ (λ vs e. by_name o q flow p naming row s r to has newest name is arguments.items size vs e)
+      if_some_good l n gamma flow _ _ s r.begun (values_of s.temps arguments.items) _ (λ vs e. by_name o q flow p naming row s r to has newest name is arguments.items size vs e)
 
-  pub string_step_sound : (i : Operation) → IsStringCall i → fits_operation (names_of flow) i ≡ true → StepIsSound l n stands flow row i s
+  pub string_step_sound : (i : Operation) → IsStringCall i → fits_operation (names_of flow) i ≡ true → StepIsSound l n gamma flow row i s
   string_step_sound (op.Library to name arguments newest size) is fits = string_call_sound to name arguments newest size is fits
   string_step_sound i is fits = absurd is

@@ -36,8 +36,8 @@ use Rattle.memory_model.specs.Effects.Accesses.{joined_labels}
 use Rattle.store_sound.specs.Concretization.Matching.{Fits, Matched, number_in}
 use Rattle.store_sound.specs.Concretization.SeenLabels.{as_set}
 use Rattle.store_sound.specs.Concretization.SoundMemory.{IsContentIn}
-use Rattle.store_sound.specs.Concretization.ValueMeaning.{Naming, StandsScalar, StandsContent}
-use Rattle.store_sound.specs.Concretization.RowMeaning.{MachineState, StandsFor}
+use Rattle.store_sound.specs.Concretization.ValueMeaning.{Naming, InGammaScalar, InGammaContent}
+use Rattle.store_sound.specs.Concretization.RowMeaning.{MachineState, InGamma}
 use Rattle.store_sound.specs.Operations.Gives.{Gives}
 use Rattle.store_sound.specs.Operations.Shapes.{AreShaped, SeesPadding}
 use Rattle.store_sound.proofs.operations.CellReads.{Sees, scalar_stands}
@@ -114,7 +114,7 @@ module _ {I : Type 0} {l : LatticeOf I} (o : OrderLaws l) (n : IntegersOf I) whe
 one_size : (m : Model) → class_bytes m Char ≡ 1
 one_size m = refl
 
-module _ {I : Type 0} {l : LatticeOf I} {n : IntegersOf I} {stands : I → ℤ → Type 0} (o : OrderLaws l) (q : BoundLaws l n stands) (c : SoundLaws l n stands) (flow : Flow) (shaped : AreShaped flow.bases.items) (padding : SeesPadding flow.model flow.bases.items) (naming : Naming) (row : List (Cell I)) (state : MachineState) (s : StandsFor l n stands flow naming row state)
+module _ {I : Type 0} {l : LatticeOf I} {n : IntegersOf I} {gamma : I → ℤ → Type 0} (o : OrderLaws l) (q : BoundLaws l n gamma) (c : SoundLaws l n gamma) (flow : Flow) (shaped : AreShaped flow.bases.items) (padding : SeesPadding flow.model flow.bases.items) (naming : Naming) (row : List (Cell I)) (state : MachineState) (s : InGamma l n gamma flow naming row state)
     (set : Bases) (window : Window) (i x b : ℕ) (base : BaseInfo) (at : slice_get flow.bases.items b ≡ Some base) (named : naming i ≡ Some b) (alive : life_at state.memory i ≡ live) (has : bases_has set b ≡ true) (from : window.lo ≤ x) (to : x ≤ window.hi) (byte : Byte) (here : byte_at state.memory i x ≡ Some byte) (y : Labelled) (is : byte.content ≡ number_in y) where
   low : y.number < 256
   low = subst (λ z. IsContentIn state.memory z byte.tag) is (s.sane.bytes i x byte here)
@@ -139,27 +139,27 @@ module _ {I : Type 0} {l : LatticeOf I} {n : IntegersOf I} {stands : I → ℤ �
   unfolding byte_at
   inside = let w = slice_get_within (bytes_at state.memory i) x byte here in omega (arith, w)
 
-  read : (signed : Bool) → Gives (λ v. StandsScalar stands naming state.memory v (scalar signed)) (characters_read l n flow.model flow.bases.items row set window signed)
+  read : (signed : Bool) → Gives (λ v. InGammaScalar gamma naming state.memory v (scalar signed)) (characters_read l n flow.model flow.bases.items row set window signed)
   unfolding characters_read
-  read signed = reads_more o n flow.model row set (character_access signed window) flow.bases.items (λ v. StandsScalar stands naming state.memory v (scalar signed))
+  read signed = reads_more o n flow.model row set (character_access signed window) flow.bases.items (λ v. InGammaScalar gamma naming state.memory v (scalar signed))
       (λ u v h. scalar_larger q naming state.memory u v (scalar signed) (value_below l u v h))
-      (char_reaches o q flow shaped padding naming row state s (character_access signed window) refl i x from to alive inside b base at named byte here {P = λ v. StandsScalar stands naming state.memory v (scalar signed)}
+      (char_reaches o q flow shaped padding naming row state s (character_access signed window) refl i x from to alive inside b base at named byte here {P = λ v. InGammaScalar gamma naming state.memory v (scalar signed)}
       (λ u v h. scalar_larger q naming state.memory u v (scalar signed) (value_below l u v h))
-      (λ v d h. byte_stands o q flow.model naming state.memory v d signed y low (subst (StandsContent stands naming state.memory v d) is h))
+      (λ v d h. byte_stands o q flow.model naming state.memory v d signed y low (subst (InGammaContent gamma naming state.memory v d) is h))
       (padding_stands o q flow.model naming state.memory signed y low)
       (λ t v h. h)
       (λ fits t Place Owns v cell place owns. scalar_stands c flow naming state.memory s.sane b Char t Place Owns v cell i x (record { named = named; alive = alive }) place owns (number_in y ∷ []) (sees fits) (of.Int (kind signed)) (scalar signed) refl refl)
       set has)
 
-  given_number : (v : Option (Value I)) (z : ℤ) (la : Labels) → Gives (λ u. StandsScalar stands naming state.memory u (integer z la)) v → stands (number_of l v) z
+  given_number : (v : Option (Value I)) (z : ℤ) (la : Labels) → Gives (λ u. InGammaScalar gamma naming state.memory u (integer z la)) v → gamma (number_of l v) z
   given_number None z la g = let e = g.is in cc
-  given_number (Some u) z la g = let same : u ≡ g.value = same_Some u g.value g.is in subst (λ t. stands t.num z) (sym same) g.good.0
+  given_number (Some u) z la g = let same : u ≡ g.value = same_Some u g.value g.is in subst (λ t. gamma t.num z) (sym same) g.good.0
 
-  given_labels : (v : Option (Value I)) (z : ℤ) (la : Labels) → Gives (λ u. StandsScalar stands naming state.memory u (integer z la)) v → labels_leq (as_set la) (labels_of v) ≡ true
+  given_labels : (v : Option (Value I)) (z : ℤ) (la : Labels) → Gives (λ u. InGammaScalar gamma naming state.memory u (integer z la)) v → labels_leq (as_set la) (labels_of v) ≡ true
   given_labels None z la g = let e = g.is in cc
   given_labels (Some u) z la g = let same : u ≡ g.value = same_Some u g.value g.is in subst (λ t. labels_leq (as_set la) t.labels ≡ true) (sym same) g.good.1
 
-  pub source_number : (signed : Bool) → stands (cond signed (characters_of l n flow.model flow.bases.items row set (Some window)).signed (characters_of l n flow.model flow.bases.items row set (Some window)).unsigned) (numbers.number_of signed (y ∷ []))
+  pub source_number : (signed : Bool) → gamma (cond signed (characters_of l n flow.model flow.bases.items row set (Some window)).signed (characters_of l n flow.model flow.bases.items row set (Some window)).unsigned) (numbers.number_of signed (y ∷ []))
   source_number true = given_number (characters_read l n flow.model flow.bases.items row set window true) (numbers.number_of true (y ∷ [])) (joined_labels (y ∷ [])) (read true)
   source_number false = given_number (characters_read l n flow.model flow.bases.items row set window false) (numbers.number_of false (y ∷ [])) (joined_labels (y ∷ [])) (read false)
 

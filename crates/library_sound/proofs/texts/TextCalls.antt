@@ -42,8 +42,8 @@ use Rattle.memory_model.specs.Effects.Touches.{storage_at, is_literal, set_bytes
 use Rattle.memory_model.specs.Effects.Worlds.{World, Reply, goes, behind, stopped_by}
 use Rattle.semantics.specs.CfgMachine.FlowStates.{Standing, values_of}
 use Rattle.store_sound.specs.Concretization.SoundMemory.{IsContentIn, IsMemoryOf, IsWithin}
-use Rattle.store_sound.specs.Concretization.ValueMeaning.{Naming, StandsInto, StandsByLife}
-use Rattle.store_sound.specs.Concretization.RowMeaning.{MachineState, IsLiveOf, StandsFor}
+use Rattle.store_sound.specs.Concretization.ValueMeaning.{Naming, InGammaInto, InGammaByLife}
+use Rattle.store_sound.specs.Concretization.RowMeaning.{MachineState, IsLiveOf, InGamma}
 use Rattle.store_sound.specs.Concretization.Coverage.{state_of}
 use Rattle.store_sound.specs.Operations.Shapes.{AreShaped, IsLaidOut}
 use Rattle.c_layout.specs.declared.shapes.BaseInfo.{BaseInfo}
@@ -154,8 +154,8 @@ more_has (Some x) m h small =
     let h1 = h.1 in
     (sat_below (x.0 +ℤ pos 1) (pos (m + 1)) (omega (arith, ints, h0)) (omega (arith, ints)), sat_above (x.1 +ℤ pos 1) (pos (m + 1)) (omega (arith, ints, h1)) (omega (arith, ints, small)))
 
-module _ {I : Type 0} {l : LatticeOf I} {n : IntegersOf I} {stands : I → ℤ → Type 0} (o : OrderLaws l) (q : BoundLaws l n stands) where
-  less_stands : (x : Range) (m : ℕ) → RangeHas x (pos (m + 1)) → m ≤ 2 ^ 64 → stands (one_less l n x) (pos m)
+module _ {I : Type 0} {l : LatticeOf I} {n : IntegersOf I} {gamma : I → ℤ → Type 0} (o : OrderLaws l) (q : BoundLaws l n gamma) where
+  less_stands : (x : Range) (m : ℕ) → RangeHas x (pos (m + 1)) → m ≤ 2 ^ 64 → gamma (one_less l n x) (pos m)
   less_stands None m h small = absurd h
   less_stands (Some x) m h small =
       let h0 = h.0 in
@@ -163,16 +163,16 @@ module _ {I : Type 0} {l : LatticeOf I} {n : IntegersOf I} {stands : I → ℤ �
       near_stands o q _ (pos m) (omega (arith, ints)) (omega (arith, ints, small))
       (of_range_stands q (Some (less_one x.0, less_one x.1)) (pos m) (sat_below (x.0 -ℤ pos 1) (pos m) (omega (arith, ints, h0)) (omega (arith, ints)), sat_above (x.1 -ℤ pos 1) (pos m) (omega (arith, ints, h1)) (omega (arith, ints, small))))
 
-  joined_stands : (a b : I) (z : ℤ) → stands a z → stands (l.join a b) z
+  joined_stands : (a b : I) (z : ℤ) → gamma a z → gamma (l.join a b) z
   joined_stands a b z h = q.larger a (l.join a b) z (o.join_left a b) h
 
 -- the base of what is scanned goes on
-module _ {I : Type 0} {l : LatticeOf I} {n : IntegersOf I} {stands : I → ℤ → Type 0} (o : OrderLaws l) (q : BoundLaws l n stands) (flow : Flow) (shaped : AreShaped flow.bases.items) (naming : Naming) (row : List (Cell I)) (state : MachineState) (s : StandsFor l n stands flow naming row state)
-    (p : Pointers I) (i offset lo hi : ℕ) (alive : life_at state.memory i ≡ live) (st : StandsInto stands naming state.memory p i offset lo hi) (inside : IsWithin state.memory i offset lo hi) where
+module _ {I : Type 0} {l : LatticeOf I} {n : IntegersOf I} {gamma : I → ℤ → Type 0} (o : OrderLaws l) (q : BoundLaws l n gamma) (flow : Flow) (shaped : AreShaped flow.bases.items) (naming : Naming) (row : List (Cell I)) (state : MachineState) (s : InGamma l n gamma flow naming row state)
+    (p : Pointers I) (i offset lo hi : ℕ) (alive : life_at state.memory i ≡ live) (st : InGammaInto gamma naming state.memory p i offset lo hi) (inside : IsWithin state.memory i offset lo hi) where
   own_base : (found : Scanned I) → IsScan o q flow shaped naming row state s p i offset lo hi alive st inside found → (t : ℕ) → machine.scanned (contents (region (bytes_at state.memory i) offset (hi - offset))) ≡ machine.ends t → (b : ℕ) → naming i ≡ Some b → has_base found.bases b ≡ true
   own_base found scan t closed b named = subst (λ z. has_base found.bases z ≡ true) (same_Some st.base b (sym st.named ∙ named)) (scan.own t closed)
 
-module _ {I : Type 0} {l : LatticeOf I} {n : IntegersOf I} {stands : I → ℤ → Type 0} (o : OrderLaws l) (q : BoundLaws l n stands) (c : SoundLaws l n stands) (flow : Flow) (p : HasPremises flow) (naming : Naming) (row : List (Cell I)) (s : Standing) (r : IsReached l n stands flow naming row s) (to : Option ℕ) (has : has_result (names_of flow) to ≡ true) (newest : Option ℕ)
+module _ {I : Type 0} {l : LatticeOf I} {n : IntegersOf I} {gamma : I → ℤ → Type 0} (o : OrderLaws l) (q : BoundLaws l n gamma) (c : SoundLaws l n gamma) (flow : Flow) (p : HasPremises flow) (naming : Naming) (row : List (Cell I)) (s : Standing) (r : IsReached l n gamma flow naming row s) (to : Option ℕ) (has : has_result (names_of flow) to ≡ true) (newest : Option ℕ)
     (items : List ℕ) (wanted : Option ℕ) (vs : List Scalar) (e : values_of s.temps items ≡ Some vs)
     (d : MachinePointer) (m : MachinePointer) (first : slice_get vs 0 ≡ Some (pointer d)) (second : slice_get vs 1 ≡ Some (pointer m)) where
   abbrev call : Call
@@ -261,7 +261,7 @@ module _ {I : Type 0} {l : LatticeOf I} {n : IntegersOf I} {stands : I → ℤ �
     within : IsWithin s.world.memory i offset lo hi
     within = given_within o q flow p naming row s r to has newest items wanted vs e 0 i offset lo hi here alive
 
-    st : StandsInto stands naming s.world.memory given.rest i offset lo hi
+    st : InGammaInto gamma naming s.world.memory given.rest i offset lo hi
     st = given_into o q flow p naming row s r to has newest items wanted vs e 0 i offset lo hi here alive
 
     given_on : first_trail.goes_on ≡ true
@@ -277,7 +277,7 @@ module _ {I : Type 0} {l : LatticeOf I} {n : IntegersOf I} {stands : I → ℤ �
       right_within : IsWithin s.world.memory j at low high
       right_within = given_within o q flow p naming row s r to has newest items wanted vs e 1 j at low high there right_alive
 
-      right_st : StandsInto stands naming s.world.memory source.rest j at low high
+      right_st : InGammaInto gamma naming s.world.memory source.rest j at low high
       right_st = given_into o q flow p naming row s r to has newest items wanted vs e 1 j at low high there right_alive
 
       both_on : both_trail.goes_on ≡ true
@@ -329,7 +329,7 @@ module _ {I : Type 0} {l : LatticeOf I} {n : IntegersOf I} {stands : I → ℤ �
             on : target.trail.goes_on ≡ true
             on = goes_further fitting_trail (literal_violations (writes_literal flow.bases.items given.rest.bases cut)) (not (bases_empty (after_write flow.bases.items given.rest.bases cut))) fitted (ap not (not_empty (after_write flow.bases.items given.rest.bases cut) st.base after_there))
 
-            rest : (y : StandsInto stands naming s.world.memory target.rest i offset lo hi) × (y.base ≡ st.base)
+            rest : (y : InGammaInto gamma naming s.world.memory target.rest i offset lo hi) × (y.base ≡ st.base)
             rest = within_stands o q flow p.shaped naming s.world.memory r.stands_for.sane given.rest i offset lo hi st within (after_write flow.bases.items given.rest.bases cut) after_there
 
             -- ---- what is read
@@ -338,7 +338,7 @@ module _ {I : Type 0} {l : LatticeOf I} {n : IntegersOf I} {stands : I → ℤ �
             source_has = (and_parts (nat_lt right_st.base most_bases) (bases_has scan.bases right_st.base)
                 (own_base o q flow p.shaped naming row (state_of s) r.stands_for _ j at low high right_alive _ _ scan (strings.is_scan o q flow p naming row s r to has newest items wanted vs e 1 j at low high there right_alive) t ended right_st.base right_st.named)).1
 
-            reads : (y : StandsInto stands naming s.world.memory read j at low high) × (y.base ≡ right_st.base)
+            reads : (y : InGammaInto gamma naming s.world.memory read j at low high) × (y.base ≡ right_st.base)
             reads = within_stands o q flow p.shaped naming s.world.memory r.stands_for.sane source.rest j at low high right_st right_within scan.bases source_has
 
             read_window : (x : ℕ) → at ≤ x → x < at + size → WindowHas (touched_window n read cut) x
@@ -407,7 +407,7 @@ module _ {I : Type 0} {l : LatticeOf I} {n : IntegersOf I} {stands : I → ℤ �
 
             result : IsResult q flow p naming memory (pointer_value l target.rest) (pointer d)
             result = subst (λ y. IsResult q flow p naming memory (pointer_value l target.rest) (pointer y)) (sym is) (record {
-              stands_for = scalar_moves (alike_region region_here) stands naming (pointer_value l target.rest) (pointer (into i offset lo hi)) (subst (λ y. StandsByLife stands naming s.world.memory target.rest y i offset lo hi) (sym alive) rest.0);
+              stands_for = scalar_moves (alike_region region_here) gamma naming (pointer_value l target.rest) (pointer (into i offset lo hi)) (subst (λ y. InGammaByLife gamma naming s.world.memory target.rest y i offset lo hi) (sym alive) rest.0);
               near = tt;
               within = pointer_in_moves (alike_region region_here) (into i offset lo hi) within;
             })
@@ -434,16 +434,16 @@ module _ {I : Type 0} {l : LatticeOf I} {n : IntegersOf I} {stands : I → ℤ �
                 subst (λ v. (v.lo ≤ x) × (x ≤ v.hi)) same (y.from, y.to)
 
             -- the characters of the source
-            letters_number : (k : ℕ) → k ≤ t → (y : Labelled) (b2 : Byte) → byte_at s.world.memory j (at + k) ≡ Some b2 → b2.content ≡ number_in y → ((signed : Bool) → stands (cond signed letters.signed letters.unsigned) (number_of signed (y ∷ []))) × (labels_leq (as_set y.labels) letters.labels ≡ true)
+            letters_number : (k : ℕ) → k ≤ t → (y : Labelled) (b2 : Byte) → byte_at s.world.memory j (at + k) ≡ Some b2 → b2.content ≡ number_in y → ((signed : Bool) → gamma (cond signed letters.signed letters.unsigned) (number_of signed (y ∷ []))) × (labels_leq (as_set y.labels) letters.labels ≡ true)
             letters_number k less y b2 f g =
                 let w = read_window (at + k) (omega arith) (omega (arith, less)) in
                 let among = subst (λ v. bases_has read.bases v ≡ true) reads.1 reads.0.among in
-                subst (λ v. ((signed : Bool) → stands (cond signed (characters_of l n flow.model flow.bases.items row read.bases v).signed (characters_of l n flow.model flow.bases.items row read.bases v).unsigned) (number_of signed (y ∷ []))) × (labels_leq (as_set y.labels) (characters_of l n flow.model flow.bases.items row read.bases v).labels ≡ true)) (sym w.is) (
+                subst (λ v. ((signed : Bool) → gamma (cond signed (characters_of l n flow.model flow.bases.items row read.bases v).signed (characters_of l n flow.model flow.bases.items row read.bases v).unsigned) (number_of signed (y ∷ []))) × (labels_leq (as_set y.labels) (characters_of l n flow.model flow.bases.items row read.bases v).labels ≡ true)) (sym w.is) (
                   (λ signed. source_number o q c flow p.shaped p.padding naming row (state_of s) r.stands_for read.bases w.window j (at + k) right_st.base read_base.0 read_base.1 right_st.named right_alive among w.from w.to b2 f y g signed),
                   source_labels o q c flow p.shaped p.padding naming row (state_of s) r.stands_for read.bases w.window j (at + k) right_st.base read_base.0 read_base.1 right_st.named right_alive among w.from w.to b2 f y g,
                 )
 
-            is_text : IsTextWrite l n stands write memory i offset size
+            is_text : IsTextWrite l n gamma write memory i offset size
             is_text = record {
               window = window_has;
               start = (start.from, start.to);
@@ -488,7 +488,7 @@ module _ {I : Type 0} {l : LatticeOf I} {n : IntegersOf I} {stands : I → ℤ �
                 let same : b2 ≡ st.base = v.one b2 in_set in
                 r.stands_for.sane.one h i st.base base.0 base.1 (not_older base.0.kind (v.single st.base base.0 base.1 own)) (g.named ∙ ap Some same) st.named (λ y. live_ended (sym g.alive ∙ y)) (λ y. live_ended (sym alive ∙ y))
 
-            counted : stands (one_less l n cut) (pos t)
+            counted : gamma (one_less l n cut) (pos t)
             counted = let z = small in less_stands o q cut t cut_size (omega (arith, z))
 
             text_is : text_plan.effect ≡ effect.Text write (pointer_value l target.rest)

@@ -24,13 +24,13 @@ use Rattle.transfer_library_writes.specs.TextWrites.{character_value, leaf_value
 use Rattle.transfer_library_writes.specs.declared.text_writes.TextWrite.{TextWrite}
 use Rattle.memory_model.specs.Memory.Instances.{Memory, bytes_at}
 use Rattle.store_sound.specs.Concretization.SoundMemory.{IsMemoryOf}
-use Rattle.store_sound.specs.Concretization.ValueMeaning.{Naming, StandsZero}
-use Rattle.store_sound.specs.Concretization.RowMeaning.{MachineState, array_bytes, IsLiveOf, StandsLeaf, StandsClass, StandsFor}
+use Rattle.store_sound.specs.Concretization.ValueMeaning.{Naming, InGammaZero}
+use Rattle.store_sound.specs.Concretization.RowMeaning.{MachineState, array_bytes, IsLiveOf, InGammaLeaf, InGammaClass, InGamma}
 use Rattle.store_sound.specs.Operations.Shapes.{IsShaped, IsLaidOut}
 use Rattle.store_sound.proofs.operations.Only.{Only, only_more, only_same, only_put, only_cond, only_if, only_then}
 use Rattle.store_sound.proofs.operations.StoreRows.{Fits, leaf_is, class_is, zero_is, join_only}
 use Rattle.store_sound.proofs.operations.StoreValues.{same_value}
-use Rattle.store_sound.specs.Regions.RegionWrites.{IsRegion, WritesWithin, StandsBase}
+use Rattle.store_sound.specs.Regions.RegionWrites.{IsRegion, WritesWithin, InGammaBase}
 use Rattle.store_sound.proofs.regions.BaseRows.{writes_stand, writes_long}
 use Rattle.store_sound.proofs.regions.Layers.{value_turn, zero_turn, leaves_within, leaf_turn, zeros_within, part_turn, classes_within, class_turn, class_spared, layers_within, layers_stand}
 use Rattle.library_sound.specs.Texts.TextWrites.{IsTextWrite}
@@ -88,14 +88,14 @@ module _ {I : Type 0} (l : LatticeOf I) (n : IntegersOf I) (m : Model) (base : B
 
 -- ---- a base, and all
 
-module _ {I : Type 0} {l : LatticeOf I} {n : IntegersOf I} {stands : I → ℤ → Type 0} (o : OrderLaws l) (q : BoundLaws l n stands) (flow : Flow) (naming : Naming) {old new : Memory} {i offset size : ℕ} (s : IsRegion old new i offset size) (sane : IsMemoryOf flow.model flow.bases.items naming new) (write : TextWrite I) (k : IsTextWrite l n stands write new i offset size)
-    (alone : Bool) (b : ℕ) (base : BaseInfo) (fits : Fits base) (shape : IsShaped base) (single : alone ≡ true → 0 < size → (j : ℕ) → IsLiveOf naming old b j → j ≡ i) (ruled : IsRuled o q flow naming s sane write k alone b single) (row : List (Cell I)) (long : base.first + base_values base ≤ length row) (t : StandsBase l n stands flow naming old b base row) where
-  leaf_new : (j : ℕ) (leaf : Leaf) → slice_get base.shape.cells j ≡ Some leaf → StandsLeaf stands flow naming new b leaf (value_at l n (write_leaves l n flow.model base write row) (leaf_position base j))
+module _ {I : Type 0} {l : LatticeOf I} {n : IntegersOf I} {gamma : I → ℤ → Type 0} (o : OrderLaws l) (q : BoundLaws l n gamma) (flow : Flow) (naming : Naming) {old new : Memory} {i offset size : ℕ} (s : IsRegion old new i offset size) (sane : IsMemoryOf flow.model flow.bases.items naming new) (write : TextWrite I) (k : IsTextWrite l n gamma write new i offset size)
+    (alone : Bool) (b : ℕ) (base : BaseInfo) (fits : Fits base) (shape : IsShaped base) (single : alone ≡ true → 0 < size → (j : ℕ) → IsLiveOf naming old b j → j ≡ i) (ruled : IsRuled o q flow naming s sane write k alone b single) (row : List (Cell I)) (long : base.first + base_values base ≤ length row) (t : InGammaBase l n gamma flow naming old b base row) where
+  leaf_new : (j : ℕ) (leaf : Leaf) → slice_get base.shape.cells j ≡ Some leaf → InGammaLeaf gamma flow naming new b leaf (value_at l n (write_leaves l n flow.model base write row) (leaf_position base j))
   unfolding write_leaves
   leaf_new j leaf e =
       let u = slice_get_within base.shape.cells j leaf e in
       let x = leaf_is base j fits u in
-      value_turn l n (StandsLeaf stands flow naming old b leaf) (StandsLeaf stands flow naming new b leaf) (leaf_position base j) (write_leaf_of l n flow.model base write leaf j) row (walk (write_leaf_of l n flow.model base write) 0 base.shape.cells row)
+      value_turn l n (InGammaLeaf gamma flow naming old b leaf) (InGammaLeaf gamma flow naming new b leaf) (leaf_position base j) (write_leaf_of l n flow.model base write leaf j) row (walk (write_leaf_of l n flow.model base write) 0 base.shape.cells row)
       (leaf_turn base fits (write_leaf_of l n flow.model base write) (leaf_only l n flow.model base fits write alone) j leaf e row)
       (λ r same cell. leaf_written o q flow naming s sane write k b base shape j leaf e r (omega (arith, x, u, same, long)) cell)
       (t.leaves j leaf e)
@@ -107,11 +107,11 @@ module _ {I : Type 0} {l : LatticeOf I} {n : IntegersOf I} {stands : I → ℤ �
     class_there : (c : ℕ) → c < 6 → class_position base c < length r
     class_there c small = let d = six in let x = class_is base c fits (omega (arith, d, small)) in omega (arith, x, d, small, same, long)
 
-    class_by : (c : ℕ) → c < 6 → StandsClass stands flow naming old b base (class_at c) (value_at l n r (class_position base c)) → StandsClass stands flow naming new b base (class_at c) (value_at l n (write_class_cells l n flow.model base write r) (class_position base c))
+    class_by : (c : ℕ) → c < 6 → InGammaClass gamma flow naming old b base (class_at c) (value_at l n r (class_position base c)) → InGammaClass gamma flow naming new b base (class_at c) (value_at l n (write_class_cells l n flow.model base write r) (class_position base c))
     unfolding write_class_cells
     class_by zero small cell =
         let spared = class_spared base fits heap 1 5 (omega arith) (write_class l n flow.model base write) (class_only l n flow.model base fits write alone) 0 (omega arith) in
-        subst (StandsClass stands flow naming new b base Char) (sym (same_value l n (write_stray l n base write r) _ (class_position base 0) (spared.keeps (write_stray l n base write r))))
+        subst (InGammaClass gamma flow naming new b base Char) (sym (same_value l n (write_stray l n base write r) _ (class_position base 0) (spared.keeps (write_stray l n base write r))))
         (char_written o q flow naming s sane write k b base shape r heap (class_there 0 (omega arith)) cell)
     class_by (suc c) small cell =
         let next : c + 1 ≡ suc c = omega arith in
@@ -119,45 +119,45 @@ module _ {I : Type 0} {l : LatticeOf I} {n : IntegersOf I} {stands : I → ℤ �
         let d = six in
         let y = class_is base (suc c) fits (omega (arith, d, small)) in
         let stray = stray_only l n flow.model base fits write alone in
-        subst (λ z. StandsClass stands flow naming new b base (class_at z) (value_at l n (turns (write_class l n flow.model base write) 5 (write_stray l n base write r)) (class_position base z))) next
-        (value_turn l n (StandsClass stands flow naming old b base (class_at (c + 1))) (StandsClass stands flow naming new b base (class_at (c + 1))) (class_position base (c + 1)) (write_class l n flow.model base write c) (write_stray l n base write r) _
+        subst (λ z. InGammaClass gamma flow naming new b base (class_at z) (value_at l n (turns (write_class l n flow.model base write) 5 (write_stray l n base write r)) (class_position base z))) next
+        (value_turn l n (InGammaClass gamma flow naming old b base (class_at (c + 1))) (InGammaClass gamma flow naming new b base (class_at (c + 1))) (class_position base (c + 1)) (write_class l n flow.model base write c) (write_stray l n base write r) _
         (class_turn base fits heap 1 5 (omega arith) (write_class l n flow.model base write) (class_only l n flow.model base fits write alone) c (omega (arith, small)) (write_stray l n base write r))
         (λ r2 equal cell2. class_written o q flow naming s sane write k b base shape c r2 (let there = class_there (c + 1) (omega (arith, small)) in let stray_long = stray.long r in omega (arith, there, stray_long, equal)) cell2)
-        (subst (λ z. StandsClass stands flow naming old b base (class_at z) (value_at l n (write_stray l n base write r) (class_position base z))) (sym next)
-        (subst (StandsClass stands flow naming old b base (class_at (suc c))) (sym (same_value l n r _ (class_position base (suc c)) (stray.keeps r (class_position base (suc c)) (λ v w. omega (arith, x, y, v, w))))) cell)))
+        (subst (λ z. InGammaClass gamma flow naming old b base (class_at z) (value_at l n (write_stray l n base write r) (class_position base z))) (sym next)
+        (subst (InGammaClass gamma flow naming old b base (class_at (suc c))) (sym (same_value l n r _ (class_position base (suc c)) (stray.keeps r (class_position base (suc c)) (λ v w. omega (arith, x, y, v, w))))) cell)))
 
     heap_is : write_heap_part l n flow.model base write r ≡ write_class_cells l n flow.model base write r
     heap_is = cond_hit base.shape.heap (write_class_cells l n flow.model base write r) r heap
 
-    class_new : (c : ℕ) → c < 6 → StandsClass stands flow naming old b base (class_at c) (value_at l n r (class_position base c)) → StandsClass stands flow naming new b base (class_at c) (value_at l n (write_heap_part l n flow.model base write r) (class_position base c))
-    class_new c small cell = subst (λ z. StandsClass stands flow naming new b base (class_at c) (value_at l n z (class_position base c))) (sym heap_is) (class_by c small cell)
+    class_new : (c : ℕ) → c < 6 → InGammaClass gamma flow naming old b base (class_at c) (value_at l n r (class_position base c)) → InGammaClass gamma flow naming new b base (class_at c) (value_at l n (write_heap_part l n flow.model base write r) (class_position base c))
+    class_new c small cell = subst (λ z. InGammaClass gamma flow naming new b base (class_at c) (value_at l n z (class_position base c))) (sym heap_is) (class_by c small cell)
 
-  zero_new : (r : List (Cell I)) → length r ≡ length row → (z : ℕ) (part : ZeroPart) → slice_get base.shape.zeros z ≡ Some part → ((j : ℕ) → IsLiveOf naming old b j → StandsZero stands naming old (zero_at l n r (zero_position base z)) (array_bytes part (bytes_at old j))) → (j : ℕ) → IsLiveOf naming old b j → StandsZero stands naming new (zero_at l n (write_zeros l n base write alone r) (zero_position base z)) (array_bytes part (bytes_at new j))
+  zero_new : (r : List (Cell I)) → length r ≡ length row → (z : ℕ) (part : ZeroPart) → slice_get base.shape.zeros z ≡ Some part → ((j : ℕ) → IsLiveOf naming old b j → InGammaZero gamma naming old (zero_at l n r (zero_position base z)) (array_bytes part (bytes_at old j))) → (j : ℕ) → IsLiveOf naming old b j → InGammaZero gamma naming new (zero_at l n (write_zeros l n base write alone r) (zero_position base z)) (array_bytes part (bytes_at new j))
   unfolding write_zeros
   zero_new r same z part e zeros j alive =
       let u = slice_get_within base.shape.zeros z part e in
       let x = zero_is base z fits (omega (arith, u)) in
-      zero_turn l n (λ f. (h : ℕ) → IsLiveOf naming old b h → StandsZero stands naming old f (array_bytes part (bytes_at old h))) (λ f. StandsZero stands naming new f (array_bytes part (bytes_at new j))) (zero_position base z) (write_zero l n base write alone part z) r _
+      zero_turn l n (λ f. (h : ℕ) → IsLiveOf naming old b h → InGammaZero gamma naming old f (array_bytes part (bytes_at old h))) (λ f. InGammaZero gamma naming new f (array_bytes part (bytes_at new j))) (zero_position base z) (write_zero l n base write alone part z) r _
       (part_turn base fits (write_zero l n base write alone) (zero_only l n flow.model base fits write alone) z part e r)
       (λ r2 equal zeros2. zero_written o q flow naming s sane write k alone b single ruled base z part r2 (omega (arith, x, u, equal, same, long)) zeros2 j alive)
       zeros
 
-  pub base_written : StandsBase l n stands flow naming new b base (write_base l n flow.model base write alone row)
+  pub base_written : InGammaBase l n gamma flow naming new b base (write_base l n flow.model base write alone row)
   unfolding write_base
   base_written = layers_stand o q flow naming s b base fits (write_leaves l n flow.model base write) (write_heap_part l n flow.model base write) (write_zeros l n base write alone)
       (leaves_only l n flow.model base fits write alone) (heap_only l n flow.model base fits write alone) (all_zeros_only l n flow.model base fits write alone) row t
       leaf_new (λ r same states c heap small cell. class_new r same heap c small cell) zero_new
 
-module _ {I : Type 0} {l : LatticeOf I} {n : IntegersOf I} {stands : I → ℤ → Type 0} (o : OrderLaws l) (q : BoundLaws l n stands) (flow : Flow) (naming : Naming) (row : List (Cell I)) (state : MachineState) (laid : IsLaidOut flow (length row)) (s : StandsFor l n stands flow naming row state)
+module _ {I : Type 0} {l : LatticeOf I} {n : IntegersOf I} {gamma : I → ℤ → Type 0} (o : OrderLaws l) (q : BoundLaws l n gamma) (flow : Flow) (naming : Naming) (row : List (Cell I)) (state : MachineState) (laid : IsLaidOut flow (length row)) (s : InGamma l n gamma flow naming row state)
     (new : Memory) (i offset size : ℕ) (region : IsRegion state.memory new i offset size) (sane : IsMemoryOf flow.model flow.bases.items naming new) (write : TextWrite I)
     (here : (b : ℕ) → naming i ≡ Some b → 0 < size → has_base write.bases b ≡ true)
     (single : is_one_instance flow.bases.items write.bases ≡ true → 0 < size → (b j : ℕ) → has_base write.bases b ≡ true → IsLiveOf naming state.memory b j → j ≡ i)
-    (k : (b : ℕ) → IsTextWrite l n stands (write_into write b) new i offset size)
+    (k : (b : ℕ) → IsTextWrite l n gamma (write_into write b) new i offset size)
     (ruled : (b : ℕ) (base : BaseInfo) → slice_get flow.bases.items b ≡ Some base → (has : has_base write.bases b ≡ true) → IsRuled o q flow naming region sane (write_into write b) (k b) (is_one_instance flow.bases.items write.bases) b (λ alone some j alive. single alone some b j has alive)) where
   base_long : (b : ℕ) (base : BaseInfo) → slice_get flow.bases.items b ≡ Some base → (base.first + base_values base ≤ 2 ^ 64 - 1) × (base.first + base_values base ≤ length row)
   base_long b base e = let c = laid.laid.close b base e in let d = laid.laid.small in let f = laid.long in (omega (arith, c, d), omega (arith, c, f))
 
-  pub text_stands : StandsFor l n stands flow naming (write_text l n flow write row) (record { memory = new; temps = state.temps; entered = state.entered })
+  pub text_stands : InGamma l n gamma flow naming (write_text l n flow write row) (record { memory = new; temps = state.temps; entered = state.entered })
   unfolding write_text write_base_if
   text_stands = writes_stand o q flow naming row state laid s new i offset size region sane write.bases (λ base number r. write_base l n flow.model base (write_into write number) (is_one_instance flow.bases.items write.bases) r)
       (λ b base e. base_within l n flow.model base (base_long b base e).0 (write_into write b) (is_one_instance flow.bases.items write.bases))

@@ -23,7 +23,7 @@ use Rattle.memory_model.specs.Memory.Bytes.{Byte}
 use Rattle.memory_model.specs.Memory.Instances.{Memory, bytes_at, byte_at}
 use Rattle.store_sound.specs.Concretization.FirstZeroBytes.{end, character, seen_as, first_zero, zero_offset}
 use Rattle.store_sound.specs.Concretization.SoundMemory.{IsMemoryOf}
-use Rattle.store_sound.specs.Concretization.ValueMeaning.{Naming, StandsZero}
+use Rattle.store_sound.specs.Concretization.ValueMeaning.{Naming, InGammaZero}
 use Rattle.store_sound.specs.Concretization.RowMeaning.{array_bytes}
 use Rattle.store_sound.proofs.operations.Near.{near_number_from}
 use Rattle.store_sound.proofs.operations.Slices.{get_there}
@@ -97,7 +97,7 @@ text_range f o t a k j c f0 f1 fe oz o0 o1 jz t0 t1 w =
       ]
     ]
 
-module _ {I : Type 0} {l : LatticeOf I} {n : IntegersOf I} {stands : I → ℤ → Type 0} (o : OrderLaws l) (q : BoundLaws l n stands) where
+module _ {I : Type 0} {l : LatticeOf I} {n : IntegersOf I} {gamma : I → ℤ → Type 0} (o : OrderLaws l) (q : BoundLaws l n gamma) where
   near_end : (x : Range) (a : ℤ) → IsNear x → RangeHas x a → (y : ℤ × ℤ) × (x ≡ Some y) × (y.0 ≤ℤ a) × (a ≤ℤ y.1) × (y.1 ≤ℤ the_end)
   near_end None a h g = absurd g
   near_end (Some y) a h g = let t = h in (y, refl, g.0, g.1, omega (arith, ints, t))
@@ -112,7 +112,7 @@ module _ {I : Type 0} {l : LatticeOf I} {n : IntegersOf I} {stands : I → ℤ �
   some_has None j h = absurd h
   some_has (Some y) j h = (y, refl, h.0, h.1)
 
-  text_stands_at : (f : FirstZero I) (w : Window) (len : I) (a c : ℤ) (k t : ℕ) → IsNear (n.bounds f.at) → stands f.at a → w.lo ≤ k → k ≤ w.hi → w.hi ≤ 2 ^ 64 - 1 → stands len (pos t) → WroteText a (pos k) (pos t) c → stands (text_at l n f (offsets_of l n w) len).at c
+  text_stands_at : (f : FirstZero I) (w : Window) (len : I) (a c : ℤ) (k t : ℕ) → IsNear (n.bounds f.at) → gamma f.at a → w.lo ≤ k → k ≤ w.hi → w.hi ≤ 2 ^ 64 - 1 → gamma len (pos t) → WroteText a (pos k) (pos t) c → gamma (text_at l n f (offsets_of l n w) len).at c
   text_stands_at f w len a c k t near sf from to small st wrote =
       let x = near_end (n.bounds f.at) a near (bounds_have q f.at a sf) in
       let y = offsets_are w (omega (arith, from, to)) small in
@@ -126,9 +126,9 @@ module _ {I : Type 0} {l : LatticeOf I} {n : IntegersOf I} {stands : I → ℤ �
   -- ---- an array that has all of the text
 
   module _ (flow : Flow) (naming : Naming) {old new : Memory} {i offset t : ℕ} (s : IsRegion old new i offset (t + 1)) (sane : IsMemoryOf flow.model flow.bases.items naming new) (start : Window) (first : start.lo ≤ offset) (last : offset ≤ start.hi)
-      (text : (x : ℕ) (b : Byte) → x < t → byte_at new i (offset + x) ≡ Some b → seen_as b.content ≡ character) (closed : (b : Byte) → byte_at new i (offset + t) ≡ Some b → seen_as b.content ≡ end) (len : I) (counted : stands len (pos t)) where
+      (text : (x : ℕ) (b : Byte) → x < t → byte_at new i (offset + x) ≡ Some b → seen_as b.content ≡ character) (closed : (b : Byte) → byte_at new i (offset + t) ≡ Some b → seen_as b.content ≡ end) (len : I) (counted : gamma len (pos t)) where
     pub text_rule : (part : ZeroPart) (target : ZeroTarget) (f : FirstZero I) → zero_target part start ≡ Some target → IsIn part.size part.offset offset → IsIn part.size part.offset (offset + ((t + 1) - 1)) → IsNear (n.bounds f.at)
-        → StandsZero stands naming old f (array_bytes part (bytes_at old i)) → StandsZero stands naming new (text_at l n f (offsets_of l n target.local) (near_number l n len)) (array_bytes part (bytes_at new i))
+        → InGammaZero gamma naming old f (array_bytes part (bytes_at old i)) → InGammaZero gamma naming new (text_at l n f (offsets_of l n target.local) (near_number l n len)) (array_bytes part (bytes_at new i))
     unfolding byte_at
     text_rule part target f found inside ends near h =
         let from = starts_in part.size part.offset offset inside in

@@ -30,7 +30,7 @@ use Rattle.library_sound.proofs.fills.WriteCalls.{Good, plain_stop}
 use Rattle.library_sound.specs.Texts.TextCalls.{CopiesText, IsTextCall}
 use Rattle.library_sound.proofs.texts.TextCalls.{text_call_good}
 
-module _ {I : Type 0} {l : LatticeOf I} {n : IntegersOf I} {stands : I → ℤ → Type 0} (o : OrderLaws l) (q : BoundLaws l n stands) (c : SoundLaws l n stands) (flow : Flow) (p : HasPremises flow) (naming : Naming) (row : List (Cell I)) (s : Standing) (r : IsReached l n stands flow naming row s) (to : Option ℕ) (has : has_result (names_of flow) to ≡ true) (newest : Option ℕ) where
+module _ {I : Type 0} {l : LatticeOf I} {n : IntegersOf I} {gamma : I → ℤ → Type 0} (o : OrderLaws l) (q : BoundLaws l n gamma) (c : SoundLaws l n gamma) (flow : Flow) (p : HasPremises flow) (naming : Naming) (row : List (Cell I)) (s : Standing) (r : IsReached l n gamma flow naming row s) (to : Option ℕ) (has : has_result (names_of flow) to ≡ true) (newest : Option ℕ) where
   stuck_here : (plan : _) → Good o q flow p naming row s r to has newest plan (stops Stuck s.world)
   stuck_here plan = plain_stop o q flow p naming row s r to has newest plan s.world.violated (clean q flow p naming row s r plan.violations) Stuck
 
@@ -44,13 +44,13 @@ module _ {I : Type 0} {l : LatticeOf I} {n : IntegersOf I} {stands : I → ℤ �
   by_name f.Strcpy h items wanted (pointer m ∷ (pointer k ∷ [])) e = text_call_good o q c flow p naming row s r to has newest items wanted (pointer m ∷ (pointer k ∷ [])) e m k refl refl
   by_name _ h items wanted vs e = absurd h
 
-module _ {I : Type 0} {l : LatticeOf I} {n : IntegersOf I} {stands : I → ℤ → Type 0} (o : OrderLaws l) (q : BoundLaws l n stands) (c : SoundLaws l n stands) (flow : Flow) (p : HasPremises flow) (naming : Naming) (row : List (Cell I)) (s : Standing) (r : IsReached l n stands flow naming row s) where
-  pub text_call_sound : (to : Option ℕ) (name : LibFn) (arguments : _) (newest size : Option ℕ) → CopiesText name → fits_operation (names_of flow) (op.Library to name arguments newest size) ≡ true → StepIsSound l n stands flow row (op.Library to name arguments newest size) s
+module _ {I : Type 0} {l : LatticeOf I} {n : IntegersOf I} {gamma : I → ℤ → Type 0} (o : OrderLaws l) (q : BoundLaws l n gamma) (c : SoundLaws l n gamma) (flow : Flow) (p : HasPremises flow) (naming : Naming) (row : List (Cell I)) (s : Standing) (r : IsReached l n gamma flow naming row s) where
+  pub text_call_sound : (to : Option ℕ) (name : LibFn) (arguments : _) (newest size : Option ℕ) → CopiesText name → fits_operation (names_of flow) (op.Library to name arguments newest size) ≡ true → StepIsSound l n gamma flow row (op.Library to name arguments newest size) s
   unfolding operate call_step operation_violations
   text_call_sound to name arguments newest size is fits =
       let has = (and_parts (has_result (names_of flow) to) (list_all (has_temp (names_of flow)) arguments.items && (is_site flow.bases.items newest && is_optional_extent size)) fits).0 in
-      if_some_good l n stands flow _ _ s r.begun (values_of s.temps arguments.items) _ (λ vs e. by_name o q c flow p naming row s r to has newest name is arguments.items size vs e)
+      if_some_good l n gamma flow _ _ s r.begun (values_of s.temps arguments.items) _ (λ vs e. by_name o q c flow p naming row s r to has newest name is arguments.items size vs e)
 
-  pub text_step_sound : (i : Operation) → IsTextCall i → fits_operation (names_of flow) i ≡ true → StepIsSound l n stands flow row i s
+  pub text_step_sound : (i : Operation) → IsTextCall i → fits_operation (names_of flow) i ≡ true → StepIsSound l n gamma flow row i s
   text_step_sound (op.Library to name arguments newest size) is fits = text_call_sound to name arguments newest size is fits
   text_step_sound i is fits = absurd is

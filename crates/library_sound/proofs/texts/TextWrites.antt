@@ -13,8 +13,8 @@ use Rattle.transfer_library_writes.specs.declared.text_writes.ZeroRule.{ZeroRule
 use Rattle.transfer_library_writes.specs.declared.text_writes.ZeroRule.TheVariants.{Text, Append, Any}
 use Rattle.memory_model.specs.Memory.Instances.{Memory, bytes_at}
 use Rattle.store_sound.specs.Concretization.SoundMemory.{IsMemoryOf}
-use Rattle.store_sound.specs.Concretization.ValueMeaning.{Naming, StandsZero}
-use Rattle.store_sound.specs.Concretization.RowMeaning.{MachineState, array_bytes, IsLiveOf, StandsFor}
+use Rattle.store_sound.specs.Concretization.ValueMeaning.{Naming, InGammaZero}
+use Rattle.store_sound.specs.Concretization.RowMeaning.{MachineState, array_bytes, IsLiveOf, InGamma}
 use Rattle.store_sound.specs.Operations.Shapes.{IsLaidOut}
 use Rattle.store_sound.proofs.chars.ByteArrays.{IsIn}
 use Rattle.store_sound.specs.Regions.RegionWrites.{IsRegion}
@@ -23,27 +23,27 @@ use Rattle.library_sound.proofs.texts.TextZeros.{IsRuled, says_nothing, says}
 use Rattle.library_sound.proofs.texts.TextRows.{text_stands, text_long}
 use Rattle.library_sound.proofs.texts.TextRules.{text_rule}
 
-module _ {I : Type 0} {l : LatticeOf I} {n : IntegersOf I} {stands : I → ℤ → Type 0} (o : OrderLaws l) (q : BoundLaws l n stands) (flow : Flow) (naming : Naming) (row : List (Cell I)) (state : MachineState) (laid : IsLaidOut flow (length row)) (s : StandsFor l n stands flow naming row state)
-    (new : Memory) (i offset size : ℕ) (region : IsRegion state.memory new i offset size) (sane : IsMemoryOf flow.model flow.bases.items naming new) (write : TextWrite I) (k : IsTextWrite l n stands write new i offset size) (rule : HoldsOf l n stands new i offset size write.zero)
+module _ {I : Type 0} {l : LatticeOf I} {n : IntegersOf I} {gamma : I → ℤ → Type 0} (o : OrderLaws l) (q : BoundLaws l n gamma) (flow : Flow) (naming : Naming) (row : List (Cell I)) (state : MachineState) (laid : IsLaidOut flow (length row)) (s : InGamma l n gamma flow naming row state)
+    (new : Memory) (i offset size : ℕ) (region : IsRegion state.memory new i offset size) (sane : IsMemoryOf flow.model flow.bases.items naming new) (write : TextWrite I) (k : IsTextWrite l n gamma write new i offset size) (rule : HoldsOf l n gamma new i offset size write.zero)
     (here : (b : ℕ) → naming i ≡ Some b → 0 < size → has_base write.bases b ≡ true)
     (single : is_one_instance flow.bases.items write.bases ≡ true → 0 < size → (b j : ℕ) → has_base write.bases b ≡ true → IsLiveOf naming state.memory b j → j ≡ i) where
-  of_base : (b : ℕ) → IsTextWrite l n stands (write_into write b) new i offset size
+  of_base : (b : ℕ) → IsTextWrite l n gamma (write_into write b) new i offset size
   of_base b = record { window = k.window; start = k.start; one_byte = k.one_byte; numbers = k.numbers; characters = k.characters }
 
   ruled : (b : ℕ) (base : BaseInfo) → slice_get flow.bases.items b ≡ Some base → (has : has_base write.bases b ≡ true) → IsRuled o q flow naming region sane (write_into write b) (of_base b) (is_one_instance flow.bases.items write.bases) b (λ alone some j alive. single alone some b j has alive)
   ruled b base at has = by_rule write.zero refl rule
     where
-      by_rule : (z : ZeroRule I) → write.zero ≡ z → HoldsOf l n stands new i offset size z → IsRuled o q flow naming region sane (write_into write b) (of_base b) (is_one_instance flow.bases.items write.bases) b (λ alone some j alive. single alone some b j has alive)
+      by_rule : (z : ZeroRule I) → write.zero ≡ z → HoldsOf l n gamma new i offset size z → IsRuled o q flow naming region sane (write_into write b) (of_base b) (is_one_instance flow.bases.items write.bases) b (λ alone some j alive. single alone some b j has alive)
       by_rule Any e h = says_nothing (ap (λ z. rule_in z b) e)
       by_rule (Append length unknown) e h = absurd h
       by_rule (Text length) e h =
           let w = h.1 in
           let long = w.long in
           says (omega (arith, long)) (λ part target f found inside ends near old.
-          subst (λ z. StandsZero stands naming new (zero_after l n f target.local z) (array_bytes part (bytes_at new i))) (sym (ap (λ z. rule_in z b) e))
+          subst (λ z. InGammaZero gamma naming new (zero_after l n f target.local z) (array_bytes part (bytes_at new i))) (sym (ap (λ z. rule_in z b) e))
           (text_rule o q flow naming (subst (IsRegion state.memory new i offset) long region) sane write.start k.start.0 k.start.1 w.text w.closed length h.2 part target f found inside (subst (λ z. IsIn part.size part.offset (offset + (z - 1))) long ends) near old))
 
-  pub text_write_stands : StandsFor l n stands flow naming (write_text l n flow write row) (record { memory = new; temps = state.temps; entered = state.entered })
+  pub text_write_stands : InGamma l n gamma flow naming (write_text l n flow write row) (record { memory = new; temps = state.temps; entered = state.entered })
   text_write_stands = text_stands o q flow naming row state laid s new i offset size region sane write here single of_base ruled
 
   pub text_write_long : length (write_text l n flow write row) ≡ length row

@@ -20,6 +20,6 @@ abbrev pub IsAppendCall : Operation → Type 0
 IsAppendCall (op.Library to name arguments newest size) = AppendsText name
 IsAppendCall _ = ⊥
 
-module _ {I : Type 0} (l : LatticeOf I) (n : IntegersOf I) (stands : I → ℤ → Type 0) (flow : Flow) where
+module _ {I : Type 0} (l : LatticeOf I) (n : IntegersOf I) (gamma : I → ℤ → Type 0) (flow : Flow) where
   abbrev pub AppendCallsAreSound : Type 0
-  AppendCallsAreSound = HasPremises flow → HasApartTexts flow.bases.items → AreSound l n stands flow IsAppendCall
+  AppendCallsAreSound = HasPremises flow → HasApartTexts flow.bases.items → AreSound l n gamma flow IsAppendCall

@@ -15,7 +15,7 @@ use Rattle.memory_model.specs.Memory.Instances.{Memory, bytes_at}
 use Rattle.store_sound.specs.Concretization.FirstZeroBytes.{first_zero}
 use Rattle.store_sound.specs.Concretization.SoundMemory.{IsMemoryOf}
 use Rattle.store_sound.specs.Concretization.ValueMeaning.{Naming}
-use Rattle.store_sound.specs.Concretization.RowMeaning.{MachineState, array_bytes, IsLiveOf, StandsFor}
+use Rattle.store_sound.specs.Concretization.RowMeaning.{MachineState, array_bytes, IsLiveOf, InGamma}
 use Rattle.store_sound.specs.Operations.Shapes.{IsLaidOut}
 use Rattle.store_sound.specs.Regions.RegionWrites.{IsRegion}
 use Rattle.library_sound.specs.Texts.TextWrites.{IsTextWrite, IsWrittenText}
@@ -26,13 +26,13 @@ use Rattle.library_sound.specs.Appends.ApartTexts.{HasByte}
 pub record EndsAt (flow : Flow) (naming : Naming) (old : Memory) (i offset : ℕ) (unknown : Bases) : Type 0 where
   pub zero : (b z : ℕ) (base : BaseInfo) (part : ZeroPart) → naming i ≡ Some b → has_base unknown b ≡ false → slice_get flow.bases.items b ≡ Some base → slice_get base.shape.zeros z ≡ Some part → HasByte part offset → first_zero (array_bytes part (bytes_at old i)) ≡ Some (offset - part.offset)
 
-module _ {I : Type 0} (l : LatticeOf I) (n : IntegersOf I) (stands : I → ℤ → Type 0) where
+module _ {I : Type 0} (l : LatticeOf I) (n : IntegersOf I) (gamma : I → ℤ → Type 0) where
   -- the row behind a write stands for the memory behind it
   abbrev pub AppendWritesStand : Type 0
-  AppendWritesStand = (flow : Flow) (naming : Naming) (row : List (Cell I)) (state : MachineState) → IsLaidOut flow (length row) → StandsFor l n stands flow naming row state
+  AppendWritesStand = (flow : Flow) (naming : Naming) (row : List (Cell I)) (state : MachineState) → IsLaidOut flow (length row) → InGamma l n gamma flow naming row state
       → (new : Memory) (i offset size : ℕ) → IsRegion state.memory new i offset size → IsMemoryOf flow.model flow.bases.items naming new
-      → (write : TextWrite I) → IsTextWrite l n stands write new i offset size
-      → (added : I) (unknown : Bases) → write.zero ≡ Append added unknown → (t : ℕ) → IsWrittenText new i offset size t → stands added (pos t) → EndsAt flow naming state.memory i offset unknown
+      → (write : TextWrite I) → IsTextWrite l n gamma write new i offset size
+      → (added : I) (unknown : Bases) → write.zero ≡ Append added unknown → (t : ℕ) → IsWrittenText new i offset size t → gamma added (pos t) → EndsAt flow naming state.memory i offset unknown
       → ((b : ℕ) → naming i ≡ Some b → 0 < size → has_base write.bases b ≡ true)
       → (is_one_instance flow.bases.items write.bases ≡ true → 0 < size → (b j : ℕ) → has_base write.bases b ≡ true → IsLiveOf naming state.memory b j → j ≡ i)
-      → StandsFor l n stands flow naming (write_text l n flow write row) (record { memory = new; temps = state.temps; entered = state.entered })
+      → InGamma l n gamma flow naming (write_text l n flow write row) (record { memory = new; temps = state.temps; entered = state.entered })

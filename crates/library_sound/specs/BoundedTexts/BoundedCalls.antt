@@ -19,6 +19,6 @@ abbrev pub IsBoundedCall : Operation → Type 0
 IsBoundedCall (op.Library to name arguments newest size) = CopiesBounded name
 IsBoundedCall _ = ⊥
 
-module _ {I : Type 0} (l : LatticeOf I) (n : IntegersOf I) (stands : I → ℤ → Type 0) (flow : Flow) where
+module _ {I : Type 0} (l : LatticeOf I) (n : IntegersOf I) (gamma : I → ℤ → Type 0) (flow : Flow) where
   abbrev pub BoundedCallsAreSound : Type 0
-  BoundedCallsAreSound = HasPremises flow → AreSound l n stands flow IsBoundedCall
+  BoundedCallsAreSound = HasPremises flow → AreSound l n gamma flow IsBoundedCall

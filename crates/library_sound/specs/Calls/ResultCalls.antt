@@ -30,6 +30,6 @@ abbrev pub IsResultCall : Operation → Type 0
 IsResultCall (op.Library to name arguments newest size) = GivesNumber name
 IsResultCall _ = ⊥
 
-module _ {I : Type 0} (l : LatticeOf I) (n : IntegersOf I) (stands : I → ℤ → Type 0) (flow : Flow) where
+module _ {I : Type 0} (l : LatticeOf I) (n : IntegersOf I) (gamma : I → ℤ → Type 0) (flow : Flow) where
   abbrev pub ResultCallsAreSound : Type 0
-  ResultCallsAreSound = HasPremises flow → AreSound l n stands flow IsResultCall
+  ResultCallsAreSound = HasPremises flow → AreSound l n gamma flow IsResultCall

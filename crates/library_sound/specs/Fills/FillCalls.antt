@@ -18,6 +18,6 @@ abbrev pub IsFillCall : Operation → Type 0
 IsFillCall (op.Library to name arguments newest size) = SetsBytes name
 IsFillCall _ = ⊥
 
-module _ {I : Type 0} (l : LatticeOf I) (n : IntegersOf I) (stands : I → ℤ → Type 0) (flow : Flow) where
+module _ {I : Type 0} (l : LatticeOf I) (n : IntegersOf I) (gamma : I → ℤ → Type 0) (flow : Flow) where
   abbrev pub FillCallsAreSound : Type 0
-  FillCallsAreSound = HasPremises flow → AreSound l n stands flow IsFillCall
+  FillCallsAreSound = HasPremises flow → AreSound l n gamma flow IsFillCall

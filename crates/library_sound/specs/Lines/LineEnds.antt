@@ -14,6 +14,6 @@ abbrev pub IsLineEnd : Operation → Type 0
 IsLineEnd (op.ReadLine to line count stream) = Unit {0}
 IsLineEnd _ = ⊥
 
-module _ {I : Type 0} (l : LatticeOf I) (n : IntegersOf I) (stands : I → ℤ → Type 0) (flow : Flow) where
+module _ {I : Type 0} (l : LatticeOf I) (n : IntegersOf I) (gamma : I → ℤ → Type 0) (flow : Flow) where
   abbrev pub LineEndsAreSound : Type 0
-  LineEndsAreSound = (limits : Limits) → HasPremises flow → EndsAreSound l n stands flow limits IsLineEnd
+  LineEndsAreSound = (limits : Limits) → HasPremises flow → EndsAreSound l n gamma flow limits IsLineEnd

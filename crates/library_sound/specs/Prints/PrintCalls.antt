@@ -18,6 +18,6 @@ abbrev pub IsPrintCall : Operation → Type 0
 IsPrintCall (op.Library to name arguments newest size) = Prints name
 IsPrintCall _ = ⊥
 
-module _ {I : Type 0} (l : LatticeOf I) (n : IntegersOf I) (stands : I → ℤ → Type 0) (flow : Flow) where
+module _ {I : Type 0} (l : LatticeOf I) (n : IntegersOf I) (gamma : I → ℤ → Type 0) (flow : Flow) where
   abbrev pub PrintCallsAreSound : Type 0
-  PrintCallsAreSound = HasPremises flow → AreSound l n stands flow IsPrintCall
+  PrintCallsAreSound = HasPremises flow → AreSound l n gamma flow IsPrintCall

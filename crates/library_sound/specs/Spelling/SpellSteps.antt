@@ -34,6 +34,6 @@ SpellsCharacters flow _ = ⊥
 abbrev pub FollowedArraysAreCharacters : Flow → Type 0
 FollowedArraysAreCharacters flow = HasPremises flow → (b z : ℕ) (info : BaseInfo) (part : ZeroPart) (room : ℕ) → slice_get flow.bases.items b ≡ Some info → info.shape.heap ≡ false → slice_get info.shape.zeros z ≡ Some part → part.size ≡ Some room → AreCharacters flow info part.offset room
 
-module _ {I : Type 0} (l : LatticeOf I) (n : IntegersOf I) (stands : I → ℤ → Type 0) (flow : Flow) where
+module _ {I : Type 0} (l : LatticeOf I) (n : IntegersOf I) (gamma : I → ℤ → Type 0) (flow : Flow) where
   abbrev pub SpellStepsAreSound : Type 0
-  SpellStepsAreSound = (limits : Limits) → is_well_formed limits flow ≡ true → HasPremises flow → AreSound l n stands flow (SpellsCharacters flow)
+  SpellStepsAreSound = (limits : Limits) → is_well_formed limits flow ≡ true → HasPremises flow → AreSound l n gamma flow (SpellsCharacters flow)

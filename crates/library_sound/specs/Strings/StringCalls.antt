@@ -21,6 +21,6 @@ abbrev pub IsStringCall : Operation → Type 0
 IsStringCall (op.Library to name arguments newest size) = ReadsStrings name
 IsStringCall _ = ⊥
 
-module _ {I : Type 0} (l : LatticeOf I) (n : IntegersOf I) (stands : I → ℤ → Type 0) (flow : Flow) where
+module _ {I : Type 0} (l : LatticeOf I) (n : IntegersOf I) (gamma : I → ℤ → Type 0) (flow : Flow) where
   abbrev pub StringCallsAreSound : Type 0
-  StringCallsAreSound = HasPremises flow → AreSound l n stands flow IsStringCall
+  StringCallsAreSound = HasPremises flow → AreSound l n gamma flow IsStringCall

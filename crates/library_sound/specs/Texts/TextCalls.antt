@@ -19,6 +19,6 @@ abbrev pub IsTextCall : Operation → Type 0
 IsTextCall (op.Library to name arguments newest size) = CopiesText name
 IsTextCall _ = ⊥
 
-module _ {I : Type 0} (l : LatticeOf I) (n : IntegersOf I) (stands : I → ℤ → Type 0) (flow : Flow) where
+module _ {I : Type 0} (l : LatticeOf I) (n : IntegersOf I) (gamma : I → ℤ → Type 0) (flow : Flow) where
   abbrev pub TextCallsAreSound : Type 0
-  TextCallsAreSound = HasPremises flow → AreSound l n stands flow IsTextCall
+  TextCallsAreSound = HasPremises flow → AreSound l n gamma flow IsTextCall

@@ -49,13 +49,13 @@ use Rattle.memory_model.specs.Effects.Worlds.{World, Reply, goes, behind, drawn,
 use Rattle.semantics.specs.CfgMachine.FlowStates.{Standing, values_of}
 use Rattle.semantics.specs.CfgMachine.FlowActs.{calling}
 use Rattle.store_sound.specs.Concretization.SeenLabels.{as_set}
-use Rattle.store_sound.specs.Concretization.ValueMeaning.{Naming, StandsScalar}
-use Rattle.store_sound.specs.Concretization.RowMeaning.{StandsFor}
+use Rattle.store_sound.specs.Concretization.ValueMeaning.{Naming, InGammaScalar}
+use Rattle.store_sound.specs.Concretization.RowMeaning.{InGamma}
 use Rattle.store_sound.specs.Concretization.Coverage.{state_of}
 use Rattle.store_cells.specs.AccessWindows.{last_offset}
 use Rattle.store_sound.proofs.operations.TouchedRest.{near_stands}
 use Rattle.store_sound.specs.Programs.Premises.{HasPremises}
-use Rattle.library_sound.specs.SoundSteps.{AreShort, IsReached, StandsBehind, IsStoodFor}
+use Rattle.library_sound.specs.SoundSteps.{AreShort, IsReached, InGammaAfter, IsStoodFor}
 use Rattle.library_sound.proofs.Admitted.{AreAdmitted, none_admitted, one_admitted, both_admitted}
 use Rattle.library_sound.proofs.PutTemps.{IsResult, put_stands, put_long}
 use Rattle.library_sound.proofs.Replies.{stop_good}
@@ -94,7 +94,7 @@ most_is m h = elim (pointer_sized m h) [
 pub labels_told : (t : Labels) (labels : sets.Labels) → labels_leq (as_set t) labels ≡ true → not (is_unlabelled t) ≡ true → not (set.is_unlabelled labels) ≡ true
 labels_told t labels h e = grind arith
 
-module _ {I : Type 0} {l : LatticeOf I} {n : IntegersOf I} {stands : I → ℤ → Type 0} (o : OrderLaws l) (q : BoundLaws l n stands) (flow : Flow) (limits : Limits) (good : is_well_formed limits flow ≡ true) (p : HasPremises flow) (naming : Naming) (row : List (Cell I)) (s : Standing) (r : IsReached l n stands flow naming row s) (to : Option ℕ) (has : has_result (names_of flow) to ≡ true)
+module _ {I : Type 0} {l : LatticeOf I} {n : IntegersOf I} {gamma : I → ℤ → Type 0} (o : OrderLaws l) (q : BoundLaws l n gamma) (flow : Flow) (limits : Limits) (good : is_well_formed limits flow ≡ true) (p : HasPremises flow) (naming : Naming) (row : List (Cell I)) (s : Standing) (r : IsReached l n gamma flow naming row s) (to : Option ℕ) (has : has_result (names_of flow) to ≡ true)
     (newest : ℕ) (at_site : is_site flow.bases.items (Some newest) ≡ true) where
   t : IsSiteOf flow newest (newest + 1)
   t = site_is limits flow good p newest at_site
@@ -105,18 +105,18 @@ module _ {I : Type 0} {l : LatticeOf I} {n : IntegersOf I} {stands : I → ℤ �
   -- ---- what goes on with another memory, under other names
 
   module _ (plan : Plan I) (found : List Rule) (fine : AreAdmitted plan.violations found) (draws : List ℤ) (memory : Memory) (names : Naming) (short : AreShort flow.model memory) (behind_row : List (Cell I)) (long : length behind_row ≡ flow.width)
-      (stands_after : StandsFor l n stands flow names behind_row (record { memory = memory; temps = s.temps; entered = s.bases })) (x : Value I) (v : Scalar) (result : IsResult q flow p names memory x v) (is : apply l n flow to (Some newest) plan.effect row ≡ Some (put_result flow to x behind_row)) where
+      (stands_after : InGamma l n gamma flow names behind_row (record { memory = memory; temps = s.temps; entered = s.bases })) (x : Value I) (v : Scalar) (result : IsResult q flow p names memory x v) (is : apply l n flow to (Some newest) plan.effect row ≡ Some (put_result flow to x behind_row)) where
     abbrev world_after : World
     world_after = record (s.world) { memory = memory; draws = draws; violated = found }
 
-    by_result : (a : Option ℕ) → has_result (names_of flow) a ≡ true → IsStoodFor l n stands flow (Some (put_result flow a x behind_row)) plan.violations (calling s a (goes (Some v) world_after))
-    by_result None h = stop_good l n stands flow _ plan.violations Stuck s.world (clean q flow p naming row s r plan.violations)
+    by_result : (a : Option ℕ) → has_result (names_of flow) a ≡ true → IsStoodFor l n gamma flow (Some (put_result flow a x behind_row)) plan.violations (calling s a (goes (Some v) world_after))
+    by_result None h = stop_good l n gamma flow _ plan.violations Stuck s.world (clean q flow p naming row s r plan.violations)
     by_result (Some a) h = record {
       goes_on = λ u w e.
           let now : Standing = record s { at = suc s.at; temps = put_at s.temps a v; world = world_after } in
           let b : now ≡ u = cc in
           let c : world_after ≡ w = cc in
-          let here : StandsBehind l n stands flow (Some (put_result flow (Some a) x behind_row)) (record now { world = world_after }) = record {
+          let here : InGammaAfter l n gamma flow (Some (put_result flow (Some a) x behind_row)) (record now { world = world_after }) = record {
             row = put_result flow (Some a) x behind_row;
             is = refl;
             long = put_long q flow p names behind_row long (record { memory = memory; temps = s.temps; entered = s.bases }) stands_after a (ltb-true a flow.temps h) x v result;
@@ -124,13 +124,13 @@ module _ {I : Type 0} {l : LatticeOf I} {n : IntegersOf I} {stands : I → ℤ �
             stands_for = put_stands q flow p names behind_row long (record { memory = memory; temps = s.temps; entered = s.bases }) stands_after a (ltb-true a flow.temps h) x v result;
             short = short;
           } in
-          subst (λ z. StandsBehind l n stands flow (Some (put_result flow (Some a) x behind_row)) (record z { world = w })) b
-          (subst (λ z. StandsBehind l n stands flow (Some (put_result flow (Some a) x behind_row)) (record now { world = z })) c here);
+          subst (λ z. InGammaAfter l n gamma flow (Some (put_result flow (Some a) x behind_row)) (record z { world = w })) b
+          (subst (λ z. InGammaAfter l n gamma flow (Some (put_result flow (Some a) x behind_row)) (record now { world = z })) c here);
       admits = fine;
     }
 
     pub given_good : Good plan (goes (Some v) world_after)
-    given_good = subst (λ z. IsStoodFor l n stands flow z plan.violations (calling s to (goes (Some v) world_after))) (sym is) (by_result to has)
+    given_good = subst (λ z. IsStoodFor l n gamma flow z plan.violations (calling s to (goes (Some v) world_after))) (sym is) (by_result to has)
 
   -- ---- a size that is asked for
 
@@ -194,7 +194,7 @@ module _ {I : Type 0} {l : LatticeOf I} {n : IntegersOf I} {stands : I → ℤ �
 
       -- an instance is made
       module _ (few : count ≤ most_size flow.model) where
-        sized : stands size (pos count)
+        sized : gamma size (pos count)
         sized =
             let most = most_is flow.model p.model in
             let top = most.0 in
@@ -254,7 +254,7 @@ module _ {I : Type 0} {l : LatticeOf I} {n : IntegersOf I} {stands : I → ℤ �
     abbrev argument : ℕ → Value I
     argument place = value_of o q flow p naming row s r to has (Some newest) items wanted vs e place
 
-    number_at : (place : ℕ) (z : ℤ) (la : Labels) → slice_get vs place ≡ Some (integer z la) → StandsScalar stands naming s.world.memory (argument place) (integer z la)
+    number_at : (place : ℕ) (z : ℤ) (la : Labels) → slice_get vs place ≡ Some (integer z la) → InGammaScalar gamma naming s.world.memory (argument place) (integer z la)
     number_at place z la h = argument_stands o q flow p naming row s r to has (Some newest) items wanted vs e place (integer z la) h
 
     range_at : (place : ℕ) (z : ℤ) (la : Labels) → slice_get vs place ≡ Some (integer z la) → pos 0 ≤ℤ z → RangeHas (n.bounds (argument place).num) (pos (size_of z))

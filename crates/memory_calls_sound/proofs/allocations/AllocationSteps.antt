@@ -42,7 +42,7 @@ sized_at temps items vs e sized at z la h =
     let a = argument_there temps items vs e at (integer z la) h in
     sizes_at items temps sized at a.temp a.there z la a.has
 
-module _ {I : Type 0} {l : LatticeOf I} {n : IntegersOf I} {stands : I → ℤ → Type 0} (o : OrderLaws l) (q : BoundLaws l n stands) (flow : Flow) (limits : Limits) (good : is_well_formed limits flow ≡ true) (p : HasPremises flow) (naming : Naming) (row : List (Cell I)) (s : Standing) (r : IsReached l n stands flow naming row s) (to : Option ℕ) (has : has_result (names_of flow) to ≡ true) (newest : ℕ) (at_site : is_site flow.bases.items (Some newest) ≡ true) where
+module _ {I : Type 0} {l : LatticeOf I} {n : IntegersOf I} {gamma : I → ℤ → Type 0} (o : OrderLaws l) (q : BoundLaws l n gamma) (flow : Flow) (limits : Limits) (good : is_well_formed limits flow ≡ true) (p : HasPremises flow) (naming : Naming) (row : List (Cell I)) (s : Standing) (r : IsReached l n gamma flow naming row s) (to : Option ℕ) (has : has_result (names_of flow) to ≡ true) (newest : ℕ) (at_site : is_site flow.bases.items (Some newest) ≡ true) where
   stuck_here : (plan : _) → Good o q flow p naming row s r to has (Some newest) plan (stops Stuck s.world)
   stuck_here plan = plain_stop o q flow p naming row s r to has (Some newest) plan s.world.violated (clean q flow p naming row s r plan.violations) Stuck
 
@@ -62,20 +62,20 @@ module _ {I : Type 0} {l : LatticeOf I} {n : IntegersOf I} {stands : I → ℤ �
       calloc_good o q flow limits good p naming row s r to has newest at_site items wanted both e k z la lb refl refl (sized_at s.temps items both e sized 0 k la refl) (sized_at s.temps items both e sized 1 z lb refl)
   by_name _ h items wanted vs e sized = absurd h
 
-module _ {I : Type 0} {l : LatticeOf I} {n : IntegersOf I} {stands : I → ℤ → Type 0} (o : OrderLaws l) (q : BoundLaws l n stands) (flow : Flow) (limits : Limits) (good : is_well_formed limits flow ≡ true) (p : HasPremises flow) (naming : Naming) (row : List (Cell I)) (s : Standing) (r : IsReached l n stands flow naming row s) where
-  pub allocation_call_sound : (to : Option ℕ) (name : LibFn) (arguments : _) (newest : ℕ) (size : Option ℕ) → Allocates name → fits_operation (names_of flow) (op.Library to name arguments (Some newest) size) ≡ true → HasSizes arguments.items s.temps → StepIsSound l n stands flow row (op.Library to name arguments (Some newest) size) s
+module _ {I : Type 0} {l : LatticeOf I} {n : IntegersOf I} {gamma : I → ℤ → Type 0} (o : OrderLaws l) (q : BoundLaws l n gamma) (flow : Flow) (limits : Limits) (good : is_well_formed limits flow ≡ true) (p : HasPremises flow) (naming : Naming) (row : List (Cell I)) (s : Standing) (r : IsReached l n gamma flow naming row s) where
+  pub allocation_call_sound : (to : Option ℕ) (name : LibFn) (arguments : _) (newest : ℕ) (size : Option ℕ) → Allocates name → fits_operation (names_of flow) (op.Library to name arguments (Some newest) size) ≡ true → HasSizes arguments.items s.temps → StepIsSound l n gamma flow row (op.Library to name arguments (Some newest) size) s
   unfolding operate call_step operation_violations
   allocation_call_sound to name arguments newest size is fits sized =
       let a = and_parts (has_result (names_of flow) to) (list_all (has_temp (names_of flow)) arguments.items && (is_site flow.bases.items (Some newest) && is_optional_extent size)) fits in
       let b = and_parts (list_all (has_temp (names_of flow)) arguments.items) (is_site flow.bases.items (Some newest) && is_optional_extent size) a.1 in
       let at_site = (and_parts (is_site flow.bases.items (Some newest)) (is_optional_extent size) b.1).0 in
-      if_some_good l n stands flow _ _ s r.begun (values_of s.temps arguments.items) _ (λ vs e. by_name o q flow limits good p naming row s r to a.0 newest at_site name is arguments.items size vs e sized)
+      if_some_good l n gamma flow _ _ s r.begun (values_of s.temps arguments.items) _ (λ vs e. by_name o q flow limits good p naming row s r to a.0 newest at_site name is arguments.items size vs e sized)
 
-  by_operands : (to : Option ℕ) (name : LibFn) (arguments : _) (newest : ℕ) (size : Option ℕ) → Allocates name → fits_operation (names_of flow) (op.Library to name arguments (Some newest) size) ≡ true → HasOperands (op.Library to name arguments (Some newest) size) s.temps → StepIsSound l n stands flow row (op.Library to name arguments (Some newest) size) s
+  by_operands : (to : Option ℕ) (name : LibFn) (arguments : _) (newest : ℕ) (size : Option ℕ) → Allocates name → fits_operation (names_of flow) (op.Library to name arguments (Some newest) size) ≡ true → HasOperands (op.Library to name arguments (Some newest) size) s.temps → StepIsSound l n gamma flow row (op.Library to name arguments (Some newest) size) s
   by_operands to f.Malloc arguments newest size is fits sized = allocation_call_sound to f.Malloc arguments newest size is fits sized
   by_operands to f.Calloc arguments newest size is fits sized = allocation_call_sound to f.Calloc arguments newest size is fits sized
   by_operands to _ arguments newest size is fits sized = absurd is
 
-  pub allocation_step_sound : (i : Operation) → IsAllocationCall i → fits_operation (names_of flow) i ≡ true → HasOperands i s.temps → StepIsSound l n stands flow row i s
+  pub allocation_step_sound : (i : Operation) → IsAllocationCall i → fits_operation (names_of flow) i ≡ true → HasOperands i s.temps → StepIsSound l n gamma flow row i s
   allocation_step_sound (op.Library to name arguments (Some newest) size) is fits sized = by_operands to name arguments newest size is fits sized
   allocation_step_sound i is fits sized = absurd is

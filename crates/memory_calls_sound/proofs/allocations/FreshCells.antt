@@ -27,8 +27,8 @@ use Rattle.memory_model.specs.Effects.AllocationCalls.{untyped}
 use Rattle.store_sound.specs.Concretization.FirstZeroBytes.{first_zero, zero_offset}
 use Rattle.store_sound.specs.Concretization.Matching.{Matched, number_in}
 use Rattle.store_sound.specs.Concretization.SeenLabels.{as_set}
-use Rattle.store_sound.specs.Concretization.ValueMeaning.{Naming, StandsContent, StandsZero}
-use Rattle.store_sound.specs.Concretization.RowMeaning.{IsLiveOf, StandsCell}
+use Rattle.store_sound.specs.Concretization.ValueMeaning.{Naming, InGammaContent, InGammaZero}
+use Rattle.store_sound.specs.Concretization.RowMeaning.{IsLiveOf, InGammaCell}
 use Rattle.store_sound.proofs.operations.Classes.{class_above}
 use Rattle.store_sound.proofs.operations.Slices.{get_there}
 use Rattle.store_sound.proofs.operations.StoreZeros.{zero_small, offset_near}
@@ -72,7 +72,7 @@ number_is_nil : (y : Labelled) → number_in y ≡ number 0 no_labels → y.numb
 unfolding number_or
 number_is_nil y e = ap number_or e
 
-module _ {I : Type 0} {l : LatticeOf I} {n : IntegersOf I} {stands : I → ℤ → Type 0} (o : OrderLaws l) (q : BoundLaws l n stands) (flow : Flow) (naming : Naming) (memory : Memory) (b i : ℕ) (sole : (j : ℕ) → IsLiveOf naming memory b j → j ≡ i) (c : Content) (each : (x : ℕ) (byte : Byte) → byte_at memory i x ≡ Some byte → byte.content ≡ c) where
+module _ {I : Type 0} {l : LatticeOf I} {n : IntegersOf I} {gamma : I → ℤ → Type 0} (o : OrderLaws l) (q : BoundLaws l n gamma) (flow : Flow) (naming : Naming) (memory : Memory) (b i : ℕ) (sole : (j : ℕ) → IsLiveOf naming memory b j → j ≡ i) (c : Content) (each : (x : ℕ) (byte : Byte) → byte_at memory i x ≡ Some byte → byte.content ≡ c) where
   module _ (class : Class) (signed : Bool) (Place Owns : ℕ → ℕ → Type 0) where
     content_is : (j x k : ℕ) (d : Content) → IsLiveOf naming memory b j → Matched memory j x class k d → d ≡ c
     content_is j x k d h m =
@@ -81,7 +81,7 @@ module _ {I : Type 0} {l : LatticeOf I} {n : IntegersOf I} {stands : I → ℤ �
         each x one (subst (λ z. byte_at memory z x ≡ Some one) mine m.here)
 
     -- indeterminate bytes
-    pub blank_cell : c ≡ indeterminate → StandsCell stands flow naming memory b class signed Place Owns (near_value l n (blank_value l))
+    pub blank_cell : c ≡ indeterminate → InGammaCell gamma flow naming memory b class signed Place Owns (near_value l n (blank_value l))
     blank_cell is = record {
       whole = λ j x ns h place plain held.
           let size = held.size in
@@ -90,17 +90,17 @@ module _ {I : Type 0} {l : LatticeOf I} {n : IntegersOf I} {stands : I → ℤ �
           let m = held.each 0 y.0 (omega (arith, size, above)) y.1 in
           let z : number_in y.0 ≡ indeterminate = content_is j (x + 0) 0 (number_in y.0) h m ∙ is in
           cc;
-      byte = λ j x k d h owns m. subst (StandsContent stands naming memory (near_value l n (blank_value l)) class) (sym (content_is j x k d h m ∙ is)) refl;
+      byte = λ j x k d h owns m. subst (InGammaContent gamma naming memory (near_value l n (blank_value l)) class) (sym (content_is j x k d h m ∙ is)) refl;
     }
 
-    zero_number : (z : ℤ) → z ≡ pos 0 → is_pointer class ≡ false → stands (near_value l n (zero_value l n class)).num z
+    zero_number : (z : ℤ) → z ≡ pos 0 → is_pointer class ≡ false → gamma (near_value l n (zero_value l n class)).num z
     zero_number z is plain = by_class (is_pointer class) plain
       where
-        by_class : (p : Bool) → p ≡ false → stands (near_value l n (cond p (pointer_value l (null_pointer l)) (number_value l (n.one (pos 0)) set.no_labels))).num z
+        by_class : (p : Bool) → p ≡ false → gamma (near_value l n (cond p (pointer_value l (null_pointer l)) (number_value l (n.one (pos 0)) set.no_labels))).num z
         by_class true e = cc
-        by_class false e = subst (stands (near_number l n (n.one (pos 0)))) (sym is) (near_stands o q (n.one (pos 0)) (pos 0) (omega (arith, ints)) (omega (arith, ints)) (q.one_stands (pos 0)))
+        by_class false e = subst (gamma (near_number l n (n.one (pos 0)))) (sym is) (near_stands o q (n.one (pos 0)) (pos 0) (omega (arith, ints)) (omega (arith, ints)) (q.one_stands (pos 0)))
 
-    zero_content : StandsContent stands naming memory (near_value l n (zero_value l n class)) class (number 0 no_labels)
+    zero_content : InGammaContent gamma naming memory (near_value l n (zero_value l n class)) class (number 0 no_labels)
     zero_content = (by_labels (is_pointer class), λ e. by_null (is_pointer class) e)
       where
         by_labels : (p : Bool) → labels_leq (as_set no_labels) (near_value l n (cond p (pointer_value l (null_pointer l)) (number_value l (n.one (pos 0)) set.no_labels))).labels ≡ true
@@ -112,25 +112,25 @@ module _ {I : Type 0} {l : LatticeOf I} {n : IntegersOf I} {stands : I → ℤ �
         by_null false e = cc
 
     -- zeros
-    pub zero_cell : c ≡ number 0 no_labels → StandsCell stands flow naming memory b class signed Place Owns (near_value l n (zero_value l n class))
+    pub zero_cell : c ≡ number 0 no_labels → InGammaCell gamma flow naming memory b class signed Place Owns (near_value l n (zero_value l n class))
     zero_cell is = record {
       whole = λ j x ns h place plain held. zero_number (number_of signed ns) (nil_number signed ns (nil_unsigned ns (λ k y e. number_is_nil y (content_is j (x + k) k (number_in y) h (held.each k y (slice_get_within ns k y e) e) ∙ is)))) plain;
-      byte = λ j x k d h owns m. subst (StandsContent stands naming memory (near_value l n (zero_value l n class)) class) (sym (content_is j x k d h m ∙ is)) zero_content;
+      byte = λ j x k d h owns m. subst (InGammaContent gamma naming memory (near_value l n (zero_value l n class)) class) (sym (content_is j x k d h m ∙ is)) zero_content;
     }
 
 -- ---- first zeros
 
-module _ {I : Type 0} {l : LatticeOf I} {n : IntegersOf I} {stands : I → ℤ → Type 0} (o : OrderLaws l) (q : BoundLaws l n stands) (naming : Naming) (memory : Memory) (size : ℕ) (small : size ≤ 2 ^ 64 - 1) where
-  pub blank_zero : StandsZero stands naming memory (record { at = near_number l n (no_zero n).at }) (untyped indeterminate size)
-  blank_zero = subst (λ z. stands (near_number l n (no_zero n).at) (zero_offset z)) (sym (no_first_zero size)) (near_stands o q (n.one the_end) the_end (omega (arith, ints)) (omega (arith, ints)) (q.one_stands the_end))
+module _ {I : Type 0} {l : LatticeOf I} {n : IntegersOf I} {gamma : I → ℤ → Type 0} (o : OrderLaws l) (q : BoundLaws l n gamma) (naming : Naming) (memory : Memory) (size : ℕ) (small : size ≤ 2 ^ 64 - 1) where
+  pub blank_zero : InGammaZero gamma naming memory (record { at = near_number l n (no_zero n).at }) (untyped indeterminate size)
+  blank_zero = subst (λ z. gamma (near_number l n (no_zero n).at) (zero_offset z)) (sym (no_first_zero size)) (near_stands o q (n.one the_end) the_end (omega (arith, ints)) (omega (arith, ints)) (q.one_stands the_end))
 
-  pub zeros_zero : (least : ℤ) → least ≤ℤ pos size → StandsZero stands naming memory (record { at = near_number l n (zero_if_any l n least).at }) (untyped (number 0 no_labels) size)
+  pub zeros_zero : (least : ℤ) → least ≤ℤ pos size → InGammaZero gamma naming memory (record { at = near_number l n (zero_if_any l n least).at }) (untyped (number 0 no_labels) size)
   zeros_zero least below = by_least (int_le (pos 1) least) refl
     where
-      by_least : (some : Bool) → int_le (pos 1) least ≡ some → StandsZero stands naming memory (record { at = near_number l n (cond some (zero_first n) (any_zero l n)).at }) (untyped (number 0 no_labels) size)
+      by_least : (some : Bool) → int_le (pos 1) least ≡ some → InGammaZero gamma naming memory (record { at = near_number l n (cond some (zero_first n) (any_zero l n)).at }) (untyped (number 0 no_labels) size)
       by_least true e =
           let above : pos 1 ≤ℤ least = grind (arith, ints) in
-          subst (λ z. stands (near_number l n (n.one (pos 0))) (zero_offset z)) (sym (at_first size (omega (arith, ints, above, below)))) (near_stands o q (n.one (pos 0)) (pos 0) (omega (arith, ints)) (omega (arith, ints)) (q.one_stands (pos 0)))
+          subst (λ z. gamma (near_number l n (n.one (pos 0))) (zero_offset z)) (sym (at_first size (omega (arith, ints, above, below)))) (near_stands o q (n.one (pos 0)) (pos 0) (omega (arith, ints)) (omega (arith, ints)) (q.one_stands (pos 0)))
       by_least false e =
           let long = untyped_long (number 0 no_labels) size in
           let a = offset_near (first_zero (untyped (number 0 no_labels) size)) (λ k f. let w = zero_small (untyped (number 0 no_labels) size) k f in omega (arith, w, small, long)) in

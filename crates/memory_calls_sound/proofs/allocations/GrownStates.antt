@@ -22,8 +22,8 @@ use Rattle.memory_model.specs.Memory.Instances.{Memory, Instance, allocated, Lif
 use Rattle.memory_model.specs.Memory.Scalars.{Scalar}
 use Rattle.memory_model.specs.Effects.ObjectEffects.{fresh}
 use Rattle.store_sound.specs.Concretization.SoundMemory.{storage_for, IsInstanceOf, IsFreedRightly, IsMemoryOf, IsContentIn, IsContentNamed}
-use Rattle.store_sound.specs.Concretization.ValueMeaning.{Naming, StandsZero, StandsState, StandsScalar}
-use Rattle.store_sound.specs.Concretization.RowMeaning.{MachineState, array_bytes, IsLiveOf, StandsLeaf, StandsClass, StandsFor}
+use Rattle.store_sound.specs.Concretization.ValueMeaning.{Naming, InGammaZero, InGammaState, InGammaScalar}
+use Rattle.store_sound.specs.Concretization.RowMeaning.{MachineState, array_bytes, IsLiveOf, InGammaLeaf, InGammaClass, InGamma}
 use Rattle.library_sound.proofs.GrownMemory.{IsGrown, grows, NamesToo, naming_too, names_too, life_stays, bytes_stay, byte_stays, scalar_in_grows, content_in_grows, named_grows, content_named_grows, was_there, scalar_grows, cell_grows}
 
 live_freed : live ≡ freed → ⊥
@@ -35,7 +35,7 @@ live_ends e = cc
 automatic_storage : storage_for Automatic ≡ allocated → ⊥
 automatic_storage e = cc
 
-module _ {I : Type 0} {l : LatticeOf I} {n : IntegersOf I} {stands : I → ℤ → Type 0} (flow : Flow) (naming : Naming) (row : List (Cell I)) (state : MachineState) (s : StandsFor l n stands flow naming row state)
+module _ {I : Type 0} {l : LatticeOf I} {n : IntegersOf I} {gamma : I → ℤ → Type 0} (flow : Flow) (naming : Naming) (row : List (Cell I)) (state : MachineState) (s : InGamma l n gamma flow naming row state)
     (b : ℕ) (info : BaseInfo) (at : slice_get flow.bases.items b ≡ Some info) (heap : info.shape.heap ≡ true) (storage : storage_for info.kind ≡ allocated) (none : (i : ℕ) → naming i ≡ Some b → ⊥) (bytes : List Byte) (sized : length bytes ≤ last_offset)
     (contents : (k : ℕ) (x : Byte) → slice_get bytes k ≡ Some x → IsContentIn state.memory x.content x.tag × IsContentNamed naming state.memory x.content)
     (tagged : (k : ℕ) (x : Byte) (tag : Tag) → slice_get bytes k ≡ Some x → x.tag ≡ Some tag → tag.at < class_bytes flow.model tag.class) where
@@ -164,10 +164,10 @@ module _ {I : Type 0} {l : LatticeOf I} {n : IntegersOf I} {stands : I → ℤ �
 
   -- the cells of the base stand for the instance
   pub record StandsFresh : Type 0 where
-    pub leaves : (j : ℕ) (leaf : Leaf) → slice_get info.shape.cells j ≡ Some leaf → StandsLeaf stands flow named_too grown b leaf (value_at l n row (leaf_position info j))
-    pub classes : (c : ℕ) → c < 6 → StandsClass stands flow named_too grown b info (class_at c) (value_at l n row (class_position info c))
-    pub zeros : (z : ℕ) (part : ZeroPart) → slice_get info.shape.zeros z ≡ Some part → StandsZero stands named_too grown (zero_at l n row (zero_position info z)) (array_bytes part bytes)
-    pub state_is : StandsState stands named_too grown (state_at l n row (state_position info)) live (length bytes)
+    pub leaves : (j : ℕ) (leaf : Leaf) → slice_get info.shape.cells j ≡ Some leaf → InGammaLeaf gamma flow named_too grown b leaf (value_at l n row (leaf_position info j))
+    pub classes : (c : ℕ) → c < 6 → InGammaClass gamma flow named_too grown b info (class_at c) (value_at l n row (class_position info c))
+    pub zeros : (z : ℕ) (part : ZeroPart) → slice_get info.shape.zeros z ≡ Some part → InGammaZero gamma named_too grown (zero_at l n row (zero_position info z)) (array_bytes part bytes)
+    pub state_is : InGammaState gamma named_too grown (state_at l n row (state_position info)) live (length bytes)
 
   -- the one live instance of the base
   pub own_at : (j : ℕ) → IsLiveOf named_too grown b j → j ≡ i
@@ -180,52 +180,52 @@ module _ {I : Type 0} {l : LatticeOf I} {n : IntegersOf I} {stands : I → ℤ �
     same_info : (d : ℕ) (other : BaseInfo) → slice_get flow.bases.items d ≡ Some other → d ≡ b → other ≡ info
     same_info d other e g = same_Some other info (sym e ∙ (ap (slice_get flow.bases.items) g ∙ at))
 
-    leaf_by : (d j : ℕ) (other : BaseInfo) (leaf : Leaf) → slice_get flow.bases.items d ≡ Some other → slice_get other.shape.cells j ≡ Some leaf → StandsLeaf stands flow named_too grown d leaf (value_at l n row (leaf_position other j))
+    leaf_by : (d j : ℕ) (other : BaseInfo) (leaf : Leaf) → slice_get flow.bases.items d ≡ Some other → slice_get other.shape.cells j ≡ Some leaf → InGammaLeaf gamma flow named_too grown d leaf (value_at l n row (leaf_position other j))
     leaf_by d j other leaf e f = elim (cases_eq d b) [
       | inl g ↦ (let same = same_info d other e g in
-          subst (λ z. StandsLeaf stands flow named_too grown z leaf (value_at l n row (leaf_position other j))) (sym g)
-          (subst (λ z. StandsLeaf stands flow named_too grown b leaf (value_at l n row (leaf_position z j))) (sym same) (own.leaves j leaf (ap (λ z. slice_get z.shape.cells j) (sym same) ∙ f))))
-      | inr ne ↦ cell_grows w t stands flow s.sane.bytes d leaf.class leaf.signed _ _ _ ne (s.leaves d j other leaf e f)
+          subst (λ z. InGammaLeaf gamma flow named_too grown z leaf (value_at l n row (leaf_position other j))) (sym g)
+          (subst (λ z. InGammaLeaf gamma flow named_too grown b leaf (value_at l n row (leaf_position z j))) (sym same) (own.leaves j leaf (ap (λ z. slice_get z.shape.cells j) (sym same) ∙ f))))
+      | inr ne ↦ cell_grows w t gamma flow s.sane.bytes d leaf.class leaf.signed _ _ _ ne (s.leaves d j other leaf e f)
     ]
 
-    class_by : (d c : ℕ) (other : BaseInfo) → slice_get flow.bases.items d ≡ Some other → other.shape.heap ≡ true → c < 6 → StandsClass stands flow named_too grown d other (class_at c) (value_at l n row (class_position other c))
+    class_by : (d c : ℕ) (other : BaseInfo) → slice_get flow.bases.items d ≡ Some other → other.shape.heap ≡ true → c < 6 → InGammaClass gamma flow named_too grown d other (class_at c) (value_at l n row (class_position other c))
     class_by d c other e h small = elim (cases_eq d b) [
-      | inl g ↦ subst (λ z. StandsClass stands flow named_too grown z other (class_at c) (value_at l n row (class_position other c))) (sym g)
-          (subst (λ z. StandsClass stands flow named_too grown b z (class_at c) (value_at l n row (class_position z c))) (sym (same_info d other e g)) (own.classes c small))
-      | inr ne ↦ cell_grows w t stands flow s.sane.bytes d (class_at c) true _ _ _ ne (s.classes d c other e h small)
+      | inl g ↦ subst (λ z. InGammaClass gamma flow named_too grown z other (class_at c) (value_at l n row (class_position other c))) (sym g)
+          (subst (λ z. InGammaClass gamma flow named_too grown b z (class_at c) (value_at l n row (class_position z c))) (sym (same_info d other e g)) (own.classes c small))
+      | inr ne ↦ cell_grows w t gamma flow s.sane.bytes d (class_at c) true _ _ _ ne (s.classes d c other e h small)
     ]
 
-    zero_by : (d z j : ℕ) (other : BaseInfo) (part : ZeroPart) → slice_get flow.bases.items d ≡ Some other → slice_get other.shape.zeros z ≡ Some part → IsLiveOf named_too grown d j → StandsZero stands named_too grown (zero_at l n row (zero_position other z)) (array_bytes part (bytes_at grown j))
+    zero_by : (d z j : ℕ) (other : BaseInfo) (part : ZeroPart) → slice_get flow.bases.items d ≡ Some other → slice_get other.shape.zeros z ≡ Some part → IsLiveOf named_too grown d j → InGammaZero gamma named_too grown (zero_at l n row (zero_position other z)) (array_bytes part (bytes_at grown j))
     zero_by d z j other part e f h = elim (cases_eq d b) [
       | inl g ↦ (let same = same_info d other e g in
           let mine = own_at j (subst (λ y. IsLiveOf named_too grown y j) g h) in
           let all : bytes_at grown j ≡ bytes = ap (bytes_at grown) mine ∙ own_bytes in
-          subst (λ y. StandsZero stands named_too grown (zero_at l n row (zero_position other z)) (array_bytes part y)) (sym all)
-          (subst (λ y. StandsZero stands named_too grown (zero_at l n row (zero_position y z)) (array_bytes part bytes)) (sym same) (own.zeros z part (ap (λ y. slice_get y.shape.zeros z) (sym same) ∙ f))))
+          subst (λ y. InGammaZero gamma named_too grown (zero_at l n row (zero_position other z)) (array_bytes part y)) (sym all)
+          (subst (λ y. InGammaZero gamma named_too grown (zero_at l n row (zero_position y z)) (array_bytes part bytes)) (sym same) (own.zeros z part (ap (λ y. slice_get y.shape.zeros z) (sym same) ∙ f))))
       | inr ne ↦ (let was = was_there w t d j ne h in
-          subst (λ y. StandsZero stands named_too grown (zero_at l n row (zero_position other z)) (array_bytes part y)) (sym (bytes_stay w t j was.0)) (s.zeros d z j other part e f was.1))
+          subst (λ y. InGammaZero gamma named_too grown (zero_at l n row (zero_position other z)) (array_bytes part y)) (sym (bytes_stay w t j was.0)) (s.zeros d z j other part e f was.1))
     ]
 
-    state_grows : (y : AllocState I) (life : Life) (size : ℕ) → StandsState stands naming old y life size → StandsState stands named_too grown y life size
+    state_grows : (y : AllocState I) (life : Life) (size : ℕ) → InGammaState gamma naming old y life size → InGammaState gamma named_too grown y life size
     state_grows y live size h = h
     state_grows y ended size h = h
     state_grows y freed size h = h
 
-    state_by : (d j : ℕ) (other : BaseInfo) → slice_get flow.bases.items d ≡ Some other → other.shape.heap ≡ true → named_too j ≡ Some d → StandsState stands named_too grown (state_at l n row (state_position other)) (life_at grown j) (length (bytes_at grown j))
+    state_by : (d j : ℕ) (other : BaseInfo) → slice_get flow.bases.items d ≡ Some other → other.shape.heap ≡ true → named_too j ≡ Some d → InGammaState gamma named_too grown (state_at l n row (state_position other)) (life_at grown j) (length (bytes_at grown j))
     state_by d j other e h named = elim (cases_eq j i) [
       | inl mine ↦ (let g = own_base j d mine named in
           let life : life_at grown j ≡ live = ap (life_at grown) mine ∙ own_life in
           let size : length (bytes_at grown j) ≡ length bytes = ap length (ap (bytes_at grown) mine ∙ own_bytes) in
-          subst (λ y. StandsState stands named_too grown (state_at l n row (state_position other)) y (length (bytes_at grown j))) (sym life)
-          (subst (λ y. StandsState stands named_too grown (state_at l n row (state_position other)) live y) (sym size)
-          (subst (λ y. StandsState stands named_too grown (state_at l n row (state_position y)) live (length bytes)) (sym (same_info d other e g)) own.state_is)))
-      | inr ne ↦ subst (λ y. StandsState stands named_too grown (state_at l n row (state_position other)) (life_at grown j) (length y)) (sym (bytes_stay w t j ne))
-          (subst (λ y. StandsState stands named_too grown (state_at l n row (state_position other)) y (length (bytes_at old j))) (sym (life_stays w t j ne))
+          subst (λ y. InGammaState gamma named_too grown (state_at l n row (state_position other)) y (length (bytes_at grown j))) (sym life)
+          (subst (λ y. InGammaState gamma named_too grown (state_at l n row (state_position other)) live y) (sym size)
+          (subst (λ y. InGammaState gamma named_too grown (state_at l n row (state_position y)) live (length bytes)) (sym (same_info d other e g)) own.state_is)))
+      | inr ne ↦ subst (λ y. InGammaState gamma named_too grown (state_at l n row (state_position other)) (life_at grown j) (length y)) (sym (bytes_stay w t j ne))
+          (subst (λ y. InGammaState gamma named_too grown (state_at l n row (state_position other)) y (length (bytes_at old j))) (sym (life_stays w t j ne))
           (state_grows (state_at l n row (state_position other)) (life_at old j) (length (bytes_at old j)) (s.states d j other e h (old_name j d ne named))))
     ]
 
-    temp_by : (x : ℕ) (scalar : Scalar) → state.temps x ≡ Some scalar → StandsScalar stands named_too grown (temp_value l n flow row x) scalar
-    temp_by x scalar e = scalar_grows w t stands (temp_value l n flow row x) scalar (s.held.within x scalar e) (s.temps x scalar e)
+    temp_by : (x : ℕ) (scalar : Scalar) → state.temps x ≡ Some scalar → InGammaScalar gamma named_too grown (temp_value l n flow row x) scalar
+    temp_by x scalar e = scalar_grows w t gamma (temp_value l n flow row x) scalar (s.held.within x scalar e) (s.temps x scalar e)
 
     -- ---- the objects that are entered
 
@@ -238,7 +238,7 @@ module _ {I : Type 0} {l : LatticeOf I} {n : IntegersOf I} {stands : I → ℤ �
       | inr ne ↦ s.lives.sole d j base e kind (old_name j d ne named) (old_life j ne alive)
     ]
 
-    pub grown_stands : StandsFor l n stands flow named_too row (record { memory = grown; temps = state.temps; entered = state.entered })
+    pub grown_stands : InGamma l n gamma flow named_too row (record { memory = grown; temps = state.temps; entered = state.entered })
     grown_stands = record {
       sane = grown_sane;
       held = record { within = λ x scalar e. scalar_in_grows w t scalar (s.held.within x scalar e); named = λ x y e. named_grows w t y (s.held.within x _ e) (s.held.named x y e) };

@@ -18,7 +18,7 @@ use Rattle.memory_model.specs.Memory.Bytes.{MachinePointer, null, into, Content,
 use Rattle.memory_model.specs.Memory.Instances.{Memory, Life, live, ended, freed, life_at}
 use Rattle.memory_model.specs.Memory.Scalars.{Scalar, integer, pointer}
 use Rattle.store_sound.specs.Concretization.SoundMemory.{IsNamed, IsContentNamed}
-use Rattle.store_sound.specs.Concretization.ValueMeaning.{Naming, StandsInto, StandsByLife, StandsPointer, StandsScalar, StandsContent}
+use Rattle.store_sound.specs.Concretization.ValueMeaning.{Naming, InGammaInto, InGammaByLife, InGammaPointer, InGammaScalar, InGammaContent}
 
 -- ---- names
 
@@ -126,7 +126,7 @@ module _ {I : Type 0} (newest older : ℕ) where
   ended_by true false p = refl
   ended_by false has p = refl
 
-module _ {I : Type 0} (stands : I → ℤ → Type 0) (naming : Naming) (memory : Memory) (newest older : ℕ) (new_small : newest < most_bases) (old_small : older < most_bases) (bases : (i b : ℕ) → naming i ≡ Some b → b < most_bases) where
+module _ {I : Type 0} (gamma : I → ℤ → Type 0) (naming : Naming) (memory : Memory) (newest older : ℕ) (new_small : newest < most_bases) (old_small : older < most_bases) (bases : (i b : ℕ) → naming i ≡ Some b → b < most_bases) where
   site_named : is_named (site_of newest older) ≡ true
   site_named = and_from _ _ (lt-ltb newest most_bases new_small) (lt-ltb older most_bases old_small)
 
@@ -140,7 +140,7 @@ module _ {I : Type 0} (stands : I → ℤ → Type 0) (naming : Naming) (memory 
     ])
   ]
 
-  into_by : (has : Bool) (p : Pointers I) (i offset lo hi : ℕ) → bases_has p.bases newest ≡ has → StandsInto stands naming memory p i offset lo hi → StandsInto stands (renames naming newest older) memory (cond has (record p { bases = bases_with (bases_without p.bases newest) older }) p) i offset lo hi
+  into_by : (has : Bool) (p : Pointers I) (i offset lo hi : ℕ) → bases_has p.bases newest ≡ has → InGammaInto gamma naming memory p i offset lo hi → InGammaInto gamma (renames naming newest older) memory (cond has (record p { bases = bases_with (bases_without p.bases newest) older }) p) i offset lo hi
   into_by true p i offset lo hi e s = record {
     base = new_base newest older s.base;
     named = ap (new_name newest older) s.named;
@@ -160,24 +160,24 @@ module _ {I : Type 0} (stands : I → ℤ → Type 0) (naming : Naming) (memory 
     whole = s.whole;
   }
 
-  into_renames : (p : Pointers I) (i offset lo hi : ℕ) → StandsInto stands naming memory p i offset lo hi → StandsInto stands (renames naming newest older) memory (renamed (site_of newest older) p) i offset lo hi
+  into_renames : (p : Pointers I) (i offset lo hi : ℕ) → InGammaInto gamma naming memory p i offset lo hi → InGammaInto gamma (renames naming newest older) memory (renamed (site_of newest older) p) i offset lo hi
   into_renames p i offset lo hi s =
-      subst (λ z. StandsInto stands (renames naming newest older) memory (by_tests newest older z (bases_has p.bases newest) p) i offset lo hi) (sym site_named) (into_by (bases_has p.bases newest) p i offset lo hi refl s)
+      subst (λ z. InGammaInto gamma (renames naming newest older) memory (by_tests newest older z (bases_has p.bases newest) p) i offset lo hi) (sym site_named) (into_by (bases_has p.bases newest) p i offset lo hi refl s)
 
-  life_renames : (p : Pointers I) (life : Life) (i offset lo hi : ℕ) → StandsByLife stands naming memory p life i offset lo hi → StandsByLife stands (renames naming newest older) memory (renamed (site_of newest older) p) life i offset lo hi
+  life_renames : (p : Pointers I) (life : Life) (i offset lo hi : ℕ) → InGammaByLife gamma naming memory p life i offset lo hi → InGammaByLife gamma (renames naming newest older) memory (renamed (site_of newest older) p) life i offset lo hi
   life_renames p live i offset lo hi s = into_renames p i offset lo hi s
   life_renames p ended i offset lo hi s = ended_by newest older (is_named (site_of newest older)) (bases_has p.bases newest) p ∙ s
   life_renames p freed i offset lo hi s = into_renames p i offset lo hi s
 
-  pub pointer_renames : (p : Pointers I) (x : MachinePointer) → StandsPointer stands naming memory p x → StandsPointer stands (renames naming newest older) memory (renamed (site_of newest older) p) x
+  pub pointer_renames : (p : Pointers I) (x : MachinePointer) → InGammaPointer gamma naming memory p x → InGammaPointer gamma (renames naming newest older) memory (renamed (site_of newest older) p) x
   pointer_renames p null s = null_by newest older (is_named (site_of newest older)) (bases_has p.bases newest) p ∙ s
   pointer_renames p (into i offset lo hi) s = life_renames p (life_at memory i) i offset lo hi s
 
-  pub scalar_renames : (v : values.Value I) (x : Scalar) → StandsScalar stands naming memory v x → StandsScalar stands (renames naming newest older) memory (renamed_value newest older v) x
+  pub scalar_renames : (v : values.Value I) (x : Scalar) → InGammaScalar gamma naming memory v x → InGammaScalar gamma (renames naming newest older) memory (renamed_value newest older v) x
   scalar_renames v (integer z labels) s = s
   scalar_renames v (pointer x) s = pointer_renames v.pointer x s
 
-  pub content_renames : (v : values.Value I) (class : Class) (c : Content) → StandsContent stands naming memory v class c → StandsContent stands (renames naming newest older) memory (renamed_value newest older v) class c
+  pub content_renames : (v : values.Value I) (class : Class) (c : Content) → InGammaContent gamma naming memory v class c → InGammaContent gamma (renames naming newest older) memory (renamed_value newest older v) class c
   content_renames v class indeterminate s = s
   content_renames v class (number z labels) s = (s.0, λ e. null_by newest older (is_named (site_of newest older)) (bases_has v.pointer.bases newest) v.pointer ∙ s.1 e)
   content_renames v class (part x k) s = pointer_renames v.pointer x s

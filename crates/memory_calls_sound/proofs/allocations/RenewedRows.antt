@@ -34,8 +34,8 @@ use Rattle.memory_model.specs.Memory.Scalars.{pointer}
 use Rattle.memory_model.specs.Effects.AllocationCalls.{untyped}
 use Rattle.memory_model.specs.Effects.ObjectEffects as objects
 use Rattle.store_sound.specs.Concretization.SoundMemory.{storage_for, IsContentIn, IsContentNamed}
-use Rattle.store_sound.specs.Concretization.ValueMeaning.{Naming, StandsInto, StandsByLife, StandsPointer, StandsZero, StandsState}
-use Rattle.store_sound.specs.Concretization.RowMeaning.{MachineState, array_of, array_bytes, IsLiveOf, StandsCell, StandsLeaf, StandsClass, StandsFor}
+use Rattle.store_sound.specs.Concretization.ValueMeaning.{Naming, InGammaInto, InGammaByLife, InGammaPointer, InGammaZero, InGammaState}
+use Rattle.store_sound.specs.Concretization.RowMeaning.{MachineState, array_of, array_bytes, IsLiveOf, InGammaCell, InGammaLeaf, InGammaClass, InGamma}
 use Rattle.store_sound.proofs.operations.TouchedRest.{near_stands}
 use Rattle.store_sound.specs.Programs.Premises.{HasPremises}
 use Rattle.library_sound.proofs.PutTemps.{IsResult}
@@ -59,7 +59,7 @@ plain_content : (memory : Memory) (naming : Naming) (zeros : Bool) (x : Byte) �
 plain_content memory naming true x e = subst (λ z. IsContentIn memory z.content z.tag × IsContentNamed naming memory z.content) (sym e) (omega arith, tt)
 plain_content memory naming false x e = subst (λ z. IsContentIn memory z.content z.tag × IsContentNamed naming memory z.content) (sym e) (tt, tt)
 
-module _ {I : Type 0} {l : LatticeOf I} {n : IntegersOf I} {stands : I → ℤ → Type 0} (o : OrderLaws l) (q : BoundLaws l n stands) (flow : Flow) (p : HasPremises flow) (naming : Naming) (row : List (Cell I)) (state : MachineState) (long : length row ≡ flow.width) (s : StandsFor l n stands flow naming row state) (newest : ℕ) (t : IsSiteOf flow newest (newest + 1)) (size : I) (zeros : Bool) where
+module _ {I : Type 0} {l : LatticeOf I} {n : IntegersOf I} {gamma : I → ℤ → Type 0} (o : OrderLaws l) (q : BoundLaws l n gamma) (flow : Flow) (p : HasPremises flow) (naming : Naming) (row : List (Cell I)) (state : MachineState) (long : length row ≡ flow.width) (s : InGamma l n gamma flow naming row state) (newest : ℕ) (t : IsSiteOf flow newest (newest + 1)) (size : I) (zeros : Bool) where
   abbrev start : List (Cell I)
   start = join_base l n t.new t.old (map (renamed_cell (site_of newest (newest + 1))) row)
 
@@ -91,7 +91,7 @@ module _ {I : Type 0} {l : LatticeOf I} {n : IntegersOf I} {stands : I → ℤ �
   too = renames naming newest (newest + 1)
 
   -- without an instance more
-  pub nothing_stands : StandsFor l n stands flow too after state
+  pub nothing_stands : InGamma l n gamma flow too after state
   nothing_stands = renamed_stands o q flow p naming row state long s newest (newest + 1) t.new t.old t.new_there t.old_there t.site t.new_kind t.old_kind after outside
 
   none : (i : ℕ) → too i ≡ Some newest → ⊥
@@ -113,7 +113,7 @@ module _ {I : Type 0} {l : LatticeOf I} {n : IntegersOf I} {stands : I → ℤ �
   given_is = ap (λ z. cond (is_some z && is_some (slice_get flow.bases.items (newest + 1))) (fresh_pointer l n (site_of newest (newest + 1)) size) (null_pointer l)) t.new_there ∙ ap (λ z. cond (is_some (Some t.new) && is_some z) (fresh_pointer l n (site_of newest (newest + 1)) size) (null_pointer l)) t.old_there
 
   -- null is one of the results
-  pub null_stands : (memory : Memory) (names : Naming) → StandsPointer stands names memory given null
+  pub null_stands : (memory : Memory) (names : Naming) → InGammaPointer gamma names memory given null
   unfolding fresh_pointer
   null_stands memory names = ap (λ z. z.null) given_is ∙ by_fresh (is_fresh n (site_of newest (newest + 1)) size)
     where
@@ -123,7 +123,7 @@ module _ {I : Type 0} {l : LatticeOf I} {n : IntegersOf I} {stands : I → ℤ �
 
   -- ---- with a fresh instance of so many bytes
 
-  module _ (count : ℕ) (sized : stands size (pos count)) (small : count ≤ last_offset) where
+  module _ (count : ℕ) (sized : gamma size (pos count)) (small : count ≤ last_offset) where
     abbrev bytes : List Byte
     bytes = untyped (content_of_bytes zeros) count
 
@@ -177,14 +177,14 @@ module _ {I : Type 0} {l : LatticeOf I} {n : IntegersOf I} {stands : I → ℤ �
     long_enough : t.new.first + base_values t.new ≤ length start
     long_enough = let c = p.laid.laid.close newest t.new t.new_there in let k = p.laid.long in let e = start_long in omega (arith, c, k, e, long)
 
-    cell_stands : (z : Bool) → zeros ≡ z → (class : Class) (signed : Bool) (Place Owns : ℕ → ℕ → Type 0) → StandsCell stands flow named_too grown newest class signed Place Owns (near_value l n (cell_of z class))
+    cell_stands : (z : Bool) → zeros ≡ z → (class : Class) (signed : Bool) (Place Owns : ℕ → ℕ → Type 0) → InGammaCell gamma flow named_too grown newest class signed Place Owns (near_value l n (cell_of z class))
     cell_stands true e class signed Place Owns = zero_cell o q flow named_too grown newest i sole (content_of_bytes zeros) each class signed Place Owns (ap content_of_bytes e)
     cell_stands false e class signed Place Owns = blank_cell o q flow named_too grown newest i sole (content_of_bytes zeros) each class signed Place Owns (ap content_of_bytes e)
 
     size_word : count ≤ 2 ^ 64 - 1
     size_word = omega (arith, small)
 
-    zero_by : (z : Bool) → StandsZero stands named_too grown (record { at = near_number l n (fresh_zero l n (kind_of_bytes z) bounded.0.0).at }) (untyped (content_of_bytes z) count)
+    zero_by : (z : Bool) → InGammaZero gamma named_too grown (record { at = near_number l n (fresh_zero l n (kind_of_bytes z) bounded.0.0).at }) (untyped (content_of_bytes z) count)
     zero_by true = zeros_zero o q named_too grown count size_word bounded.0.0 bounded.2
     zero_by false = blank_zero o q named_too grown count size_word
 
@@ -195,21 +195,21 @@ module _ {I : Type 0} {l : LatticeOf I} {n : IntegersOf I} {stands : I → ℤ �
 
     own_cells : StandsFresh flow too after state nothing_stands newest t.new t.new_there t.heap.heap storage none bytes bytes_small contents tagged
     own_cells = record {
-      leaves = λ j leaf e. subst (StandsLeaf stands flow named_too grown newest leaf) (sym (fresh_leaf_is l n flow.model flow.bases.items t.new t.heap (kind_of_bytes zeros) (cell_of zeros) (plain zeros) size bounded.0 bounded.1 start long_enough j leaf e))
+      leaves = λ j leaf e. subst (InGammaLeaf gamma flow named_too grown newest leaf) (sym (fresh_leaf_is l n flow.model flow.bases.items t.new t.heap (kind_of_bytes zeros) (cell_of zeros) (plain zeros) size bounded.0 bounded.1 start long_enough j leaf e))
           (cell_stands zeros refl leaf.class leaf.signed _ _);
-      classes = λ c h. subst (StandsClass stands flow named_too grown newest t.new (class_at c)) (sym (fresh_class_is l n flow.model flow.bases.items t.new t.heap (kind_of_bytes zeros) (cell_of zeros) (plain zeros) size bounded.0 bounded.1 start long_enough c h))
+      classes = λ c h. subst (InGammaClass gamma flow named_too grown newest t.new (class_at c)) (sym (fresh_class_is l n flow.model flow.bases.items t.new t.heap (kind_of_bytes zeros) (cell_of zeros) (plain zeros) size bounded.0 bounded.1 start long_enough c h))
           (cell_stands zeros refl (class_at c) true _ _);
       zeros = λ z part e.
           let few : z < 1 = subst (λ y. z < y) t.heap.zeros (slice_get_within t.new.shape.zeros z part e) in
           let first : z ≡ 0 = omega (arith, few) in
-          subst (λ y. StandsZero stands named_too grown (zero_at l n after (zero_position t.new y)) (array_bytes part bytes)) (sym first)
-          (subst (λ y. StandsZero stands named_too grown y (array_bytes part bytes)) (sym (fresh_zero_is l n flow.model flow.bases.items t.new t.heap (kind_of_bytes zeros) (cell_of zeros) (plain zeros) size bounded.0 bounded.1 start long_enough))
-          (subst (StandsZero stands named_too grown (record { at = near_number l n (fresh_zero l n (kind_of_bytes zeros) bounded.0.0).at })) (sym (whole_part z part e)) (zero_by zeros)));
-      state_is = subst (λ y. StandsState stands named_too grown y live (length bytes)) (sym (fresh_state_is l n flow.model flow.bases.items t.new t.heap (kind_of_bytes zeros) (cell_of zeros) (plain zeros) size bounded.0 bounded.1 start long_enough))
-          (subst (λ y. StandsState stands named_too grown (near_state l n (record { size = size; live = true; freed = false })) live y) (sym bytes_long) (near_stands o q size (pos count) (omega (arith, ints)) (let w = size_word in omega (arith, ints, w)) sized, refl));
+          subst (λ y. InGammaZero gamma named_too grown (zero_at l n after (zero_position t.new y)) (array_bytes part bytes)) (sym first)
+          (subst (λ y. InGammaZero gamma named_too grown y (array_bytes part bytes)) (sym (fresh_zero_is l n flow.model flow.bases.items t.new t.heap (kind_of_bytes zeros) (cell_of zeros) (plain zeros) size bounded.0 bounded.1 start long_enough))
+          (subst (InGammaZero gamma named_too grown (record { at = near_number l n (fresh_zero l n (kind_of_bytes zeros) bounded.0.0).at })) (sym (whole_part z part e)) (zero_by zeros)));
+      state_is = subst (λ y. InGammaState gamma named_too grown y live (length bytes)) (sym (fresh_state_is l n flow.model flow.bases.items t.new t.heap (kind_of_bytes zeros) (cell_of zeros) (plain zeros) size bounded.0 bounded.1 start long_enough))
+          (subst (λ y. InGammaState gamma named_too grown (near_state l n (record { size = size; live = true; freed = false })) live y) (sym bytes_long) (near_stands o q size (pos count) (omega (arith, ints)) (let w = size_word in omega (arith, ints, w)) sized, refl));
     }
 
-    pub instance_stands : StandsFor l n stands flow named_too after (record { memory = grown; temps = state.temps; entered = state.entered })
+    pub instance_stands : InGamma l n gamma flow named_too after (record { memory = grown; temps = state.temps; entered = state.entered })
     instance_stands = grown_stands flow too after state nothing_stands newest t.new t.new_there t.heap.heap storage none bytes bytes_small contents tagged own_cells
 
     -- ---- the pointer to it
@@ -230,20 +230,20 @@ module _ {I : Type 0} {l : LatticeOf I} {n : IntegersOf I} {stands : I → ℤ �
     size_at : length (bytes_at grown i) ≡ count
     size_at = ap length all_bytes ∙ bytes_long
 
-    stands_into : StandsInto stands named_too grown (record { bases = bases_with no_base newest; lo = n.one (pos 0); rel = n.one (pos 0); len = size; part = false; null = true; ended = false }) i 0 0 count
+    stands_into : InGammaInto gamma named_too grown (record { bases = bases_with no_base newest; lo = n.one (pos 0); rel = n.one (pos 0); len = size; part = false; null = true; ended = false }) i 0 0 count
     stands_into = record {
       base = newest;
       named = own_name;
       among = with_has_same no_base newest;
       lower = q.one_stands (pos 0);
       relative = q.one_stands (pos 0);
-      room = let e : pos count -ℤ pos 0 ≡ pos count = omega (arith, ints) in subst (stands size) (sym e) sized;
+      room = let e : pos count -ℤ pos 0 ≡ pos count = omega (arith, ints) in subst (gamma size) (sym e) sized;
       whole = λ e. (refl, sym size_at);
     }
 
     pub instance_result : IsResult q flow p named_too grown (pointer_value l given) (pointer (into i 0 0 count))
     instance_result = record {
-      stands_for = subst (λ z. StandsPointer stands named_too grown z (into i 0 0 count)) (sym pointer_is) (subst (λ z. StandsByLife stands named_too grown (record { bases = bases_with no_base newest; lo = n.one (pos 0); rel = n.one (pos 0); len = size; part = false; null = true; ended = false }) z i 0 0 count) (sym alive) stands_into);
+      stands_for = subst (λ z. InGammaPointer gamma named_too grown z (into i 0 0 count)) (sym pointer_is) (subst (λ z. InGammaByLife gamma named_too grown (record { bases = bases_with no_base newest; lo = n.one (pos 0); rel = n.one (pos 0); len = size; part = false; null = true; ended = false }) z i 0 0 count) (sym alive) stands_into);
       near = tt;
       within = let e = size_at in record { made = let more = longer in omega (arith, more); above = omega arith; below = omega arith; within = omega (arith, e) };
     }

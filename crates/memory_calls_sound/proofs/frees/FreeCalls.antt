@@ -43,7 +43,7 @@ use Rattle.memory_model.specs.Effects.Touches.{is_allocated, storage_of, storage
 use Rattle.memory_model.specs.Effects.Worlds.{World, Reply, goes, behind, done, with_memory, stopped_by, unless, Stuck, Violated}
 use Rattle.semantics.specs.CfgMachine.FlowActs.{calling}
 use Rattle.semantics.specs.CfgMachine.FlowStates.{Standing, values_of}
-use Rattle.store_sound.specs.Concretization.ValueMeaning.{Naming, StandsInto, StandsByLife, StandsPointer, StandsScalar}
+use Rattle.store_sound.specs.Concretization.ValueMeaning.{Naming, InGammaInto, InGammaByLife, InGammaPointer, InGammaScalar}
 use Rattle.store_sound.specs.Concretization.SoundMemory.{IsPointerIn}
 use Rattle.store_sound.proofs.operations.Freed.{into_freed}
 use Rattle.store_sound.proofs.operations.LoadSound.{instance_there}
@@ -52,7 +52,7 @@ use Rattle.store_sound.proofs.operations.Sets.{is_single}
 use Rattle.store_sound.proofs.operations.Slices.{get_there}
 use Rattle.store_sound.proofs.operations.StoreLeaves.{not_older}
 use Rattle.store_sound.specs.Programs.Premises.{HasPremises}
-use Rattle.library_sound.specs.SoundSteps.{IsReached, StandsBehind, IsStoodFor, StepIsSound}
+use Rattle.library_sound.specs.SoundSteps.{IsReached, InGammaAfter, IsStoodFor, StepIsSound}
 use Rattle.library_sound.proofs.Admitted.{one_admitted, both_admitted}
 use Rattle.library_sound.proofs.Replies.{if_some_good}
 use Rattle.library_sound.proofs.calls.Calls.{first_argument, clean, GoodPlan, plan_stops}
@@ -77,7 +77,7 @@ live_ended e = cc
 freed_ended : freed ≡ ended → ⊥
 freed_ended e = cc
 
-module _ {I : Type 0} {l : LatticeOf I} {n : IntegersOf I} {stands : I → ℤ → Type 0} (o : OrderLaws l) (q : BoundLaws l n stands) (flow : Flow) (p : HasPremises flow) (naming : Naming) (row : List (Cell I)) (s : Standing) (r : IsReached l n stands flow naming row s) (to : Option ℕ) (has : has_result (names_of flow) to ≡ true) (newest : Option ℕ) (items : List ℕ) (wanted : Option ℕ) where
+module _ {I : Type 0} {l : LatticeOf I} {n : IntegersOf I} {gamma : I → ℤ → Type 0} (o : OrderLaws l) (q : BoundLaws l n gamma) (flow : Flow) (p : HasPremises flow) (naming : Naming) (row : List (Cell I)) (s : Standing) (r : IsReached l n gamma flow naming row s) (to : Option ℕ) (has : has_result (names_of flow) to ≡ true) (newest : Option ℕ) (items : List ℕ) (wanted : Option ℕ) where
   abbrev given : Pointers I
   given = (argument_value l n (call_of flow items wanted) row 0).pointer
 
@@ -112,15 +112,15 @@ module _ {I : Type 0} {l : LatticeOf I} {n : IntegersOf I} {stands : I → ℤ �
   abbrev surely : Bool
   surely = is_one_instance flow.bases.items old.rest.bases && not old.rest.null
 
-  goes_to : (t : Option ℕ) → has_result (names_of flow) t ≡ true → (new : Memory) → IsFreeing naming s.world.memory new old.rest.bases surely → is_any old.rest ≡ true → (w : World) → w ≡ with_memory s.world new → IsStoodFor l n stands flow (apply l n flow t newest the_plan.effect row) the_plan.violations (calling s t (goes None w))
+  goes_to : (t : Option ℕ) → has_result (names_of flow) t ≡ true → (new : Memory) → IsFreeing naming s.world.memory new old.rest.bases surely → is_any old.rest ≡ true → (w : World) → w ≡ with_memory s.world new → IsStoodFor l n gamma flow (apply l n flow t newest the_plan.effect row) the_plan.violations (calling s t (goes None w))
   unfolding apply plan_free free
   goes_to (Some t) fit new change any w e = plan_stops q flow p naming row s r (Some t) fit newest the_plan Stuck s.world (clean q flow p naming row s r the_plan.violations)
-  goes_to None fit new change any w e = subst (λ z. IsStoodFor l n stands flow (apply l n flow None newest the_plan.effect row) the_plan.violations (calling s None (goes None z))) (sym e) (record {
+  goes_to None fit new change any w e = subst (λ z. IsStoodFor l n gamma flow (apply l n flow None newest the_plan.effect row) the_plan.violations (calling s None (goes None z))) (sym e) (record {
     goes_on = λ t u k.
         let now : Standing = record s { at = suc s.at; world = with_memory s.world new } in
         let a : now ≡ t = cc in
         let c : with_memory s.world new ≡ u = cc in
-        let here : StandsBehind l n stands flow (apply l n flow None newest the_plan.effect row) (record now { world = with_memory s.world new }) = record {
+        let here : InGammaAfter l n gamma flow (apply l n flow None newest the_plan.effect row) (record now { world = with_memory s.world new }) = record {
           row = free_bases l n flow.bases.items old.rest.bases surely row;
           is = rw any refl;
           long = free_keeps l n flow.bases.items old.rest row ∙ r.long;
@@ -128,7 +128,7 @@ module _ {I : Type 0} {l : LatticeOf I} {n : IntegersOf I} {stands : I → ℤ �
           stands_for = freed_stands q flow p naming row s r new old.rest.bases surely change;
           short = freed_short q flow p naming row s r new old.rest.bases surely change;
         } in
-        subst (λ z. StandsBehind l n stands flow (apply l n flow None newest the_plan.effect row) (record z { world = u })) a (subst (λ z. StandsBehind l n stands flow (apply l n flow None newest the_plan.effect row) (record now { world = z })) c here);
+        subst (λ z. InGammaAfter l n gamma flow (apply l n flow None newest the_plan.effect row) (record z { world = u })) a (subst (λ z. InGammaAfter l n gamma flow (apply l n flow None newest the_plan.effect row) (record now { world = z })) c here);
     admits = clean q flow p naming row s r the_plan.violations;
   })
 
@@ -153,7 +153,7 @@ module _ {I : Type 0} {l : LatticeOf I} {n : IntegersOf I} {stands : I → ℤ �
   -- ---- an instance
 
   module _ (i offset lo hi : ℕ) (above : lo ≤ offset) where
-    freed_good : life_at s.world.memory i ≡ freed → StandsInto stands naming s.world.memory given i offset lo hi → Good (reply_of (into i offset lo hi) (stopped_by s.world rule.Dblfree))
+    freed_good : life_at s.world.memory i ≡ freed → InGammaInto gamma naming s.world.memory given i offset lo hi → Good (reply_of (into i offset lo hi) (stopped_by s.world rule.Dblfree))
     unfolding check_release
     freed_good e st = stopped (into i offset lo hi) rule.Dblfree (into_freed flow p.shaped naming row _ r.stands_for given i offset lo hi e st)
 
@@ -161,7 +161,7 @@ module _ {I : Type 0} {l : LatticeOf I} {n : IntegersOf I} {stands : I → ℤ �
     unfolding check_release
     ended_good h = stopped (into i offset lo hi) rule.Xfree (or_left given.ended _ h)
 
-    module _ (alive : life_at s.world.memory i ≡ live) (st : StandsInto stands naming s.world.memory given i offset lo hi) where
+    module _ (alive : life_at s.world.memory i ≡ live) (st : InGammaInto gamma naming s.world.memory given i offset lo hi) where
       heap_is : (base : BaseInfo) → slice_get flow.bases.items st.base ≡ Some base → is_allocated (storage_at s.world.memory i) ≡ base.shape.heap
       heap_is base at =
           let it = instance_there s.world.memory i alive in
@@ -216,20 +216,20 @@ module _ {I : Type 0} {l : LatticeOf I} {n : IntegersOf I} {stands : I → ℤ �
         | inr e ↦ subst (λ b. Good (reply_of (into i offset lo hi) (unless s.world (not b) rule.Xfree (done s.world)))) (sym e) (inner_good e)
       ]
 
-    by_life : (life : Life) → life_at s.world.memory i ≡ life → StandsByLife stands naming s.world.memory given life i offset lo hi → Good (reply_of (into i offset lo hi) (freeable_by s.world life i offset (done s.world)))
+    by_life : (life : Life) → life_at s.world.memory i ≡ life → InGammaByLife gamma naming s.world.memory given life i offset lo hi → Good (reply_of (into i offset lo hi) (freeable_by s.world life i offset (done s.world)))
     by_life live e st = live_good e st
     by_life ended e st = ended_good st
     by_life freed e st = freed_good e st
 
-  pointer_good : (at : MachinePointer) → IsPointerIn s.world.memory at → StandsPointer stands naming s.world.memory given at → Good (reply_of at (freeable at s.world))
+  pointer_good : (at : MachinePointer) → IsPointerIn s.world.memory at → InGammaPointer gamma naming s.world.memory given at → Good (reply_of at (freeable at s.world))
   pointer_good null inside st = null_good st
   pointer_good (into i offset lo hi) inside st = by_life i offset lo hi inside.above (life_at s.world.memory i) refl st
 
-  first_is : (at : MachinePointer) → values_of s.temps items ≡ Some (pointer at ∷ []) → StandsPointer stands naming s.world.memory given at
+  first_is : (at : MachinePointer) → values_of s.temps items ≡ Some (pointer at ∷ []) → InGammaPointer gamma naming s.world.memory given at
   unfolding argument_value
   first_is at e =
       let a = first_argument s.temps items (pointer at) [] e in
-      subst (λ y. StandsScalar stands naming s.world.memory (value_of_argument l n flow row y) (pointer at)) (sym a.first) (r.stands_for.temps a.temp (pointer at) a.has)
+      subst (λ y. InGammaScalar gamma naming s.world.memory (value_of_argument l n flow row y) (pointer at)) (sym a.first) (r.stands_for.temps a.temp (pointer at) a.has)
 
   arguments_good : (vs : List Scalar) → values_of s.temps items ≡ Some vs → Good (library flow.model wanted f.Free vs s.world)
   arguments_good [] e = plan_stops q flow p naming row s r to has newest the_plan Stuck s.world (clean q flow p naming row s r the_plan.violations)
@@ -244,13 +244,13 @@ module _ {I : Type 0} {l : LatticeOf I} {n : IntegersOf I} {stands : I → ℤ �
   by_name f.Free h vs e = arguments_good vs e
   by_name _ h vs e = absurd h
 
-module _ {I : Type 0} {l : LatticeOf I} {n : IntegersOf I} {stands : I → ℤ → Type 0} (o : OrderLaws l) (q : BoundLaws l n stands) (flow : Flow) (p : HasPremises flow) (naming : Naming) (row : List (Cell I)) (s : Standing) (r : IsReached l n stands flow naming row s) where
-  pub free_call_sound : (to : Option ℕ) (name : LibFn) (arguments : _) (newest size : Option ℕ) → Frees name → fits_operation (names_of flow) (op.Library to name arguments newest size) ≡ true → StepIsSound l n stands flow row (op.Library to name arguments newest size) s
+module _ {I : Type 0} {l : LatticeOf I} {n : IntegersOf I} {gamma : I → ℤ → Type 0} (o : OrderLaws l) (q : BoundLaws l n gamma) (flow : Flow) (p : HasPremises flow) (naming : Naming) (row : List (Cell I)) (s : Standing) (r : IsReached l n gamma flow naming row s) where
+  pub free_call_sound : (to : Option ℕ) (name : LibFn) (arguments : _) (newest size : Option ℕ) → Frees name → fits_operation (names_of flow) (op.Library to name arguments newest size) ≡ true → StepIsSound l n gamma flow row (op.Library to name arguments newest size) s
   unfolding operate call_step operation_violations
   free_call_sound to name arguments newest size is fits =
       let has = (and_parts (has_result (names_of flow) to) (list_all (has_temp (names_of flow)) arguments.items && (is_site flow.bases.items newest && is_optional_extent size)) fits).0 in
-      if_some_good l n stands flow _ _ s r.begun (values_of s.temps arguments.items) _ (λ vs e. by_name o q flow p naming row s r to has newest arguments.items size name is vs e)
+      if_some_good l n gamma flow _ _ s r.begun (values_of s.temps arguments.items) _ (λ vs e. by_name o q flow p naming row s r to has newest arguments.items size name is vs e)
 
-  pub free_step_sound : (i : Operation) → IsFreeCall i → fits_operation (names_of flow) i ≡ true → StepIsSound l n stands flow row i s
+  pub free_step_sound : (i : Operation) → IsFreeCall i → fits_operation (names_of flow) i ≡ true → StepIsSound l n gamma flow row i s
   free_step_sound (op.Library to name arguments newest size) is fits = free_call_sound to name arguments newest size is fits
   free_step_sound i is fits = absurd is

@@ -27,8 +27,8 @@ use Rattle.transfer_checks.specs.Temporaries.{temp_position, temp_value}
 use Rattle.memory_model.specs.Memory.Instances.{Memory, Life, live, ended, freed, bytes_at, life_at}
 use Rattle.memory_model.specs.Memory.Scalars.{Scalar}
 use Rattle.semantics.specs.CfgMachine.FlowStates.{Standing}
-use Rattle.store_sound.specs.Concretization.ValueMeaning.{Naming, StandsScalar, StandsZero, StandsState}
-use Rattle.store_sound.specs.Concretization.RowMeaning.{IsLiveOf, StandsCell, StandsLeaf, StandsClass, StandsFor, array_bytes}
+use Rattle.store_sound.specs.Concretization.ValueMeaning.{Naming, InGammaScalar, InGammaZero, InGammaState}
+use Rattle.store_sound.specs.Concretization.RowMeaning.{IsLiveOf, InGammaCell, InGammaLeaf, InGammaClass, InGamma, array_bytes}
 use Rattle.store_sound.proofs.operations.Slices.{get_there}
 use Rattle.store_sound.proofs.operations.StoreRows.{leaf_is, class_is, zero_is}
 use Rattle.store_sound.specs.Programs.Premises.{HasPremises}
@@ -48,7 +48,7 @@ pub record IsFreeing (naming : Naming) (old new : Memory) (set : Bases) (surely 
   -- none of them is live still, where they are surely freed
   pub alone : surely ≡ true → (j d : ℕ) → life_at new j ≡ live → naming j ≡ Some d → has_base set d ≡ true → ⊥
 
-module _ {I : Type 0} {l : LatticeOf I} {n : IntegersOf I} {stands : I → ℤ → Type 0} (q : BoundLaws l n stands) (flow : Flow) (p : HasPremises flow) (naming : Naming) (row : List (Cell I)) (s : Standing) (r : IsReached l n stands flow naming row s)
+module _ {I : Type 0} {l : LatticeOf I} {n : IntegersOf I} {gamma : I → ℤ → Type 0} (q : BoundLaws l n gamma) (flow : Flow) (p : HasPremises flow) (naming : Naming) (row : List (Cell I)) (s : Standing) (r : IsReached l n gamma flow naming row s)
     (new : Memory) (set : Bases) (surely : Bool) (w : IsFreeing naming s.world.memory new set surely) where
   abbrev old : Memory
   old = s.world.memory
@@ -102,33 +102,33 @@ module _ {I : Type 0} {l : LatticeOf I} {n : IntegersOf I} {stands : I → ℤ �
   unfolding zero_at
   zero_kept x e = ap (λ c. record { at = near_number l n (zero_in l c).at }) e
 
-  cell_by : (d x : ℕ) (class : Class) (signed : Bool) (Place Owns : ℕ → ℕ → Type 0) → cell_at after x ≡ cell_at row x → StandsCell stands flow naming old d class signed Place Owns (value_at l n row x) → StandsCell stands flow naming new d class signed Place Owns (value_at l n after x)
-  cell_by d x class signed Place Owns e cell = subst (StandsCell stands flow naming new d class signed Place Owns) (sym (value_kept x e)) (record {
+  cell_by : (d x : ℕ) (class : Class) (signed : Bool) (Place Owns : ℕ → ℕ → Type 0) → cell_at after x ≡ cell_at row x → InGammaCell gamma flow naming old d class signed Place Owns (value_at l n row x) → InGammaCell gamma flow naming new d class signed Place Owns (value_at l n after x)
+  cell_by d x class signed Place Owns e cell = subst (InGammaCell gamma flow naming new d class signed Place Owns) (sym (value_kept x e)) (record {
     whole = λ j o ns h place plain held. cell.whole j o ns (live_of_base w.released naming d j h) (subst (λ z. Place (length z) o) (w.released.bytes j) place) plain (record { size = held.size; each = λ k y less f. matched_was w.released j (o + k) k class _ (held.each k y less f) });
-    byte = λ j o k c h owns m. content_stays w.released stands naming (value_at l n row x) class c (cell.byte j o k c (live_of_base w.released naming d j h) owns (matched_was w.released j o k class c m));
+    byte = λ j o k c h owns m. content_stays w.released gamma naming (value_at l n row x) class c (cell.byte j o k c (live_of_base w.released naming d j h) owns (matched_was w.released j o k class c m));
   })
 
-  leaf_by : (d j : ℕ) (base : BaseInfo) (leaf : Leaf) → slice_get flow.bases.items d ≡ Some base → slice_get base.shape.cells j ≡ Some leaf → StandsLeaf stands flow naming new d leaf (value_at l n after (leaf_position base j))
+  leaf_by : (d j : ℕ) (base : BaseInfo) (leaf : Leaf) → slice_get flow.bases.items d ≡ Some base → slice_get base.shape.cells j ≡ Some leaf → InGammaLeaf gamma flow naming new d leaf (value_at l n after (leaf_position base j))
   leaf_by d j base leaf e f =
       let t = slice_get_within base.shape.cells j leaf f in
       let x = leaf_is base j (fits d base e) t in
       cell_by d (leaf_position base j) leaf.class leaf.signed _ _ (kept d (leaf_position base j) base e (omega (arith, x)) (omega (arith, x, t))) (r.stands_for.leaves d j base leaf e f)
 
-  class_by : (d c : ℕ) (base : BaseInfo) → slice_get flow.bases.items d ≡ Some base → base.shape.heap ≡ true → c < 6 → StandsClass stands flow naming new d base (class_at c) (value_at l n after (class_position base c))
+  class_by : (d c : ℕ) (base : BaseInfo) → slice_get flow.bases.items d ≡ Some base → base.shape.heap ≡ true → c < 6 → InGammaClass gamma flow naming new d base (class_at c) (value_at l n after (class_position base c))
   class_by d c base e heap h =
       let six : cond {A = ℕ} base.shape.heap 6 0 ≡ 6 = rw heap refl in
       let x = class_is base c (fits d base e) (omega (arith, six, h)) in
       cell_by d (class_position base c) (class_at c) true _ _ (kept d (class_position base c) base e (omega (arith, x)) (omega (arith, x, six, h))) (r.stands_for.classes d c base e heap h)
 
-  zero_by : (d z j : ℕ) (base : BaseInfo) (part : ZeroPart) → slice_get flow.bases.items d ≡ Some base → slice_get base.shape.zeros z ≡ Some part → IsLiveOf naming new d j → StandsZero stands naming new (zero_at l n after (zero_position base z)) (array_bytes part (bytes_at new j))
+  zero_by : (d z j : ℕ) (base : BaseInfo) (part : ZeroPart) → slice_get flow.bases.items d ≡ Some base → slice_get base.shape.zeros z ≡ Some part → IsLiveOf naming new d j → InGammaZero gamma naming new (zero_at l n after (zero_position base z)) (array_bytes part (bytes_at new j))
   zero_by d z j base part e f h =
       let t = slice_get_within base.shape.zeros z part f in
       let x = zero_is base z (fits d base e) (omega (arith, t)) in
-      subst (λ y. StandsZero stands naming new y (array_bytes part (bytes_at new j))) (sym (zero_kept (zero_position base z) (kept d (zero_position base z) base e (omega (arith, x)) (omega (arith, x, t)))))
-      (subst (λ y. StandsZero stands naming new (zero_at l n row (zero_position base z)) (array_bytes part y)) (sym (w.released.bytes j)) (r.stands_for.zeros d z j base part e f (live_of_base w.released naming d j h)))
+      subst (λ y. InGammaZero gamma naming new y (array_bytes part (bytes_at new j))) (sym (zero_kept (zero_position base z) (kept d (zero_position base z) base e (omega (arith, x)) (omega (arith, x, t)))))
+      (subst (λ y. InGammaZero gamma naming new (zero_at l n row (zero_position base z)) (array_bytes part y)) (sym (w.released.bytes j)) (r.stands_for.zeros d z j base part e f (live_of_base w.released naming d j h)))
 
-  temp_by : (t : ℕ) (scalar : Scalar) → s.temps t ≡ Some scalar → StandsScalar stands naming new (temp_value l n flow after t) scalar
-  temp_by t scalar e = subst (λ y. StandsScalar stands naming new y scalar) (sym (value_kept (temp_position flow t) (temp_kept t))) (scalar_stays w.released stands naming (temp_value l n flow row t) scalar (r.stands_for.temps t scalar e))
+  temp_by : (t : ℕ) (scalar : Scalar) → s.temps t ≡ Some scalar → InGammaScalar gamma naming new (temp_value l n flow after t) scalar
+  temp_by t scalar e = subst (λ y. InGammaScalar gamma naming new y scalar) (sym (value_kept (temp_position flow t) (temp_kept t))) (scalar_stays w.released gamma naming (temp_value l n flow row t) scalar (r.stands_for.temps t scalar e))
 
   -- ---- states
 
@@ -139,7 +139,7 @@ module _ {I : Type 0} {l : LatticeOf I} {n : IntegersOf I} {stands : I → ℤ �
   near_size j = near_offset (length (bytes_at old j)) (length (bytes_at old j)) (omega arith) (r.stands_for.sane.small j)
 
   -- a state of which nothing is freed
-  same_state : (y : AllocState I) (life : Life) (size : ℕ) → StandsState stands naming old y life size → StandsState stands naming new y life size
+  same_state : (y : AllocState I) (life : Life) (size : ℕ) → InGammaState gamma naming old y life size → InGammaState gamma naming new y life size
   same_state y live size h = h
   same_state y ended size h = h
   same_state y freed size h = h
@@ -148,23 +148,23 @@ module _ {I : Type 0} {l : LatticeOf I} {n : IntegersOf I} {stands : I → ℤ �
   kept_live true b h e = absurd (h refl)
   kept_live false b h e = e
 
-  freed_by : (y : AllocState I) (life : Life) (size : ℕ) → IsNearNumber (pos size) → (life ≡ live → surely ≡ true → ⊥) → StandsState stands naming old y life size → StandsState stands naming new (near_state l n (freed_state surely y)) life size
+  freed_by : (y : AllocState I) (life : Life) (size : ℕ) → IsNearNumber (pos size) → (life ≡ live → surely ≡ true → ⊥) → InGammaState gamma naming old y life size → InGammaState gamma naming new (near_state l n (freed_state surely y)) life size
   freed_by y live size near h st = (near_number_stands q y.size (pos size) near st.0, kept_live surely y.live (h refl) st.1)
   freed_by y ended size near h st = near_number_stands q y.size (pos size) near st
   freed_by y freed size near h st = (near_number_stands q y.size (pos size) near st.0, refl)
 
   -- an instance of a base that is freed or may be
-  in_set : (d j : ℕ) (base : BaseInfo) → slice_get flow.bases.items d ≡ Some base → base.shape.heap ≡ true → naming j ≡ Some d → has_base set d ≡ true → StandsState stands naming new (near_state l n (freed_state surely (StateOf base))) (life_at new j) (length (bytes_at old j))
+  in_set : (d j : ℕ) (base : BaseInfo) → slice_get flow.bases.items d ≡ Some base → base.shape.heap ≡ true → naming j ≡ Some d → has_base set d ≡ true → InGammaState gamma naming new (near_state l n (freed_state surely (StateOf base))) (life_at new j) (length (bytes_at old j))
   in_set d j base e heap named has = elim (w.released.lives j) [
-    | inl same ↦ subst (λ y. StandsState stands naming new (near_state l n (freed_state surely (StateOf base))) y (length (bytes_at old j))) (sym same)
+    | inl same ↦ subst (λ y. InGammaState gamma naming new (near_state l n (freed_state surely (StateOf base))) y (length (bytes_at old j))) (sym same)
         (freed_by (StateOf base) (life_at old j) (length (bytes_at old j)) (near_size j) (λ a b. w.alone b j d (same ∙ a) named has) (r.stands_for.states d j base e heap named))
-    | inr gone ↦ (let st : StandsState stands naming old (StateOf base) live (length (bytes_at old j)) = subst (λ y. StandsState stands naming old (StateOf base) y (length (bytes_at old j))) gone.was (r.stands_for.states d j base e heap named) in
-        subst (λ y. StandsState stands naming new (near_state l n (freed_state surely (StateOf base))) y (length (bytes_at old j))) (sym gone.is) (near_number_stands q (StateOf base).size (pos (length (bytes_at old j))) (near_size j) st.0, refl))
+    | inr gone ↦ (let st : InGammaState gamma naming old (StateOf base) live (length (bytes_at old j)) = subst (λ y. InGammaState gamma naming old (StateOf base) y (length (bytes_at old j))) gone.was (r.stands_for.states d j base e heap named) in
+        subst (λ y. InGammaState gamma naming new (near_state l n (freed_state surely (StateOf base))) y (length (bytes_at old j))) (sym gone.is) (near_number_stands q (StateOf base).size (pos (length (bytes_at old j))) (near_size j) st.0, refl))
   ]
 
-  not_in_set : (d j : ℕ) (base : BaseInfo) → slice_get flow.bases.items d ≡ Some base → base.shape.heap ≡ true → naming j ≡ Some d → (has_base set d ≡ true → ⊥) → StandsState stands naming new (StateOf base) (life_at new j) (length (bytes_at old j))
+  not_in_set : (d j : ℕ) (base : BaseInfo) → slice_get flow.bases.items d ≡ Some base → base.shape.heap ≡ true → naming j ≡ Some d → (has_base set d ≡ true → ⊥) → InGammaState gamma naming new (StateOf base) (life_at new j) (length (bytes_at old j))
   not_in_set d j base e heap named none = elim (w.released.lives j) [
-    | inl same ↦ subst (λ y. StandsState stands naming new (StateOf base) y (length (bytes_at old j))) (sym same) (same_state (StateOf base) (life_at old j) (length (bytes_at old j)) (r.stands_for.states d j base e heap named))
+    | inl same ↦ subst (λ y. InGammaState gamma naming new (StateOf base) y (length (bytes_at old j))) (sym same) (same_state (StateOf base) (life_at old j) (length (bytes_at old j)) (r.stands_for.states d j base e heap named))
     | inr gone ↦ absurd (none (w.inside j d gone named))
   ]
 
@@ -183,17 +183,17 @@ module _ {I : Type 0} {l : LatticeOf I} {n : IntegersOf I} {stands : I → ℤ �
       elim (p.laid.laid.apart k d other base f e ne) [ inl h ↦ omega (arith, h, g, k11, a0) | inr h ↦ omega (arith, h, g, a1, k10) ])
       (omega (arith, a1, c, b, long))
 
-  state_by : (d j : ℕ) (base : BaseInfo) → slice_get flow.bases.items d ≡ Some base → base.shape.heap ≡ true → naming j ≡ Some d → StandsState stands naming new (state_at l n after (state_position base)) (life_at new j) (length (bytes_at new j))
+  state_by : (d j : ℕ) (base : BaseInfo) → slice_get flow.bases.items d ≡ Some base → base.shape.heap ≡ true → naming j ≡ Some d → InGammaState gamma naming new (state_at l n after (state_position base)) (life_at new j) (length (bytes_at new j))
   unfolding state_at
   state_by d j base e heap named =
       let is = state_is d base e heap in
-      subst (λ z. StandsState stands naming new (near_state l n (state_in l (cell_at after (state_position base)))) (life_at new j) (length z)) (sym (w.released.bytes j)) (elim (cases_Bool (has_base set d)) [
+      subst (λ z. InGammaState gamma naming new (near_state l n (state_in l (cell_at after (state_position base)))) (life_at new j) (length z)) (sym (w.released.bytes j)) (elim (cases_Bool (has_base set d)) [
         | inl has ↦ (let wanted : is_heap_in set base d ≡ true = and_from _ _ has heap in
             let cell : cell_at after (state_position base) ≡ State (freed_state surely (StateOf base)) = rw wanted at is in
-            subst (λ c. StandsState stands naming new (near_state l n (state_in l c)) (life_at new j) (length (bytes_at old j))) (sym cell) (in_set d j base e heap named has))
+            subst (λ c. InGammaState gamma naming new (near_state l n (state_in l c)) (life_at new j) (length (bytes_at old j))) (sym cell) (in_set d j base e heap named has))
         | inr none ↦ (let unwanted : is_heap_in set base d ≡ false = rw none refl in
             let cell : cell_at after (state_position base) ≡ cell_at row (state_position base) = rw unwanted at is in
-            subst (λ c. StandsState stands naming new (near_state l n (state_in l c)) (life_at new j) (length (bytes_at old j))) (sym cell) (not_in_set d j base e heap named (λ f. let z : true ≡ false = sym f ∙ none in cc)))
+            subst (λ c. InGammaState gamma naming new (near_state l n (state_in l c)) (life_at new j) (length (bytes_at old j))) (sym cell) (not_in_set d j base e heap named (λ f. let z : true ≡ false = sym f ∙ none in cc)))
       ])
 
   -- ---- the whole
@@ -208,7 +208,7 @@ module _ {I : Type 0} {l : LatticeOf I} {n : IntegersOf I} {stands : I → ℤ �
         absurd (r.stands_for.lives.objects d j base.0 base.1 e (sym k.storage ∙ gone.stored it.0 it.1)))
   ]
 
-  pub freed_stands : StandsFor l n stands flow naming after (record { memory = new; temps = s.temps; entered = s.bases })
+  pub freed_stands : InGamma l n gamma flow naming after (record { memory = new; temps = s.temps; entered = s.bases })
   freed_stands = record {
     sane = released_sane w.released flow.model flow.bases.items naming r.stands_for.sane;
     held = record { within = λ t scalar e. scalar_released w.released scalar (r.stands_for.held.within t scalar e); named = λ t x e. named_released w.released naming x (r.stands_for.held.named t x e) };

@@ -15,7 +15,7 @@ use Rattle.memory_model.specs.Memory.Scalars.{Scalar, integer, pointer}
 use Rattle.memory_model.specs.Effects.ObjectEffects.{set_life, with_life}
 use Rattle.memory_model.specs.Effects.Touches.{storage_of, storage_at}
 use Rattle.store_sound.specs.Concretization.Matching.{Matched}
-use Rattle.store_sound.specs.Concretization.ValueMeaning.{Naming, StandsInto, StandsByLife, StandsPointer, StandsScalar, StandsContent}
+use Rattle.store_sound.specs.Concretization.ValueMeaning.{Naming, InGammaInto, InGammaByLife, InGammaPointer, InGammaScalar, InGammaContent}
 use Rattle.store_sound.specs.Concretization.RowMeaning.{IsLiveOf}
 use Rattle.store_sound.specs.Concretization.SoundMemory.{IsInstanceOf, IsFreedRightly, IsMemoryOf, IsWithin, IsPointerIn, IsScalarIn, IsNamed, IsContentIn, IsContentNamed}
 use Rattle.store_sound.proofs.operations.Slices.{get_there, get_set_same, get_set_other}
@@ -173,28 +173,28 @@ module _ {old new : Memory} (w : IsReleased old new) where
 
   -- ---- what values stand for
 
-  module _ {I : Type 0} (stands : I → ℤ → Type 0) (naming : Naming) where
-    into_stays : (v : Pointers I) (j offset lo hi : ℕ) → StandsInto stands naming old v j offset lo hi → StandsInto stands naming new v j offset lo hi
+  module _ {I : Type 0} (gamma : I → ℤ → Type 0) (naming : Naming) where
+    into_stays : (v : Pointers I) (j offset lo hi : ℕ) → InGammaInto gamma naming old v j offset lo hi → InGammaInto gamma naming new v j offset lo hi
     into_stays v j offset lo hi s = record { base = s.base; named = s.named; among = s.among; lower = s.lower; relative = s.relative; room = s.room; whole = λ f. let r = s.whole f in (r.0, r.1 ∙ sym (ap length (w.bytes j))) }
 
-    life_stays : (v : Pointers I) (life : Life) (j offset lo hi : ℕ) → StandsByLife stands naming old v life j offset lo hi → StandsByLife stands naming new v life j offset lo hi
+    life_stays : (v : Pointers I) (life : Life) (j offset lo hi : ℕ) → InGammaByLife gamma naming old v life j offset lo hi → InGammaByLife gamma naming new v life j offset lo hi
     life_stays v live j offset lo hi s = into_stays v j offset lo hi s
     life_stays v ended j offset lo hi s = s
     life_stays v freed j offset lo hi s = into_stays v j offset lo hi s
 
-    pub pointer_stays : (v : Pointers I) (x : MachinePointer) → StandsPointer stands naming old v x → StandsPointer stands naming new v x
+    pub pointer_stays : (v : Pointers I) (x : MachinePointer) → InGammaPointer gamma naming old v x → InGammaPointer gamma naming new v x
     pointer_stays v null s = s
     pointer_stays v (into j offset lo hi) s = elim (w.lives j) [
-      | inl same ↦ subst (λ z. StandsByLife stands naming new v z j offset lo hi) (sym same) (life_stays v (life_at old j) j offset lo hi s)
-      | inr gone ↦ (let was : StandsInto stands naming old v j offset lo hi = subst (λ z. StandsByLife stands naming old v z j offset lo hi) gone.was s in
-          subst (λ z. StandsByLife stands naming new v z j offset lo hi) (sym gone.is) (into_stays v j offset lo hi was))
+      | inl same ↦ subst (λ z. InGammaByLife gamma naming new v z j offset lo hi) (sym same) (life_stays v (life_at old j) j offset lo hi s)
+      | inr gone ↦ (let was : InGammaInto gamma naming old v j offset lo hi = subst (λ z. InGammaByLife gamma naming old v z j offset lo hi) gone.was s in
+          subst (λ z. InGammaByLife gamma naming new v z j offset lo hi) (sym gone.is) (into_stays v j offset lo hi was))
     ]
 
-    pub scalar_stays : (v : Value I) (x : Scalar) → StandsScalar stands naming old v x → StandsScalar stands naming new v x
+    pub scalar_stays : (v : Value I) (x : Scalar) → InGammaScalar gamma naming old v x → InGammaScalar gamma naming new v x
     scalar_stays v (integer z labels) s = s
     scalar_stays v (pointer x) s = pointer_stays v.pointer x s
 
-    pub content_stays : (v : Value I) (class : Class) (c : Content) → StandsContent stands naming old v class c → StandsContent stands naming new v class c
+    pub content_stays : (v : Value I) (class : Class) (c : Content) → InGammaContent gamma naming old v class c → InGammaContent gamma naming new v class c
     content_stays v class indeterminate s = s
     content_stays v class (number z labels) s = s
     content_stays v class (part x k) s = pointer_stays v.pointer x s

@@ -24,8 +24,8 @@ use Rattle.store_cells.specs.Walks.{walk}
 use Rattle.transfer_checks.specs.AllocationChecks.{with_heap, heap_of, may_be_zero, may_differ, check_release}
 use Rattle.transfer_checks.specs.Touches.{is_nowhere}
 use Rattle.memory_model.specs.Memory.Instances.{live, life_at, bytes_at}
-use Rattle.store_sound.specs.Concretization.ValueMeaning.{Naming, StandsInto, StandsState}
-use Rattle.store_sound.specs.Concretization.RowMeaning.{MachineState, StandsFor}
+use Rattle.store_sound.specs.Concretization.ValueMeaning.{Naming, InGammaInto, InGammaState}
+use Rattle.store_sound.specs.Concretization.RowMeaning.{MachineState, InGamma}
 use Rattle.store_sound.specs.Operations.Shapes.{AreShaped}
 use Rattle.store_sound.proofs.operations.Sets.{if_keeps, if_adds, none_has, only_is, in_live}
 use Rattle.store_sound.proofs.operations.Slices.{get_there}
@@ -74,8 +74,8 @@ other_there (Some p) z h e = let a = h.0 in let b = h.1 in by_ends p.0 p.1 z a b
     by_ends : (x y z : ℤ) → x ≤ℤ z → z ≤ℤ y → (z ≡ pos 0 → ⊥) → (not (int_eq x (pos 0)) || not (int_eq y (pos 0))) ≡ true
     by_ends x y z h k e = grind (arith, ints)
 
-module _ {I : Type 0} {l : LatticeOf I} {n : IntegersOf I} {stands : I → ℤ → Type 0} (o : OrderLaws l) (q : BoundLaws l n stands) (flow : Flow) (shaped : AreShaped flow.bases.items) (naming : Naming) (row : List (Cell I)) (state : MachineState) (s : StandsFor l n stands flow naming row state) (v : Pointers I)
-    (i offset lo hi : ℕ) (above : lo ≤ offset) (alive : life_at state.memory i ≡ live) (st : StandsInto stands naming state.memory v i offset lo hi) where
+module _ {I : Type 0} {l : LatticeOf I} {n : IntegersOf I} {gamma : I → ℤ → Type 0} (o : OrderLaws l) (q : BoundLaws l n gamma) (flow : Flow) (shaped : AreShaped flow.bases.items) (naming : Naming) (row : List (Cell I)) (state : MachineState) (s : InGamma l n gamma flow naming row state) (v : Pointers I)
+    (i offset lo hi : ℕ) (above : lo ≤ offset) (alive : life_at state.memory i ≡ live) (st : InGammaInto gamma naming state.memory v i offset lo hi) where
   abbrev live_set : Bases
   live_set = live_of l n flow.bases.items row v.bases
 
@@ -95,7 +95,7 @@ module _ {I : Type 0} {l : LatticeOf I} {n : IntegersOf I} {stands : I → ℤ �
       let base = base_there in
       let may : may_be_live l n base.0 row ≡ true = live_if base.0.shape.heap _ (λ h.
       let y = s.states st.base i base.0 base.1 h st.named in
-      (subst (λ z. StandsState stands naming state.memory (state_at l n row (state_position base.0)) z (length (bytes_at state.memory i))) alive y).1) in
+      (subst (λ z. InGammaState gamma naming state.memory (state_at l n row (state_position base.0)) z (length (bytes_at state.memory i))) alive y).1) in
       in_live l n flow.bases.items shaped.few row v.bases st.base base.0 base.1 (and_from _ _ (and_from _ _ (lt-ltb _ _ small_base) st.among) may)
 
   some_live : bases_empty live_set ≡ false

@@ -24,13 +24,13 @@ use Rattle.transfer_library_writes.specs.CopyWrites.{is_read_class, copied_value
 use Rattle.transfer_library_writes.specs.declared.copied_bytes.CopyWrite.{CopyWrite}
 use Rattle.memory_model.specs.Memory.Instances.{Memory, bytes_at}
 use Rattle.store_sound.specs.Concretization.SoundMemory.{IsMemoryOf}
-use Rattle.store_sound.specs.Concretization.ValueMeaning.{Naming, StandsZero}
-use Rattle.store_sound.specs.Concretization.RowMeaning.{MachineState, array_bytes, IsLiveOf, StandsLeaf, StandsClass, StandsFor}
+use Rattle.store_sound.specs.Concretization.ValueMeaning.{Naming, InGammaZero}
+use Rattle.store_sound.specs.Concretization.RowMeaning.{MachineState, array_bytes, IsLiveOf, InGammaLeaf, InGammaClass, InGamma}
 use Rattle.store_sound.specs.Operations.Shapes.{IsShaped, IsLaidOut}
 use Rattle.store_sound.proofs.operations.Only.{Only, Turned, only_put, only_cond, only_if, only_same}
 use Rattle.store_sound.proofs.operations.StoreRows.{Fits, leaf_is, class_is, zero_is, join_only, zeros_only}
 use Rattle.store_sound.proofs.chars.ByteArrays.{target_there}
-use Rattle.store_sound.specs.Regions.RegionWrites.{IsRegion, WritesWithin, StandsBase}
+use Rattle.store_sound.specs.Regions.RegionWrites.{IsRegion, WritesWithin, InGammaBase}
 use Rattle.store_sound.proofs.regions.BaseRows.{writes_stand, writes_long}
 use Rattle.store_sound.proofs.regions.Layers.{value_turn, zero_turn, leaves_within, leaf_turn, part_turn, classes_within, class_turn, layers_within, layers_stand}
 use Rattle.store_sound.proofs.regions.RegionArrays.{array_short, array_apart, put_zero_stands, any_zero_stands}
@@ -78,14 +78,14 @@ module _ {I : Type 0} (l : LatticeOf I) (n : IntegersOf I) (m : Model) (base : B
 
 -- ---- a base, and all
 
-module _ {I : Type 0} {l : LatticeOf I} {n : IntegersOf I} {stands : I → ℤ → Type 0} (o : OrderLaws l) (q : BoundLaws l n stands) (flow : Flow) (naming : Naming) {old new : Memory} {i offset size : ℕ} (s : IsRegion old new i offset size) (sane : IsMemoryOf flow.model flow.bases.items naming new) (write : CopyWrite I) (k : IsCopy o q naming write new i offset size)
-    (b : ℕ) (base : BaseInfo) (fits : Fits base) (shape : IsShaped base) (row : List (Cell I)) (long : base.first + base_values base ≤ length row) (t : StandsBase l n stands flow naming old b base row) where
-  leaf_new : (j : ℕ) (leaf : Leaf) → slice_get base.shape.cells j ≡ Some leaf → StandsLeaf stands flow naming new b leaf (value_at l n (copy_leaves l n flow.model base write row) (leaf_position base j))
+module _ {I : Type 0} {l : LatticeOf I} {n : IntegersOf I} {gamma : I → ℤ → Type 0} (o : OrderLaws l) (q : BoundLaws l n gamma) (flow : Flow) (naming : Naming) {old new : Memory} {i offset size : ℕ} (s : IsRegion old new i offset size) (sane : IsMemoryOf flow.model flow.bases.items naming new) (write : CopyWrite I) (k : IsCopy o q naming write new i offset size)
+    (b : ℕ) (base : BaseInfo) (fits : Fits base) (shape : IsShaped base) (row : List (Cell I)) (long : base.first + base_values base ≤ length row) (t : InGammaBase l n gamma flow naming old b base row) where
+  leaf_new : (j : ℕ) (leaf : Leaf) → slice_get base.shape.cells j ≡ Some leaf → InGammaLeaf gamma flow naming new b leaf (value_at l n (copy_leaves l n flow.model base write row) (leaf_position base j))
   unfolding copy_leaves
   leaf_new j leaf e =
       let u = slice_get_within base.shape.cells j leaf e in
       let x = leaf_is base j fits u in
-      value_turn l n (StandsLeaf stands flow naming old b leaf) (StandsLeaf stands flow naming new b leaf) (leaf_position base j) (copy_leaf_of l n flow.model base write leaf j) row (walk (copy_leaf_of l n flow.model base write) 0 base.shape.cells row)
+      value_turn l n (InGammaLeaf gamma flow naming old b leaf) (InGammaLeaf gamma flow naming new b leaf) (leaf_position base j) (copy_leaf_of l n flow.model base write leaf j) row (walk (copy_leaf_of l n flow.model base write) 0 base.shape.cells row)
       (leaf_turn base fits (copy_leaf_of l n flow.model base write) (leaf_only l n flow.model base fits write) j leaf e row)
       (λ r same cell. leaf_copied o q flow naming s sane write k b base shape j leaf e r (omega (arith, x, u, same, long)) cell)
       (t.leaves j leaf e)
@@ -94,30 +94,30 @@ module _ {I : Type 0} {l : LatticeOf I} {n : IntegersOf I} {stands : I → ℤ �
     class_there : (c : ℕ) → c < 6 → (r2 : List (Cell I)) → length r2 ≡ length r → class_position base c < length r2
     class_there c small r2 equal = let six : cond {A = ℕ} base.shape.heap 6 0 ≡ 6 = rw heap refl in let x = class_is base c fits (omega (arith, six, small)) in omega (arith, x, six, small, same, long, equal)
 
-    class_by : (c : ℕ) → c < 6 → StandsClass stands flow naming old b base (class_at c) (value_at l n r (class_position base c)) → StandsClass stands flow naming new b base (class_at c) (value_at l n (copy_class_cells l n flow.model base write r) (class_position base c))
+    class_by : (c : ℕ) → c < 6 → InGammaClass gamma flow naming old b base (class_at c) (value_at l n r (class_position base c)) → InGammaClass gamma flow naming new b base (class_at c) (value_at l n (copy_class_cells l n flow.model base write r) (class_position base c))
     unfolding copy_class_cells
     class_by c small cell =
         let e : c + 0 ≡ c = omega arith in
         let stray : Bool = has_stray base.shape.cells Char write.window in
-        value_turn l n (StandsClass stands flow naming old b base (class_at c)) (StandsClass stands flow naming new b base (class_at c)) (class_position base c) (copy_class_of l n flow.model base write stray c) r (turns (copy_class_of l n flow.model base write stray) 6 r)
+        value_turn l n (InGammaClass gamma flow naming old b base (class_at c)) (InGammaClass gamma flow naming new b base (class_at c)) (class_position base c) (copy_class_of l n flow.model base write stray c) r (turns (copy_class_of l n flow.model base write stray) 6 r)
         (subst (λ z. Turned (class_position base z) (copy_class_of l n flow.model base write stray c) r (turns (copy_class_of l n flow.model base write stray) 6 r)) e
         (class_turn base fits heap 0 6 (omega arith) (copy_class_of l n flow.model base write stray) (numbered_only l n flow.model base fits write stray) c small r))
         (λ r2 equal cell2. class_copied o q flow naming s sane write k b base shape heap c r2 (class_there c small r2 equal) cell2)
         cell
 
-    class_new : (c : ℕ) → c < 6 → StandsClass stands flow naming old b base (class_at c) (value_at l n r (class_position base c)) → StandsClass stands flow naming new b base (class_at c) (value_at l n (copy_heap_part l n flow.model base write r) (class_position base c))
-    class_new c small cell = subst (λ z. StandsClass stands flow naming new b base (class_at c) (value_at l n z (class_position base c))) (sym (cond_hit base.shape.heap (copy_class_cells l n flow.model base write r) r heap)) (class_by c small cell)
+    class_new : (c : ℕ) → c < 6 → InGammaClass gamma flow naming old b base (class_at c) (value_at l n r (class_position base c)) → InGammaClass gamma flow naming new b base (class_at c) (value_at l n (copy_heap_part l n flow.model base write r) (class_position base c))
+    class_new c small cell = subst (λ z. InGammaClass gamma flow naming new b base (class_at c) (value_at l n z (class_position base c))) (sym (cond_hit base.shape.heap (copy_class_cells l n flow.model base write r) r heap)) (class_by c small cell)
 
   small_array : (part : ZeroPart) (j : ℕ) → length (array_bytes part (bytes_at new j)) ≤ 2 ^ 64 - 1
   small_array part j = let a = array_short part (bytes_at new j) in let c = sane.small j in omega (arith, a, c)
 
   -- nothing is known of the arrays that the window meets
-  zero_forgotten : (z : ℕ) (part : ZeroPart) (r : List (Cell I)) → zero_position base z < length r → ((j : ℕ) → IsLiveOf naming old b j → StandsZero stands naming old (zero_at l n r (zero_position base z)) (array_bytes part (bytes_at old j))) → (j : ℕ) → IsLiveOf naming old b j → StandsZero stands naming new (zero_at l n (forget_part l n base write.window part z r) (zero_position base z)) (array_bytes part (bytes_at new j))
+  zero_forgotten : (z : ℕ) (part : ZeroPart) (r : List (Cell I)) → zero_position base z < length r → ((j : ℕ) → IsLiveOf naming old b j → InGammaZero gamma naming old (zero_at l n r (zero_position base z)) (array_bytes part (bytes_at old j))) → (j : ℕ) → IsLiveOf naming old b j → InGammaZero gamma naming new (zero_at l n (forget_part l n base write.window part z r) (zero_position base z)) (array_bytes part (bytes_at new j))
   unfolding forget_target
   zero_forgotten z part r there zeros j alive = by_target (zero_target part write.window) refl
     where
-      by_target : (target : Option ZeroTarget) → zero_target part write.window ≡ target → StandsZero stands naming new (zero_at l n (cond (is_some target) (put_zero r (zero_position base z) (any_zero l n)) r) (zero_position base z)) (array_bytes part (bytes_at new j))
-      by_target None e = subst (StandsZero stands naming new (zero_at l n r (zero_position base z)))
+      by_target : (target : Option ZeroTarget) → zero_target part write.window ≡ target → InGammaZero gamma naming new (zero_at l n (cond (is_some target) (put_zero r (zero_position base z) (any_zero l n)) r) (zero_position base z)) (array_bytes part (bytes_at new j))
+      by_target None e = subst (InGammaZero gamma naming new (zero_at l n r (zero_position base z)))
           (sym (array_apart s part j (λ d x inside from to. let w = k.window x from to in
           let fits = s.fits in
           let same = s.lengths i in
@@ -126,28 +126,28 @@ module _ {I : Type 0} {l : LatticeOf I} {n : IntegersOf I} {stands : I → ℤ �
           (zeros j alive)
       by_target (Some target) e = put_zero_stands o q naming new r (zero_position base z) (any_zero l n) (array_bytes part (bytes_at new j)) there (small_array part j) (any_zero_stands o q naming new (array_bytes part (bytes_at new j)) (small_array part j))
 
-  zero_new : (r : List (Cell I)) → length r ≡ length row → (z : ℕ) (part : ZeroPart) → slice_get base.shape.zeros z ≡ Some part → ((j : ℕ) → IsLiveOf naming old b j → StandsZero stands naming old (zero_at l n r (zero_position base z)) (array_bytes part (bytes_at old j))) → (j : ℕ) → IsLiveOf naming old b j → StandsZero stands naming new (zero_at l n (forget_zeros l n base write.window r) (zero_position base z)) (array_bytes part (bytes_at new j))
+  zero_new : (r : List (Cell I)) → length r ≡ length row → (z : ℕ) (part : ZeroPart) → slice_get base.shape.zeros z ≡ Some part → ((j : ℕ) → IsLiveOf naming old b j → InGammaZero gamma naming old (zero_at l n r (zero_position base z)) (array_bytes part (bytes_at old j))) → (j : ℕ) → IsLiveOf naming old b j → InGammaZero gamma naming new (zero_at l n (forget_zeros l n base write.window r) (zero_position base z)) (array_bytes part (bytes_at new j))
   unfolding forget_zeros
   zero_new r same z part e zeros j alive =
       let u = slice_get_within base.shape.zeros z part e in
       let x = zero_is base z fits (omega (arith, u)) in
-      zero_turn l n (λ f. (h : ℕ) → IsLiveOf naming old b h → StandsZero stands naming old f (array_bytes part (bytes_at old h))) (λ f. StandsZero stands naming new f (array_bytes part (bytes_at new j))) (zero_position base z) (forget_part l n base write.window part z) r _
+      zero_turn l n (λ f. (h : ℕ) → IsLiveOf naming old b h → InGammaZero gamma naming old f (array_bytes part (bytes_at old h))) (λ f. InGammaZero gamma naming new f (array_bytes part (bytes_at new j))) (zero_position base z) (forget_part l n base write.window part z) r _
       (part_turn base fits (forget_part l n base write.window) (zero_only l n flow.model base fits write) z part e r)
       (λ r2 equal zeros2. zero_forgotten z part r2 (omega (arith, x, u, equal, same, long)) zeros2 j alive)
       zeros
 
-  pub base_copied : StandsBase l n stands flow naming new b base (copy_base l n flow.model base write row)
+  pub base_copied : InGammaBase l n gamma flow naming new b base (copy_base l n flow.model base write row)
   unfolding copy_base
   base_copied = layers_stand o q flow naming s b base fits (copy_leaves l n flow.model base write) (copy_heap_part l n flow.model base write) (forget_zeros l n base write.window)
       (leaves_only l n flow.model base fits write) (heap_only l n flow.model base fits write) (zeros_only l n flow.model base write.window fits) row t
       leaf_new (λ r same states c heap small cell. class_new r same heap c small cell) zero_new
 
-module _ {I : Type 0} {l : LatticeOf I} {n : IntegersOf I} {stands : I → ℤ → Type 0} (o : OrderLaws l) (q : BoundLaws l n stands) (flow : Flow) (naming : Naming) (row : List (Cell I)) (state : MachineState) (laid : IsLaidOut flow (length row)) (s : StandsFor l n stands flow naming row state)
+module _ {I : Type 0} {l : LatticeOf I} {n : IntegersOf I} {gamma : I → ℤ → Type 0} (o : OrderLaws l) (q : BoundLaws l n gamma) (flow : Flow) (naming : Naming) (row : List (Cell I)) (state : MachineState) (laid : IsLaidOut flow (length row)) (s : InGamma l n gamma flow naming row state)
     (new : Memory) (i offset size : ℕ) (region : IsRegion state.memory new i offset size) (sane : IsMemoryOf flow.model flow.bases.items naming new) (write : CopyWrite I) (k : IsCopy o q naming write new i offset size) (here : (b : ℕ) → naming i ≡ Some b → 0 < size → has_base write.bases b ≡ true) where
   base_long : (b : ℕ) (base : BaseInfo) → slice_get flow.bases.items b ≡ Some base → (base.first + base_values base ≤ 2 ^ 64 - 1) × (base.first + base_values base ≤ length row)
   base_long b base e = let c = laid.laid.close b base e in let d = laid.laid.small in let f = laid.long in (omega (arith, c, d), omega (arith, c, f))
 
-  pub copy_stands : StandsFor l n stands flow naming (write_copy l n flow write row) (record { memory = new; temps = state.temps; entered = state.entered })
+  pub copy_stands : InGamma l n gamma flow naming (write_copy l n flow write row) (record { memory = new; temps = state.temps; entered = state.entered })
   unfolding write_copy copy_base_if
   copy_stands = writes_stand o q flow naming row state laid s new i offset size region sane write.bases (λ base number r. copy_base l n flow.model base write r)
       (λ b base e. base_within l n flow.model base (base_long b base e).0 write)

@@ -43,7 +43,7 @@ use Rattle.memory_model.specs.Effects.Touches.{storage_at, is_literal, set_bytes
 use Rattle.memory_model.specs.Effects.Worlds.{World, Reply, goes, behind, stopped_by}
 use Rattle.semantics.specs.CfgMachine.FlowStates.{Standing, values_of}
 use Rattle.store_sound.specs.Concretization.SoundMemory.{IsMemoryOf, IsWithin}
-use Rattle.store_sound.specs.Concretization.ValueMeaning.{Naming, StandsInto, StandsByLife, StandsScalar}
+use Rattle.store_sound.specs.Concretization.ValueMeaning.{Naming, InGammaInto, InGammaByLife, InGammaScalar}
 use Rattle.store_sound.specs.Concretization.Coverage.{state_of}
 use Rattle.store_sound.specs.Operations.Shapes.{IsLaidOut}
 use Rattle.store_sound.proofs.operations.Frames.{pointer_in_moves, scalar_moves}
@@ -99,7 +99,7 @@ by_flags : (a b : Bool) → a ≡ true → (a && b) ≡ false → b ≡ false
 by_flags true b g h = h
 by_flags false b g h = cc
 
-module _ {I : Type 0} {l : LatticeOf I} {n : IntegersOf I} {stands : I → ℤ → Type 0} (o : OrderLaws l) (q : BoundLaws l n stands) (flow : Flow) (p : HasPremises flow) (naming : Naming) (row : List (Cell I)) (s : Standing) (r : IsReached l n stands flow naming row s) (to : Option ℕ) (has : has_result (names_of flow) to ≡ true) (newest : Option ℕ)
+module _ {I : Type 0} {l : LatticeOf I} {n : IntegersOf I} {gamma : I → ℤ → Type 0} (o : OrderLaws l) (q : BoundLaws l n gamma) (flow : Flow) (p : HasPremises flow) (naming : Naming) (row : List (Cell I)) (s : Standing) (r : IsReached l n gamma flow naming row s) (to : Option ℕ) (has : has_result (names_of flow) to ≡ true) (newest : Option ℕ)
     (items : List ℕ) (wanted : Option ℕ) (vs : List Scalar) (e : values_of s.temps items ≡ Some vs) (apart : Bool)
     (d m : MachinePointer) (count : ℤ) (lb : Labels) (first : slice_get vs 0 ≡ Some (pointer d)) (second : slice_get vs 1 ≡ Some (pointer m)) (third : slice_get vs 2 ≡ Some (integer count lb)) (sized : pos 0 ≤ℤ count) where
   abbrev call : Call
@@ -149,7 +149,7 @@ module _ {I : Type 0} {l : LatticeOf I} {n : IntegersOf I} {stands : I → ℤ �
   abbrev copy_plan : Plan I
   copy_plan = planned target.trail (copy_in_window l n call row source target (touched_window n target.rest target.count))
 
-  amount_stands : StandsScalar stands naming s.world.memory amount (integer count lb)
+  amount_stands : InGammaScalar gamma naming s.world.memory amount (integer count lb)
   amount_stands = argument_stands o q flow p naming row s r to has newest items wanted vs e 2 (integer count lb) third
 
   size_is : count ≡ pos size
@@ -209,7 +209,7 @@ module _ {I : Type 0} {l : LatticeOf I} {n : IntegersOf I} {stands : I → ℤ �
     within : IsWithin s.world.memory i offset lo hi
     within = given_within o q flow p naming row s r to has newest items wanted vs e 0 i offset lo hi here alive
 
-    st : StandsInto stands naming s.world.memory given.rest i offset lo hi
+    st : InGammaInto gamma naming s.world.memory given.rest i offset lo hi
     st = given_into o q flow p naming row s r to has newest items wanted vs e 0 i offset lo hi here alive
 
     given_goes : given_on.goes_on ≡ true
@@ -225,7 +225,7 @@ module _ {I : Type 0} {l : LatticeOf I} {n : IntegersOf I} {stands : I → ℤ �
       right_within : IsWithin s.world.memory j at low high
       right_within = given_within o q flow p naming row s r to has newest items wanted vs e 1 j at low high there right_alive
 
-      right_st : StandsInto stands naming s.world.memory source.rest j at low high
+      right_st : InGammaInto gamma naming s.world.memory source.rest j at low high
       right_st = given_into o q flow p naming row s r to has newest items wanted vs e 1 j at low high there right_alive
 
       both_go : both_on.goes_on ≡ true
@@ -267,7 +267,7 @@ module _ {I : Type 0} {l : LatticeOf I} {n : IntegersOf I} {stands : I → ℤ �
             on : target.trail.goes_on ≡ true
             on = goes_further fitting_on (literal_violations (writes_literal flow.bases.items given.rest.bases both_cut)) (not (bases_empty (after_write flow.bases.items given.rest.bases both_cut))) fitted (ap not (not_empty (after_write flow.bases.items given.rest.bases both_cut) st.base after_there))
 
-            rest : (y : StandsInto stands naming s.world.memory target.rest i offset lo hi) × (y.base ≡ st.base)
+            rest : (y : InGammaInto gamma naming s.world.memory target.rest i offset lo hi) × (y.base ≡ st.base)
             rest = within_stands o q flow p.shaped naming s.world.memory r.stands_for.sane given.rest i offset lo hi st within (after_write flow.bases.items given.rest.bases both_cut) after_there
 
             fits : offset + size ≤ length (bytes_at s.world.memory i)
@@ -297,7 +297,7 @@ module _ {I : Type 0} {l : LatticeOf I} {n : IntegersOf I} {stands : I → ℤ �
 
               result : IsResult q flow p naming memory (pointer_value l target.rest) (pointer d)
               result = subst (λ y. IsResult q flow p naming memory (pointer_value l target.rest) (pointer y)) (sym is) (record {
-                stands_for = scalar_moves (alike_region came) stands naming (pointer_value l target.rest) (pointer (into i offset lo hi)) (subst (λ y. StandsByLife stands naming s.world.memory target.rest y i offset lo hi) (sym alive) rest.0);
+                stands_for = scalar_moves (alike_region came) gamma naming (pointer_value l target.rest) (pointer (into i offset lo hi)) (subst (λ y. InGammaByLife gamma naming s.world.memory target.rest y i offset lo hi) (sym alive) rest.0);
                 near = tt;
                 within = pointer_in_moves (alike_region came) (into i offset lo hi) within;
               })
@@ -353,11 +353,11 @@ module _ {I : Type 0} {l : LatticeOf I} {n : IntegersOf I} {stands : I → ℤ �
                     by_window (Some t) = source_near o q flow row t source.rest.bases
 
                 -- each byte that is read
-                read_byte : (x : ℕ) (y : Byte) → at ≤ x → x < at + size → byte_at s.world.memory j x ≡ Some y → IsRead stands naming s.world.memory (bytes_of_source l n flow row source.rest.bases (touched_window n source.rest both_cut)) y.content
+                read_byte : (x : ℕ) (y : Byte) → at ≤ x → x < at + size → byte_at s.world.memory j x ≡ Some y → IsRead gamma naming s.world.memory (bytes_of_source l n flow row source.rest.bases (touched_window n source.rest both_cut)) y.content
                 read_byte x y from below f =
                     let t = right_window x from below in
                     let base = get_there flow.bases.items right_st.base (r.stands_for.sane.few j right_st.base right_st.named) in
-                    subst (λ z. IsRead stands naming s.world.memory (bytes_of_source l n flow row source.rest.bases z) y.content) (sym t.is)
+                    subst (λ z. IsRead gamma naming s.world.memory (bytes_of_source l n flow row source.rest.bases z) y.content) (sym t.is)
                     (source_read o q flow naming row (state_of s) t.window y.content p.shaped p.padding r.stands_for j x right_st.base base.0 base.1 right_st.named right_alive t.from t.to y f refl source.rest.bases right_st.among)
 
                 is_copy : IsCopy o q naming write memory i offset size
@@ -365,8 +365,8 @@ module _ {I : Type 0} {l : LatticeOf I} {n : IntegersOf I} {stands : I → ℤ �
                   window = window_has;
                   bytes = λ x y from below f.
                       let t = moved_byte flow.model flow.bases.items p.shaped naming s.world.memory r.stands_for.sane i offset j at size it.0 it.1 fits right_fits right_st.base right_st.named may x y from below f in
-                      subst (IsRead stands naming memory bytes) (sym t.content)
-                      (read_moves (alike_region came) stands naming bytes t.source.content (read_byte (at + (x - offset)) t.source (omega arith) (omega (arith, from, below)) t.from));
+                      subst (IsRead gamma naming memory bytes) (sym t.content)
+                      (read_moves (alike_region came) gamma naming bytes t.source.content (read_byte (at + (x - offset)) t.source (omega arith) (omega (arith, from, below)) t.from));
                   near = bytes_near;
                 }
 

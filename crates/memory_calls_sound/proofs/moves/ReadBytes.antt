@@ -20,7 +20,7 @@ use Rattle.memory_model.specs.Memory.Instances.{Memory}
 use Rattle.memory_model.specs.Memory.Tags.{tag_of}
 use Rattle.store_sound.specs.Concretization.SeenLabels.{as_set}
 use Rattle.store_sound.specs.Concretization.SoundMemory.{IsContentIn}
-use Rattle.store_sound.specs.Concretization.ValueMeaning.{Naming, StandsPointer, StandsContent}
+use Rattle.store_sound.specs.Concretization.ValueMeaning.{Naming, InGammaPointer, InGammaContent}
 use Rattle.store_sound.proofs.operations.Larger.{pointer_below, pointer_larger}
 use Rattle.store_sound.proofs.operations.Frames.{IsAlike, pointer_moves}
 use Rattle.store_sound.proofs.operations.Near.{IsNearValue, join_near, near_number_none}
@@ -49,11 +49,11 @@ untagged_part memory (part p k) class h = let e = h.1 in cc
 
 -- ---- what stands for a byte
 
-module _ {I : Type 0} (stands : I → ℤ → Type 0) (naming : Naming) (memory : Memory) where
+module _ {I : Type 0} (gamma : I → ℤ → Type 0) (naming : Naming) (memory : Memory) where
   abbrev pub IsRead : CopiedBytes I → Content → Type 0
   IsRead found indeterminate = found.indeterminate ≡ true
   IsRead found (number k labels) = (labels_leq (as_set labels) found.labels ≡ true) × ((found.numbers || found.pointers.null) ≡ true)
-  IsRead found (part p k) = StandsPointer stands naming memory found.pointers p
+  IsRead found (part p k) = InGammaPointer gamma naming memory found.pointers p
 
   pub if_read : (b : Bool) (x y : CopiedBytes I) (c : Content) → IsRead x c → IsRead y c → IsRead (cond b x y) c
   if_read true x y c h k = h
@@ -63,24 +63,24 @@ module _ {I : Type 0} (stands : I → ℤ → Type 0) (naming : Naming) (memory 
   is_read true x y c e h = h
   is_read false x y c e h = cc
 
-pub read_moves : {I : Type 0} {old new : Memory} (s : IsAlike old new) (stands : I → ℤ → Type 0) (naming : Naming) (found : CopiedBytes I) (c : Content) → IsRead stands naming old found c → IsRead stands naming new found c
-read_moves s stands naming found indeterminate h = h
-read_moves s stands naming found (number k labels) h = h
-read_moves s stands naming found (part p k) h = pointer_moves s stands naming found.pointers p h
+pub read_moves : {I : Type 0} {old new : Memory} (s : IsAlike old new) (gamma : I → ℤ → Type 0) (naming : Naming) (found : CopiedBytes I) (c : Content) → IsRead gamma naming old found c → IsRead gamma naming new found c
+read_moves s gamma naming found indeterminate h = h
+read_moves s gamma naming found (number k labels) h = h
+read_moves s gamma naming found (part p k) h = pointer_moves s gamma naming found.pointers p h
 
-module _ {I : Type 0} {l : LatticeOf I} {n : IntegersOf I} {stands : I → ℤ → Type 0} (o : OrderLaws l) (q : BoundLaws l n stands) (naming : Naming) (memory : Memory) where
+module _ {I : Type 0} {l : LatticeOf I} {n : IntegersOf I} {gamma : I → ℤ → Type 0} (o : OrderLaws l) (q : BoundLaws l n gamma) (naming : Naming) (memory : Memory) where
   null_or : (p : Bool) (a : Bool) (f v : Pointers I) → (a || f.null) ≡ true → ((a || not p) || (cond p ((pointer_lattice l).join f v) f).null) ≡ true
   null_or true true f v h = refl
   null_or false true f v h = refl
   null_or true false f v h = or_left f.null v.null h
   null_or false false f v h = refl
 
-  larger_or : (p : Bool) (f v : Pointers I) (m : _) → StandsPointer stands naming memory f m → StandsPointer stands naming memory (cond p ((pointer_lattice l).join f v) f) m
+  larger_or : (p : Bool) (f v : Pointers I) (m : _) → InGammaPointer gamma naming memory f m → InGammaPointer gamma naming memory (cond p ((pointer_lattice l).join f v) f) m
   larger_or true f v m h = pointer_larger q naming memory f _ m (pointer_below l f _ ((pointer_order o).join_left f v)) h
   larger_or false f v m h = h
 
   -- further cells leave what is known
-  pub cell_keeps : (found : CopiedBytes I) (v : Value I) (class : Class) (c : Content) → IsRead stands naming memory found c → IsRead stands naming memory (with_cell l found v class) c
+  pub cell_keeps : (found : CopiedBytes I) (v : Value I) (class : Class) (c : Content) → IsRead gamma naming memory found c → IsRead gamma naming memory (with_cell l found v class) c
   cell_keeps found v class indeterminate h = or_left found.indeterminate v.indeterminate h
   cell_keeps found v class (number k labels) h = (labels_order.transitive (as_set labels) found.labels _ h.0 (labels_order.join_left found.labels v.labels), null_or (is_pointer class) found.numbers found.pointers v.pointer h.1)
   cell_keeps found v class (part p k) h = larger_or (is_pointer class) found.pointers v.pointer p h
@@ -89,19 +89,19 @@ module _ {I : Type 0} {l : LatticeOf I} {n : IntegersOf I} {stands : I → ℤ �
   null_of true a f v h = or_right (a || false) (f.null || v.null) (or_right f.null v.null (h refl))
   null_of false a f v h = or_left (a || true) f.null (or_right a true refl)
 
-  larger_of : (p : Bool) (f v : Pointers I) (m : _) → p ≡ true → StandsPointer stands naming memory v m → StandsPointer stands naming memory (cond p ((pointer_lattice l).join f v) f) m
+  larger_of : (p : Bool) (f v : Pointers I) (m : _) → p ≡ true → InGammaPointer gamma naming memory v m → InGammaPointer gamma naming memory (cond p ((pointer_lattice l).join f v) f) m
   larger_of true f v m e h = pointer_larger q naming memory v _ m (pointer_below l v _ ((pointer_order o).join_right f v)) h
   larger_of false f v m e h = cc
 
   -- what a cell stands for is known with it
-  pub cell_shows : (found : CopiedBytes I) (v : Value I) (class : Class) (c : Content) → IsOwnPart class c → StandsContent stands naming memory v class c → IsRead stands naming memory (with_cell l found v class) c
+  pub cell_shows : (found : CopiedBytes I) (v : Value I) (class : Class) (c : Content) → IsOwnPart class c → InGammaContent gamma naming memory v class c → IsRead gamma naming memory (with_cell l found v class) c
   cell_shows found v class indeterminate own h = or_right found.indeterminate v.indeterminate h
   cell_shows found v class (number k labels) own h = (labels_order.transitive (as_set labels) v.labels _ h.0 (labels_order.join_right found.labels v.labels), null_of (is_pointer class) found.numbers found.pointers v.pointer h.1)
   cell_shows found v class (part p k) own h = larger_of (is_pointer class) found.pointers v.pointer p own h
 
 -- ---- bounds
 
-module _ {I : Type 0} {l : LatticeOf I} {n : IntegersOf I} {stands : I → ℤ → Type 0} (o : OrderLaws l) (q : BoundLaws l n stands) where
+module _ {I : Type 0} {l : LatticeOf I} {n : IntegersOf I} {gamma : I → ℤ → Type 0} (o : OrderLaws l) (q : BoundLaws l n gamma) where
   abbrev pub IsNearRead : CopiedBytes I → Type 0
   IsNearRead found = IsNearValue l n (pointer_value l found.pointers)
 

@@ -33,7 +33,7 @@ use Rattle.store_sound.specs.Concretization.Places.{OwnedByLeaf, OwnedByClass, I
 use Rattle.store_sound.specs.Concretization.SeenLabels.{as_set}
 use Rattle.store_sound.specs.Concretization.SoundMemory.{IsContentIn}
 use Rattle.store_sound.specs.Concretization.ValueMeaning.{Naming}
-use Rattle.store_sound.specs.Concretization.RowMeaning.{MachineState, StandsFor}
+use Rattle.store_sound.specs.Concretization.RowMeaning.{MachineState, InGamma}
 use Rattle.store_sound.specs.Operations.Shapes.{AreShaped, IsShaped, SeesPadding, at_offset}
 use Rattle.store_sound.proofs.operations.Classes.{class_above, class_small, class_number_back}
 use Rattle.store_sound.proofs.operations.LoadSound.{instance_there}
@@ -45,16 +45,16 @@ use Rattle.memory_calls_sound.proofs.moves.ReadBytes.{IsOwnPart, tagged_part, un
 
 -- ---- further bytes leave what is known
 
-module _ {I : Type 0} {l : LatticeOf I} {n : IntegersOf I} {stands : I → ℤ → Type 0} (o : OrderLaws l) (q : BoundLaws l n stands) (flow : Flow) (naming : Naming) (row : List (Cell I)) (state : MachineState) (w : Window) (c : Content) where
+module _ {I : Type 0} {l : LatticeOf I} {n : IntegersOf I} {gamma : I → ℤ → Type 0} (o : OrderLaws l) (q : BoundLaws l n gamma) (flow : Flow) (naming : Naming) (row : List (Cell I)) (state : MachineState) (w : Window) (c : Content) where
   abbrev Read : CopiedBytes I → Type 0
-  Read found = IsRead stands naming state.memory found c
+  Read found = IsRead gamma naming state.memory found c
 
   leaf_keeps : (base : BaseInfo) (leaf : Leaf) (place : ℕ) (found : CopiedBytes I) → Read found → Read (with_leaf l n flow.model base row w leaf place found)
   unfolding with_leaf
-  leaf_keeps base leaf place found h = if_read stands naming state.memory (is_overlapped flow.model leaf w) _ found c (cell_keeps {n = n} o q naming state.memory found (value_at l n row (leaf_position base place)) leaf.class c h) h
+  leaf_keeps base leaf place found h = if_read gamma naming state.memory (is_overlapped flow.model leaf w) _ found c (cell_keeps {n = n} o q naming state.memory found (value_at l n row (leaf_position base place)) leaf.class c h) h
 
   class_keeps : (base : BaseInfo) (stray : Bool) (place : ℕ) (found : CopiedBytes I) → Read found → Read (with_class l n base row stray place found)
-  class_keeps base stray place found h = if_read stands naming state.memory (is_read_class stray place) _ found c (cell_keeps {n = n} o q naming state.memory found (value_at l n row (class_position base place)) (class_at place) c h) h
+  class_keeps base stray place found h = if_read gamma naming state.memory (is_read_class stray place) _ found c (cell_keeps {n = n} o q naming state.memory found (value_at l n row (class_position base place)) (class_at place) c h) h
 
   leaves_keep : (base : BaseInfo) (found : CopiedBytes I) → Read found → Read (with_leaves l n flow.model base row w found)
   unfolding with_leaves
@@ -63,7 +63,7 @@ module _ {I : Type 0} {l : LatticeOf I} {n : IntegersOf I} {stands : I → ℤ �
   numbers_keep : (found : CopiedBytes I) → Read found → Read (as_numbers found)
   numbers_keep found h = by_content c h
     where
-      by_content : (d : Content) → IsRead stands naming state.memory found d → IsRead stands naming state.memory (as_numbers found) d
+      by_content : (d : Content) → IsRead gamma naming state.memory found d → IsRead gamma naming state.memory (as_numbers found) d
       by_content indeterminate g = g
       by_content (number k labels) g = (g.0, refl)
       by_content (part p k) g = g
@@ -75,7 +75,7 @@ module _ {I : Type 0} {l : LatticeOf I} {n : IntegersOf I} {stands : I → ℤ �
       all_above : (labels : Labels) → labels_leq (as_set labels) all_labels ≡ true
       all_above labels = grind arith
 
-      by_content : (d : Content) → IsRead stands naming state.memory found d → IsRead stands naming state.memory (with_padding found true) d
+      by_content : (d : Content) → IsRead gamma naming state.memory found d → IsRead gamma naming state.memory (with_padding found true) d
       by_content indeterminate g = refl
       by_content (number k labels) g = (all_above labels, refl)
       by_content (part p k) g = g
@@ -88,11 +88,11 @@ module _ {I : Type 0} {l : LatticeOf I} {n : IntegersOf I} {stands : I → ℤ �
   unfolding with_base
   base_keeps base found h =
       let g = leaves_keep base found h in
-      if_read stands naming state.memory base.shape.heap _ _ c (classes_keep base (with_leaves l n flow.model base row w found) g) (padding_keeps (with_leaves l n flow.model base row w found) (meets_padding flow.model base.shape.cells w base.size) g)
+      if_read gamma naming state.memory base.shape.heap _ _ c (classes_keep base (with_leaves l n flow.model base row w found) g) (padding_keeps (with_leaves l n flow.model base row w found) (meets_padding flow.model base.shape.cells w base.size) g)
 
   -- ---- a byte and its owner
 
-  module _ (shaped : AreShaped flow.bases.items) (padding : SeesPadding flow.model flow.bases.items) (s : StandsFor l n stands flow naming row state) (i x b : ℕ) (base : BaseInfo) (at : slice_get flow.bases.items b ≡ Some base) (named : naming i ≡ Some b) (alive : life_at state.memory i ≡ live) (from : w.lo ≤ x) (to : x ≤ w.hi) (byte : Byte) (here : byte_at state.memory i x ≡ Some byte) (is : byte.content ≡ c) where
+  module _ (shaped : AreShaped flow.bases.items) (padding : SeesPadding flow.model flow.bases.items) (s : InGamma l n gamma flow naming row state) (i x b : ℕ) (base : BaseInfo) (at : slice_get flow.bases.items b ≡ Some base) (named : naming i ≡ Some b) (alive : life_at state.memory i ≡ live) (from : w.lo ≤ x) (to : x ≤ w.hi) (byte : Byte) (here : byte_at state.memory i x ≡ Some byte) (is : byte.content ≡ c) where
     shape : IsShaped base
     shape = shaped.each b base at
 
@@ -110,10 +110,10 @@ module _ {I : Type 0} {l : LatticeOf I} {n : IntegersOf I} {stands : I → ℤ �
         let small = owns.small in
         let hit : is_overlapped flow.model leaf w ≡ true = place_selected leaf (window_between (w.lo - (class_bytes flow.model leaf.class - 1)) w.hi) owns.start owns.place (shape.strides j leaf e) (omega (arith, from, there, small)) (omega (arith, to, there)) in
         let g = walk_meets Read (with_leaf l n flow.model base row w) (λ other place t h. leaf_keeps base other place t h) 0 base.shape.cells found j j leaf e (omega arith)
-        (λ t. is_read stands naming state.memory (is_overlapped flow.model leaf w) (with_cell l t (value_at l n row (leaf_position base j)) leaf.class) t c hit
+        (λ t. is_read gamma naming state.memory (is_overlapped flow.model leaf w) (with_cell l t (value_at l n row (leaf_position base j)) leaf.class) t c hit
         (cell_shows {n = n} o q naming state.memory t (value_at l n row (leaf_position base j)) leaf.class c own
         ((s.leaves b j base leaf at e).byte i x k c (record { named = named; alive = alive }) owns (matched leaf.class k fits)))) in
-        if_read stands naming state.memory base.shape.heap _ _ c (classes_keep base (with_leaves l n flow.model base row w found) g) (padding_keeps (with_leaves l n flow.model base row w found) (meets_padding flow.model base.shape.cells w base.size) g)
+        if_read gamma naming state.memory base.shape.heap _ _ c (classes_keep base (with_leaves l n flow.model base row w found) g) (padding_keeps (with_leaves l n flow.model base row w found) (meets_padding flow.model base.shape.cells w base.size) g)
 
     -- the class cell that owns it
     by_class : (place k : ℕ) → place < 6 → base.shape.heap ≡ true → is_read_class (has_stray base.shape.cells Char w) place ≡ true → OwnedByClass flow.model base.shape.cells (class_at place) x k → Fits (class_at place) k byte.tag → IsOwnPart (class_at place) c → (found : CopiedBytes I) → Read (with_base l n flow.model base row w found)
@@ -121,10 +121,10 @@ module _ {I : Type 0} {l : LatticeOf I} {n : IntegersOf I} {stands : I → ℤ �
     by_class place k small heap hit owns fits own found =
         let stray : Bool = has_stray base.shape.cells Char w in
         let rest : CopiedBytes I = with_leaves l n flow.model base row w found in
-        is_read stands naming state.memory base.shape.heap (as_numbers (turns (with_class l n base row stray) 6 rest)) (with_padding rest (meets_padding flow.model base.shape.cells w base.size)) c heap
+        is_read gamma naming state.memory base.shape.heap (as_numbers (turns (with_class l n base row stray) 6 rest)) (with_padding rest (meets_padding flow.model base.shape.cells w base.size)) c heap
         (numbers_keep (turns (with_class l n base row stray) 6 rest)
         (turns_meet Read (with_class l n base row stray) (λ other t h. class_keeps base stray other t h) 6 rest place small
-        (λ t. is_read stands naming state.memory (is_read_class stray place) (with_cell l t (value_at l n row (class_position base place)) (class_at place)) t c hit
+        (λ t. is_read gamma naming state.memory (is_read_class stray place) (with_cell l t (value_at l n row (class_position base place)) (class_at place)) t c hit
         (cell_shows {n = n} o q naming state.memory t (value_at l n row (class_position base place)) (class_at place) c own
         ((s.classes b place base at heap small).byte i x k c (record { named = named; alive = alive }) owns (matched (class_at place) k fits))))))
 
@@ -172,7 +172,7 @@ module _ {I : Type 0} {l : LatticeOf I} {n : IntegersOf I} {stands : I → ℤ �
 
     -- ---- in an object
 
-    shown_padding : (d : Content) → IsContentIn state.memory d None → (found : CopiedBytes I) → IsRead stands naming state.memory (with_padding found true) d
+    shown_padding : (d : Content) → IsContentIn state.memory d None → (found : CopiedBytes I) → IsRead gamma naming state.memory (with_padding found true) d
     shown_padding indeterminate h found = refl
     shown_padding (number k labels) h found = (grind arith, refl)
     shown_padding (part p k) h found = let e = h.1 in cc
@@ -205,7 +205,7 @@ module _ {I : Type 0} {l : LatticeOf I} {n : IntegersOf I} {stands : I → ℤ �
 
     turn_keeps : (set : Bases) (other : BaseInfo) (place : ℕ) (found : CopiedBytes I) → Read found → Read (with_base_of l n flow.model row set w other place found)
     unfolding with_base_if
-    turn_keeps set other place found h = if_read stands naming state.memory (has_base set place) _ found c (base_keeps other found h) h
+    turn_keeps set other place found h = if_read gamma naming state.memory (has_base set place) _ found c (base_keeps other found h) h
 
     pub source_read : (set : Bases) → bases_has set b ≡ true → Read (bytes_of_source l n flow row set (Some w))
     unfolding with_base_if
@@ -213,11 +213,11 @@ module _ {I : Type 0} {l : LatticeOf I} {n : IntegersOf I} {stands : I → ℤ �
         let few = shaped.few in
         let small = slice_get_within flow.bases.items b base at in
         walk_meets Read (with_base_of l n flow.model row set w) (λ other place t h. turn_keeps set other place t h) 0 flow.bases.items (no_bytes l) b b base at (omega arith)
-        (λ t. is_read stands naming state.memory (has_base set b) (with_base l n flow.model base row w t) t c (and_from _ _ (lt-ltb b _ (omega (arith, few, small))) has) (in_base base.shape.heap refl t))
+        (λ t. is_read gamma naming state.memory (has_base set b) (with_base l n flow.model base row w t) t c (and_from _ _ (lt-ltb b _ (omega (arith, few, small))) has) (in_base base.shape.heap refl t))
 
 -- ---- bounds
 
-module _ {I : Type 0} {l : LatticeOf I} {n : IntegersOf I} {stands : I → ℤ → Type 0} (o : OrderLaws l) (q : BoundLaws l n stands) (flow : Flow) (row : List (Cell I)) (w : Window) where
+module _ {I : Type 0} {l : LatticeOf I} {n : IntegersOf I} {gamma : I → ℤ → Type 0} (o : OrderLaws l) (q : BoundLaws l n gamma) (flow : Flow) (row : List (Cell I)) (w : Window) where
   abbrev Near : CopiedBytes I → Type 0
   Near found = IsNearRead o q found
 

@@ -65,7 +65,7 @@ module _ {I : Type 0} {l : LatticeOf I} (o : OrderLaws l) (n : IntegersOf I) (m 
 
 -- ---- bounds
 
-module _ {I : Type 0} {l : LatticeOf I} {n : IntegersOf I} {stands : I → ℤ → Type 0} (o : OrderLaws l) (q : BoundLaws l n stands) (r : RangeLaws l n) (m : Model) (row : List (Cell I)) (class : Class) (signed : Bool) where
+module _ {I : Type 0} {l : LatticeOf I} {n : IntegersOf I} {gamma : I → ℤ → Type 0} (o : OrderLaws l) (q : BoundLaws l n gamma) (r : RangeLaws l n) (m : Model) (row : List (Cell I)) (class : Class) (signed : Bool) where
   convert_near : (x : I) (k : IntType) (b : Range) → is_size k.bytes ≡ true → n.bounds (n.convert x k) ≡ b → near_number l n (n.convert x k) ≡ n.convert x k
   convert_near x k None h e = near_number_none o q (n.convert x k) e
   convert_near x k (Some p) h e = let f = r.convert_fits x k p.0 p.1 h e in let g = type_near k p.0 p.1 h f.0 f.1 in near_number_from o q (n.convert x k) p.0 p.1 e g.0 g.1

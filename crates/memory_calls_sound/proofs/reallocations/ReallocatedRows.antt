@@ -42,8 +42,8 @@ use Rattle.semantics.specs.CfgMachine.FlowStates.{Standing}
 use Rattle.store_sound.specs.Concretization.FirstZeroBytes.{first_zero, zero_offset}
 use Rattle.store_sound.specs.Concretization.Matching.{Matched, number_in, Holds}
 use Rattle.store_sound.specs.Concretization.SoundMemory.{storage_for, IsContentIn, IsContentNamed}
-use Rattle.store_sound.specs.Concretization.ValueMeaning.{Naming, StandsInto, StandsByLife, StandsPointer, StandsContent, StandsZero, StandsState}
-use Rattle.store_sound.specs.Concretization.RowMeaning.{array_of, array_bytes, IsLiveOf, StandsCell, StandsLeaf, StandsClass, StandsFor}
+use Rattle.store_sound.specs.Concretization.ValueMeaning.{Naming, InGammaInto, InGammaByLife, InGammaPointer, InGammaContent, InGammaZero, InGammaState}
+use Rattle.store_sound.specs.Concretization.RowMeaning.{array_of, array_bytes, IsLiveOf, InGammaCell, InGammaLeaf, InGammaClass, InGamma}
 use Rattle.store_sound.specs.Concretization.Coverage.{state_of}
 use Rattle.store_sound.proofs.operations.Classes.{class_above}
 use Rattle.store_sound.proofs.operations.Larger.{value_below, content_larger}
@@ -78,7 +78,7 @@ pub data Origin (flow : Flow) (naming : Naming) (memory : Memory) (set : Bases) 
   of_nothing : ((x : ℕ) (y : Byte) → slice_get bytes x ≡ Some y → y ≡ blank_byte) → Origin flow naming memory set bytes
   of_instance : (i b : ℕ) (base : BaseInfo) → IsOldInstance flow naming memory set i b base → ((x : ℕ) (y : Byte) → slice_get bytes x ≡ Some y → (byte_at memory i x ≡ Some y) ⊎ (y ≡ blank_byte)) → Origin flow naming memory set bytes
 
-module _ {I : Type 0} {l : LatticeOf I} {n : IntegersOf I} {stands : I → ℤ → Type 0} (o : OrderLaws l) (q : BoundLaws l n stands) (c : SoundLaws l n stands) (ranges : RangeLaws l n) (flow : Flow) (p : HasPremises flow) (naming : Naming) (row : List (Cell I)) (s : Standing) (r : IsReached l n stands flow naming row s) (newest : ℕ) (t : IsSiteOf flow newest (newest + 1)) (size : I) (old : Pointers I) where
+module _ {I : Type 0} {l : LatticeOf I} {n : IntegersOf I} {gamma : I → ℤ → Type 0} (o : OrderLaws l) (q : BoundLaws l n gamma) (c : SoundLaws l n gamma) (ranges : RangeLaws l n) (flow : Flow) (p : HasPremises flow) (naming : Naming) (row : List (Cell I)) (s : Standing) (r : IsReached l n gamma flow naming row s) (newest : ℕ) (t : IsSiteOf flow newest (newest + 1)) (size : I) (old : Pointers I) where
   abbrev pub set : Bases
   set = (renamed (site_of newest (newest + 1)) old).bases
 
@@ -110,13 +110,13 @@ module _ {I : Type 0} {l : LatticeOf I} {n : IntegersOf I} {stands : I → ℤ �
   abbrev pub too : Naming
   too = renames naming newest (newest + 1)
 
-  made_stands : StandsFor l n stands flow too made (state_of s)
+  made_stands : InGamma l n gamma flow too made (state_of s)
   made_stands = renamed_stands o q flow p naming row (state_of s) r.long r.stands_for newest (newest + 1) t.new t.old t.new_there t.old_there t.site t.new_kind t.old_kind made (λ x h. writes.keeps start x h)
 
   none : (j : ℕ) → too j ≡ Some newest → ⊥
   none j e = none_now o q flow p naming row (state_of s) r.long r.stands_for newest (newest + 1) t.new t.old t.new_there t.old_there t.site t.new_kind t.old_kind j e
 
-  pub reached : IsReached l n stands flow too made s
+  pub reached : IsReached l n gamma flow too made s
   reached = record { long = made_long ∙ r.long; stands_for = made_stands; short = r.short; begun = r.begun }
 
   new_small : newest < most_bases
@@ -134,7 +134,7 @@ module _ {I : Type 0} {l : LatticeOf I} {n : IntegersOf I} {stands : I → ℤ �
   unfolding renewed_pointer
   given_is = ap (λ z. cond (is_some z && is_some (slice_get flow.bases.items (newest + 1))) (fresh_pointer l n (site_of newest (newest + 1)) size) (null_pointer l)) t.new_there ∙ ap (λ z. cond (is_some (Some t.new) && is_some z) (fresh_pointer l n (site_of newest (newest + 1)) size) (null_pointer l)) t.old_there
 
-  pub null_stands : (memory : Memory) (names : Naming) → StandsPointer stands names memory given null
+  pub null_stands : (memory : Memory) (names : Naming) → InGammaPointer gamma names memory given null
   unfolding fresh_pointer
   null_stands memory names = ap (λ z. z.null) given_is ∙ by_fresh (is_fresh n (site_of newest (newest + 1)) size)
     where
@@ -145,12 +145,12 @@ module _ {I : Type 0} {l : LatticeOf I} {n : IntegersOf I} {stands : I → ℤ �
   -- ---- memory in which the old instance may be freed
 
   module _ (memory : Memory) (freeing : IsFreeing too s.world.memory memory set false) where
-    pub nothing_stands : StandsFor l n stands flow too after (record { memory = memory; temps = s.temps; entered = s.bases })
+    pub nothing_stands : InGamma l n gamma flow too after (record { memory = memory; temps = s.temps; entered = s.bases })
     nothing_stands = freed_stands q flow p too made s reached memory set false freeing
 
     -- ---- a fresh instance with bytes of the old one
 
-    module _ (bytes : List Byte) (origin : Origin flow too s.world.memory set bytes) (sized : stands size (pos (length bytes))) (small : length bytes ≤ last_offset) where
+    module _ (bytes : List Byte) (origin : Origin flow too s.world.memory set bytes) (sized : gamma size (pos (length bytes))) (small : length bytes ≤ last_offset) where
       was_here : (i x : ℕ) (y : Byte) → byte_at s.world.memory i x ≡ Some y → byte_at memory i x ≡ Some y
       was_here i x y e = byte_was freeing.released i x ∙ e
 
@@ -238,25 +238,25 @@ module _ {I : Type 0} {l : LatticeOf I} {n : IntegersOf I} {stands : I → ℤ �
           abbrev one : Byte
           one = record { content = content; tag = m.tag }
 
-          blank_content : one ≡ blank_byte → StandsContent stands named_too grown total d content
-          blank_content f = subst (StandsContent stands named_too grown total d) (sym (ap (λ z. z.content) f)) ((value_below l (blank_value l) total below_left).indeterminate refl)
+          blank_content : one ≡ blank_byte → InGammaContent gamma named_too grown total d content
+          blank_content f = subst (InGammaContent gamma named_too grown total d) (sym (ap (λ z. z.content) f)) ((value_below l (blank_value l) total below_left).indeterminate refl)
 
-          moved_content : (j b : ℕ) (base : BaseInfo) → IsOldInstance flow too s.world.memory set j b base → byte_at s.world.memory j x ≡ Some one → StandsContent stands named_too grown total d content
+          moved_content : (j b : ℕ) (base : BaseInfo) → IsOldInstance flow too s.world.memory set j b base → byte_at s.world.memory j x ≡ Some one → InGammaContent gamma named_too grown total d content
           moved_content j b base inst g =
               let old_match : Matched s.world.memory j x d k content = record { tag = m.tag; here = g; fits = m.fits } in
               let was = old_content o q c flow p too made (state_of s) made_stands set j b base inst over (same_old j b base inst) d signed x k content old_match below in
-              let now = content_stays freeing.released stands too found d content was in
-              let later = content_grows (grows memory (objects.fresh allocated bytes)) (names_too (renames naming newest (newest + 1)) (length memory) newest) stands found d content m.tag (nothing_stands.sane.bytes j x one (was_here j x one g)) now in
+              let now = content_stays freeing.released gamma too found d content was in
+              let later = content_grows (grows memory (objects.fresh allocated bytes)) (names_too (renames naming newest (newest + 1)) (length memory) newest) gamma found d content m.tag (nothing_stands.sane.bytes j x one (was_here j x one g)) now in
               content_larger q named_too grown found total d content (value_below l found total below_right) later
 
-          by_origin : Origin flow too s.world.memory set bytes → StandsContent stands named_too grown total d content
+          by_origin : Origin flow too s.world.memory set bytes → InGammaContent gamma named_too grown total d content
           by_origin (of_nothing f) = blank_content (f x one (own_byte x one m.here))
           by_origin (of_instance j b base inst f) = elim (f x one (own_byte x one m.here)) [
             | inr g ↦ blank_content g
             | inl g ↦ moved_content j b base inst g
           ]
 
-          byte_stands : StandsContent stands named_too grown total d content
+          byte_stands : InGammaContent gamma named_too grown total d content
           byte_stands = by_origin origin
 
         -- numbers at a place of it
@@ -276,7 +276,7 @@ module _ {I : Type 0} {l : LatticeOf I} {n : IntegersOf I} {stands : I → ℤ �
                 ];
           }
 
-          by_origin_too : Origin flow too s.world.memory set bytes → stands total.num (number_of signed ns)
+          by_origin_too : Origin flow too s.world.memory set bytes → gamma total.num (number_of signed ns)
           by_origin_too (of_nothing f) =
               let size = held.size in
               let above = class_above flow.model d in
@@ -287,19 +287,19 @@ module _ {I : Type 0} {l : LatticeOf I} {n : IntegersOf I} {stands : I → ℤ �
               q.larger found.num total.num (number_of signed ns) (value_below l found total below_right).num
               (old_number o q c flow p too made (state_of s) made_stands set j b base inst over (same_old j b base inst) d signed a ns plain (moved_held j f))
 
-          numbers_stand : stands total.num (number_of signed ns)
+          numbers_stand : gamma total.num (number_of signed ns)
           numbers_stand = by_origin_too origin
 
         -- a cell whose bytes are of the class
-        pub moved_cell : (Place Owns : ℕ → ℕ → Type 0) → ((x k : ℕ) → Owns x k → k < class_bytes flow.model d) → StandsCell stands flow named_too grown newest d signed Place Owns (near_value l n total)
-        moved_cell Place Owns below = subst (StandsCell stands flow named_too grown newest d signed Place Owns) (sym near_whole) (record {
+        pub moved_cell : (Place Owns : ℕ → ℕ → Type 0) → ((x k : ℕ) → Owns x k → k < class_bytes flow.model d) → InGammaCell gamma flow named_too grown newest d signed Place Owns (near_value l n total)
+        moved_cell Place Owns below = subst (InGammaCell gamma flow named_too grown newest d signed Place Owns) (sym near_whole) (record {
           whole = λ j a ns h place plain held. numbers_stand a ns plain (subst (λ z. Holds flow.model grown z a d ns) (sole j h) held);
           byte = λ j x k content h owns m. byte_stands x k content (subst (λ z. Matched grown z x d k content) (sole j h) m) (below x k owns);
         })
 
-      given_value : (class : Class) (signed : Bool) (v : values.Value I) → IsGiven l n flow.model flow.bases.items t.new t.heap (fresh.Old (renamed (site_of newest (newest + 1)) old)) start class signed v → (Place Owns : ℕ → ℕ → Type 0) → ((x k : ℕ) → Owns x k → k < class_bytes flow.model class) → StandsCell stands flow named_too grown newest class signed Place Owns v
+      given_value : (class : Class) (signed : Bool) (v : values.Value I) → IsGiven l n flow.model flow.bases.items t.new t.heap (fresh.Old (renamed (site_of newest (newest + 1)) old)) start class signed v → (Place Owns : ℕ → ℕ → Type 0) → ((x k : ℕ) → Owns x k → k < class_bytes flow.model class) → InGammaCell gamma flow named_too grown newest class signed Place Owns v
       unfolding fresh_value
-      given_value class signed v g Place Owns below = subst (StandsCell stands flow named_too grown newest class signed Place Owns) (sym g.is_value) (moved_cell g.over g.outside class signed Place Owns below)
+      given_value class signed v g Place Owns below = subst (InGammaCell gamma flow named_too grown newest class signed Place Owns) (sym g.is_value) (moved_cell g.over g.outside class signed Place Owns below)
 
       -- ---- what freeing leaves of the newest base
 
@@ -327,18 +327,18 @@ module _ {I : Type 0} {l : LatticeOf I} {n : IntegersOf I} {stands : I → ℤ �
       six : cond {A = ℕ} t.new.shape.heap 6 0 ≡ 6
       six = ap (λ z. cond {A = ℕ} z 6 0) t.heap.heap
 
-      leaf_own : (j : ℕ) (leaf : Leaf) → slice_get t.new.shape.cells j ≡ Some leaf → StandsLeaf stands flow named_too grown newest leaf (value_at l n after (leaf_position t.new j))
+      leaf_own : (j : ℕ) (leaf : Leaf) → slice_get t.new.shape.cells j ≡ Some leaf → InGammaLeaf gamma flow named_too grown newest leaf (value_at l n after (leaf_position t.new j))
       leaf_own j leaf e =
           let u = slice_get_within t.new.shape.cells j leaf e in
           let x = leaf_is t.new j t.heap.fits u in
-          subst (StandsLeaf stands flow named_too grown newest leaf) (sym (same_value l n made after (leaf_position t.new j) (kept (leaf_position t.new j) (omega (arith, x)) (omega (arith, x, u)))))
+          subst (InGammaLeaf gamma flow named_too grown newest leaf) (sym (same_value l n made after (leaf_position t.new j) (kept (leaf_position t.new j) (omega (arith, x)) (omega (arith, x, u)))))
           (given_value leaf.class leaf.signed (value_at l n made (leaf_position t.new j)) (old_leaf_is l n flow.model flow.bases.items t.new t.heap (fresh.Old (renamed (site_of newest (newest + 1)) old)) start size bounded.0 bounded.1 long_enough j leaf e) _ _ (λ x k owns. owns.small))
 
-      class_own : (k : ℕ) → k < 6 → StandsClass stands flow named_too grown newest t.new (class_at k) (value_at l n after (class_position t.new k))
+      class_own : (k : ℕ) → k < 6 → InGammaClass gamma flow named_too grown newest t.new (class_at k) (value_at l n after (class_position t.new k))
       class_own k h =
           let a = six in
           let x = class_is t.new k t.heap.fits (omega (arith, a, h)) in
-          subst (StandsClass stands flow named_too grown newest t.new (class_at k)) (sym (same_value l n made after (class_position t.new k) (kept (class_position t.new k) (omega (arith, x)) (omega (arith, x, a, h)))))
+          subst (InGammaClass gamma flow named_too grown newest t.new (class_at k)) (sym (same_value l n made after (class_position t.new k) (kept (class_position t.new k) (omega (arith, x)) (omega (arith, x, a, h)))))
           (given_value (class_at k) true (value_at l n made (class_position t.new k)) (old_class_is l n flow.model flow.bases.items t.new t.heap (fresh.Old (renamed (site_of newest (newest + 1)) old)) start size bounded.0 bounded.1 long_enough k h) _ _ (λ x j owns. owns.small))
 
       whole_part : (z : ℕ) (part : ZeroPart) → slice_get t.new.shape.zeros z ≡ Some part → array_bytes part bytes ≡ bytes
@@ -346,26 +346,26 @@ module _ {I : Type 0} {l : LatticeOf I} {n : IntegersOf I} {stands : I → ℤ �
           let h = (p.laid.texts newest t.new t.new_there).heaps t.heap.heap z part e in
           ap (λ y. array_of y (drop part.offset bytes)) h.0 ∙ ap (λ y. drop y bytes) h.1
 
-      any_first : StandsZero stands named_too grown (record { at = near_number l n (any_zero l n).at }) bytes
+      any_first : InGammaZero gamma named_too grown (record { at = near_number l n (any_zero l n).at }) bytes
       any_first =
           let a = offset_near (first_zero bytes) (λ k f. let w = zero_small bytes k f in omega (arith, w, small)) in
           let a0 = a.0 in
           let a1 = a.1 in
           near_stands o q (any_zero l n).at (zero_offset (first_zero bytes)) (omega (arith, ints, a0)) (omega (arith, ints, a1)) (any_zero_stands o q named_too grown bytes (omega (arith, small)))
 
-      zero_own : (z : ℕ) (part : ZeroPart) → slice_get t.new.shape.zeros z ≡ Some part → StandsZero stands named_too grown (zero_at l n after (zero_position t.new z)) (array_bytes part bytes)
+      zero_own : (z : ℕ) (part : ZeroPart) → slice_get t.new.shape.zeros z ≡ Some part → InGammaZero gamma named_too grown (zero_at l n after (zero_position t.new z)) (array_bytes part bytes)
       zero_own z part e =
           let few : z < 1 = subst (λ y. z < y) t.heap.zeros (slice_get_within t.new.shape.zeros z part e) in
           let first : z ≡ 0 = omega (arith, few) in
           let zeros = t.heap.zeros in
           let x = zero_is t.new 0 t.heap.fits (omega arith) in
           let is = same_zero l n made after (zero_position t.new 0) (kept (zero_position t.new 0) (omega (arith, x)) (omega (arith, x, zeros))) ∙ old_zero_is l n flow.model flow.bases.items t.new t.heap (fresh.Old (renamed (site_of newest (newest + 1)) old)) start size bounded.0 bounded.1 long_enough in
-          subst (λ y. StandsZero stands named_too grown (zero_at l n after (zero_position t.new y)) (array_bytes part bytes)) (sym first)
-          (subst (λ y. StandsZero stands named_too grown y (array_bytes part bytes)) (sym is)
-          (subst (StandsZero stands named_too grown (record { at = near_number l n (any_zero l n).at })) (sym (whole_part z part e)) any_first))
+          subst (λ y. InGammaZero gamma named_too grown (zero_at l n after (zero_position t.new y)) (array_bytes part bytes)) (sym first)
+          (subst (λ y. InGammaZero gamma named_too grown y (array_bytes part bytes)) (sym is)
+          (subst (InGammaZero gamma named_too grown (record { at = near_number l n (any_zero l n).at })) (sym (whole_part z part e)) any_first))
 
       -- the instance is live, whether its base is one of those that may be freed or not
-      state_own : StandsState stands named_too grown (state_at l n after (state_position t.new)) live (length bytes)
+      state_own : InGammaState gamma named_too grown (state_at l n after (state_position t.new)) live (length bytes)
       unfolding state_at
       state_own =
           let a = state_of_base newest t.new t.new_there t.heap.heap in
@@ -381,20 +381,20 @@ module _ {I : Type 0} {l : LatticeOf I} {n : IntegersOf I} {stands : I → ℤ �
           let k11 = k1.1 in
           elim (p.laid.laid.apart k newest other t.new f t.new_there ne) [ inl h ↦ omega (arith, h, g, k11, a0) | inr h ↦ omega (arith, h, g, a1, k10) ])
           (omega (arith, a1, close, far, long)) in
-          subst (λ y. StandsState stands named_too grown (near_state l n (state_in l y)) live (length bytes)) (sym is) (by_freed (is_heap_in set t.new newest) was)
+          subst (λ y. InGammaState gamma named_too grown (near_state l n (state_in l y)) live (length bytes)) (sym is) (by_freed (is_heap_in set t.new newest) was)
         where
-          twice : (x : I) → stands x (pos (length bytes)) → stands (near_number l n x) (pos (length bytes))
+          twice : (x : I) → gamma x (pos (length bytes)) → gamma (near_number l n x) (pos (length bytes))
           twice x h = near_stands o q x (pos (length bytes)) (omega (arith, ints)) (omega (arith, ints, small)) h
 
           by_freed : (b : Bool) → near_state l n (state_in l (cell_at made (state_position t.new))) ≡ near_state l n (record { size = size; live = true; freed = false })
-              → StandsState stands named_too grown (near_state l n (state_in l (cond b (State (freed_state false (near_state l n (state_in l (cell_at made (state_position t.new)))))) (cell_at made (state_position t.new))))) live (length bytes)
-          by_freed true was = subst (λ y. StandsState stands named_too grown (near_state l n (freed_state false y)) live (length bytes)) (sym was) (twice (near_number l n size) (twice size sized), refl)
-          by_freed false was = subst (λ y. StandsState stands named_too grown y live (length bytes)) (sym was) (twice size sized, refl)
+              → InGammaState gamma named_too grown (near_state l n (state_in l (cond b (State (freed_state false (near_state l n (state_in l (cell_at made (state_position t.new)))))) (cell_at made (state_position t.new))))) live (length bytes)
+          by_freed true was = subst (λ y. InGammaState gamma named_too grown (near_state l n (freed_state false y)) live (length bytes)) (sym was) (twice (near_number l n size) (twice size sized), refl)
+          by_freed false was = subst (λ y. InGammaState gamma named_too grown y live (length bytes)) (sym was) (twice size sized, refl)
 
       own_cells : StandsFresh flow too after (record { memory = memory; temps = s.temps; entered = s.bases }) nothing_stands newest t.new t.new_there t.heap.heap storage none bytes small contents tagged
       own_cells = record { leaves = leaf_own; classes = class_own; zeros = zero_own; state_is = state_own }
 
-      pub instance_stands : StandsFor l n stands flow named_too after (record { memory = grown; temps = s.temps; entered = s.bases })
+      pub instance_stands : InGamma l n gamma flow named_too after (record { memory = grown; temps = s.temps; entered = s.bases })
       instance_stands = grown_stands flow too after (record { memory = memory; temps = s.temps; entered = s.bases }) nothing_stands newest t.new t.new_there t.heap.heap storage none bytes small contents tagged own_cells
 
       -- ---- the pointer to it
@@ -412,20 +412,20 @@ module _ {I : Type 0} {l : LatticeOf I} {n : IntegersOf I} {stands : I → ℤ �
       alive : life_at grown i ≡ live
       alive = own_life flow too after (record { memory = memory; temps = s.temps; entered = s.bases }) nothing_stands newest t.new t.new_there t.heap.heap storage none bytes small contents tagged
 
-      stands_into : StandsInto stands named_too grown (record { bases = bases_with no_base newest; lo = n.one (pos 0); rel = n.one (pos 0); len = size; part = false; null = true; ended = false }) i 0 0 (length bytes)
+      stands_into : InGammaInto gamma named_too grown (record { bases = bases_with no_base newest; lo = n.one (pos 0); rel = n.one (pos 0); len = size; part = false; null = true; ended = false }) i 0 0 (length bytes)
       stands_into = record {
         base = newest;
         named = own_name;
         among = with_has_same no_base newest;
         lower = q.one_stands (pos 0);
         relative = q.one_stands (pos 0);
-        room = let e : pos (length bytes) -ℤ pos 0 ≡ pos (length bytes) = omega (arith, ints) in subst (stands size) (sym e) sized;
+        room = let e : pos (length bytes) -ℤ pos 0 ≡ pos (length bytes) = omega (arith, ints) in subst (gamma size) (sym e) sized;
         whole = λ e. (refl, sym (ap length all_bytes));
       }
 
       pub instance_result : IsResult q flow p named_too grown (pointer_value l given) (pointer (into i 0 0 (length bytes)))
       instance_result = record {
-        stands_for = subst (λ z. StandsPointer stands named_too grown z (into i 0 0 (length bytes))) (sym pointer_is) (subst (λ z. StandsByLife stands named_too grown (record { bases = bases_with no_base newest; lo = n.one (pos 0); rel = n.one (pos 0); len = size; part = false; null = true; ended = false }) z i 0 0 (length bytes)) (sym alive) stands_into);
+        stands_for = subst (λ z. InGammaPointer gamma named_too grown z (into i 0 0 (length bytes))) (sym pointer_is) (subst (λ z. InGammaByLife gamma named_too grown (record { bases = bases_with no_base newest; lo = n.one (pos 0); rel = n.one (pos 0); len = size; part = false; null = true; ended = false }) z i 0 0 (length bytes)) (sym alive) stands_into);
         near = tt;
         within = let e = ap length all_bytes in let more = longer in record { made = omega (arith, more); above = omega arith; below = omega arith; within = omega (arith, e) };
       }

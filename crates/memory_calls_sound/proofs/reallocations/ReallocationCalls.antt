@@ -41,7 +41,7 @@ use Rattle.memory_model.specs.Effects.LibraryChecks.{size_of, with_size, most_si
 use Rattle.memory_model.specs.Effects.ObjectEffects as objects
 use Rattle.memory_model.specs.Effects.Worlds.{stops, World, Reply, goes, behind, drawn, OutOfDraws, Stuck, done, stopped_by, unless, Violated}
 use Rattle.semantics.specs.CfgMachine.FlowStates.{Standing, values_of}
-use Rattle.store_sound.specs.Concretization.ValueMeaning.{Naming, StandsScalar, StandsInto, StandsByLife, StandsPointer}
+use Rattle.store_sound.specs.Concretization.ValueMeaning.{Naming, InGammaScalar, InGammaInto, InGammaByLife, InGammaPointer}
 use Rattle.store_cells.specs.AccessWindows.{last_offset}
 use Rattle.store_sound.proofs.operations.TouchedRest.{near_stands}
 use Rattle.store_sound.specs.Programs.Premises.{HasPremises}
@@ -118,7 +118,7 @@ freed_long l n set_of bases row = walk_long (free_base l n set_of false) (λ bas
 no_old_byte : (size x : ℕ) (y : Byte) → slice_get (resized [] size) x ≡ Some y → y ≡ blank_byte
 no_old_byte size x y e = elim (resized_byte [] size x y e) [ inl f ↦ cc | inr f ↦ f ]
 
-module _ {I : Type 0} {l : LatticeOf I} {n : IntegersOf I} {stands : I → ℤ → Type 0} (o : OrderLaws l) (q : BoundLaws l n stands) (c : SoundLaws l n stands) (ranges : RangeLaws l n) (flow : Flow) (limits : Limits) (good : is_well_formed limits flow ≡ true) (p : HasPremises flow) (naming : Naming) (row : List (Cell I)) (s : Standing) (r : IsReached l n stands flow naming row s) (to : Option ℕ) (has : has_result (names_of flow) to ≡ true)
+module _ {I : Type 0} {l : LatticeOf I} {n : IntegersOf I} {gamma : I → ℤ → Type 0} (o : OrderLaws l) (q : BoundLaws l n gamma) (c : SoundLaws l n gamma) (ranges : RangeLaws l n) (flow : Flow) (limits : Limits) (good : is_well_formed limits flow ≡ true) (p : HasPremises flow) (naming : Naming) (row : List (Cell I)) (s : Standing) (r : IsReached l n gamma flow naming row s) (to : Option ℕ) (has : has_result (names_of flow) to ≡ true)
     (newest : ℕ) (at_site : is_site flow.bases.items (Some newest) ≡ true) (items : List ℕ) (wanted : Option ℕ) (vs : List Scalar) (e : values_of s.temps items ≡ Some vs) (ptr : MachinePointer) (z : ℤ) (la : Labels) (first : slice_get vs 0 ≡ Some (pointer ptr)) (second : slice_get vs 1 ≡ Some (integer z la)) (from : pos 0 ≤ℤ z) where
   t : IsSiteOf flow newest (newest + 1)
   t = site_is limits flow good p newest at_site
@@ -141,10 +141,10 @@ module _ {I : Type 0} {l : LatticeOf I} {n : IntegersOf I} {stands : I → ℤ �
   abbrev range : Range
   range = n.bounds amount.num
 
-  amount_stands : StandsScalar stands naming s.world.memory amount (integer z la)
+  amount_stands : InGammaScalar gamma naming s.world.memory amount (integer z la)
   amount_stands = argument_stands o q flow p naming row s r to has (Some newest) items wanted vs e 1 (integer z la) second
 
-  pointer_stands : StandsPointer stands naming s.world.memory given_pointer ptr
+  pointer_stands : InGammaPointer gamma naming s.world.memory given_pointer ptr
   pointer_stands = argument_stands o q flow p naming row s r to has (Some newest) items wanted vs e 0 (pointer ptr) first
 
   pointer_in : IsPointerIn s.world.memory ptr
@@ -240,7 +240,7 @@ module _ {I : Type 0} {l : LatticeOf I} {n : IntegersOf I} {stands : I → ℤ �
         (origin : Origin flow (too o q c ranges flow p naming row s r newest t size old.rest) s.world.memory (set o q c ranges flow p naming row s r newest t size old.rest) bytes)
         (moves : (draws : List ℤ) → moved_to count ptr (record start_world { draws = draws }) ≡ goes (pointer (into (length memory) 0 0 (length bytes))) (record (s.world) { memory = memory ++ objects.fresh allocated bytes ∷ []; draws = draws; violated = found })) where
       module _ (few : count ≤ most_size flow.model) where
-        size_stands : stands size (pos (length bytes))
+        size_stands : gamma size (pos (length bytes))
         size_stands =
             let most = most_is flow.model p.model in
             let top = most.0 in
@@ -248,7 +248,7 @@ module _ {I : Type 0} {l : LatticeOf I} {n : IntegersOf I} {stands : I → ℤ �
             let below : pos count ≤ℤ greatest_of (kind_of flow.model Pointer true) = omega (arith, ints, top, few) in
             let met = met_has range (pos 0) (greatest_of (kind_of flow.model Pointer true)) (pos count) (asked_has range count (most_size flow.model) asked few) (omega (arith, ints)) below in
             let given_size = of_range_stands q (range_met range (pos 0) (greatest_of (kind_of flow.model Pointer true))) (pos count) met in
-            subst (λ y. stands size (pos y)) (sym long) (near_stands o q _ (pos count) (omega (arith, ints)) (omega (arith, ints, few, word)) (near_stands o q _ (pos count) (omega (arith, ints)) (omega (arith, ints, few, word)) given_size))
+            subst (λ y. gamma size (pos y)) (sym long) (near_stands o q _ (pos count) (omega (arith, ints)) (omega (arith, ints, few, word)) (near_stands o q _ (pos count) (omega (arith, ints)) (omega (arith, ints, few, word)) given_size))
 
         small : length bytes ≤ last_offset
         small = let word = (most_is flow.model p.model).1 in omega (arith, few, word, long)
@@ -299,7 +299,7 @@ module _ {I : Type 0} {l : LatticeOf I} {n : IntegersOf I} {stands : I → ℤ �
 
   null_release : ptr ≡ null → Good (after_release (done start_world))
   null_release is =
-      let h : given_pointer.null ≡ true = subst (StandsPointer stands naming s.world.memory given_pointer) is pointer_stands in
+      let h : given_pointer.null ≡ true = subst (InGammaPointer gamma naming s.world.memory given_pointer) is pointer_stands in
       let any : is_any old.rest ≡ true = or_right _ _ (null_rest h) in
       allocate_good any s.world.memory (none_freed any)
       (resized [] count) (resized_long [] count) (of_nothing (no_old_byte count)) (λ draws. ap (λ y. moved_to count y (record start_world { draws = draws })) is)
@@ -319,16 +319,16 @@ module _ {I : Type 0} {l : LatticeOf I} {n : IntegersOf I} {stands : I → ℤ �
 
   among_after : (b : ℕ) → b < most_bases → bases_has old.rest.bases b ≡ true → new_base newest (newest + 1) b < most_bases → has_base (set o q c ranges flow p naming row s r newest t size old.rest) (new_base newest (newest + 1) b) ≡ true
   among_after b less has_it more = and_from _ _ (lt-ltb (new_base newest (newest + 1) b) most_bases more)
-      (renamed_has stands naming s.world.memory newest (newest + 1) (small_base newest t.new t.new_there) (small_base (newest + 1) t.old t.old_there) each_small old.rest b less has_it)
+      (renamed_has gamma naming s.world.memory newest (newest + 1) (small_base newest t.new t.new_there) (small_base (newest + 1) t.old t.old_there) each_small old.rest b less has_it)
 
   module _ (i offset lo hi : ℕ) (is : ptr ≡ into i offset lo hi) where
-    st_life : StandsByLife stands naming s.world.memory given_pointer (life_at s.world.memory i) i offset lo hi
-    st_life = subst (StandsPointer stands naming s.world.memory given_pointer) is pointer_stands
+    st_life : InGammaByLife gamma naming s.world.memory given_pointer (life_at s.world.memory i) i offset lo hi
+    st_life = subst (InGammaPointer gamma naming s.world.memory given_pointer) is pointer_stands
 
     within : IsWithin s.world.memory i offset lo hi
     within = subst (IsPointerIn s.world.memory) is pointer_in
 
-    freed_release : StandsInto stands naming s.world.memory given_pointer i offset lo hi → life_at s.world.memory i ≡ freed → Good (after_release (stopped_by start_world rule.Dblfree))
+    freed_release : InGammaInto gamma naming s.world.memory given_pointer i offset lo hi → life_at s.world.memory i ≡ freed → Good (after_release (stopped_by start_world rule.Dblfree))
     unfolding check_release
     freed_release st f = stopped rule.Dblfree (into_freed flow p.shaped naming row _ r.stands_for given_pointer i offset lo hi f st)
 
@@ -336,7 +336,7 @@ module _ {I : Type 0} {l : LatticeOf I} {n : IntegersOf I} {stands : I → ℤ �
     unfolding check_release
     ended_release h = stopped rule.Xfree (or_left given_pointer.ended _ h)
 
-    module _ (alive : life_at s.world.memory i ≡ live) (st : StandsInto stands naming s.world.memory given_pointer i offset lo hi) where
+    module _ (alive : life_at s.world.memory i ≡ live) (st : InGammaInto gamma naming s.world.memory given_pointer i offset lo hi) where
       heap_is : (base : BaseInfo) → slice_get flow.bases.items st.base ≡ Some base → is_allocated (storage_at s.world.memory i) ≡ base.shape.heap
       heap_is base at =
           let it = instance_there s.world.memory i alive in
@@ -388,7 +388,7 @@ module _ {I : Type 0} {l : LatticeOf I} {n : IntegersOf I} {stands : I → ℤ �
           by_start true f = start_release f
           by_start false f = inner_release f
 
-    by_life : (life : Life) → life_at s.world.memory i ≡ life → StandsByLife stands naming s.world.memory given_pointer life i offset lo hi → Good (after_release (freeable_by start_world life i offset (done start_world)))
+    by_life : (life : Life) → life_at s.world.memory i ≡ life → InGammaByLife gamma naming s.world.memory given_pointer life i offset lo hi → Good (after_release (freeable_by start_world life i offset (done start_world)))
     by_life live f st = live_release f st
     by_life ended f st = ended_release st
     by_life freed f st = freed_release st f
@@ -405,7 +405,7 @@ module _ {I : Type 0} {l : LatticeOf I} {n : IntegersOf I} {stands : I → ℤ �
 
 -- ---- the call
 
-module _ {I : Type 0} {l : LatticeOf I} {n : IntegersOf I} {stands : I → ℤ → Type 0} (o : OrderLaws l) (q : BoundLaws l n stands) (c : SoundLaws l n stands) (ranges : RangeLaws l n) (flow : Flow) (limits : Limits) (good : is_well_formed limits flow ≡ true) (p : HasPremises flow) (naming : Naming) (row : List (Cell I)) (s : Standing) (r : IsReached l n stands flow naming row s) where
+module _ {I : Type 0} {l : LatticeOf I} {n : IntegersOf I} {gamma : I → ℤ → Type 0} (o : OrderLaws l) (q : BoundLaws l n gamma) (c : SoundLaws l n gamma) (ranges : RangeLaws l n) (flow : Flow) (limits : Limits) (good : is_well_formed limits flow ≡ true) (p : HasPremises flow) (naming : Naming) (row : List (Cell I)) (s : Standing) (r : IsReached l n gamma flow naming row s) where
   module _ (to : Option ℕ) (has : has_result (names_of flow) to ≡ true) (newest : ℕ) (at_site : is_site flow.bases.items (Some newest) ≡ true) where
     stuck_here : (plan : _) → GoodPlan q flow p naming row s r to has (Some newest) plan (stops Stuck s.world)
     stuck_here plan = plan_stops q flow p naming row s r to has (Some newest) plan Stuck s.world (clean q flow p naming row s r plan.violations)
@@ -422,18 +422,18 @@ module _ {I : Type 0} {l : LatticeOf I} {n : IntegersOf I} {stands : I → ℤ �
         realloc_good o q c ranges flow limits good p naming row s r to has newest at_site items wanted both e m z la refl refl (sized_at s.temps items both e sized 1 z la refl)
     by_name _ h items wanted vs e sized = absurd h
 
-  pub reallocation_call_sound : (to : Option ℕ) (name : LibFn) (arguments : _) (newest : ℕ) (size : Option ℕ) → Reallocates name → fits_operation (names_of flow) (op.Library to name arguments (Some newest) size) ≡ true → HasSizes arguments.items s.temps → StepIsSound l n stands flow row (op.Library to name arguments (Some newest) size) s
+  pub reallocation_call_sound : (to : Option ℕ) (name : LibFn) (arguments : _) (newest : ℕ) (size : Option ℕ) → Reallocates name → fits_operation (names_of flow) (op.Library to name arguments (Some newest) size) ≡ true → HasSizes arguments.items s.temps → StepIsSound l n gamma flow row (op.Library to name arguments (Some newest) size) s
   unfolding operate call_step operation_violations
   reallocation_call_sound to name arguments newest size is fits sized =
       let a = and_parts (has_result (names_of flow) to) (list_all (has_temp (names_of flow)) arguments.items && (is_site flow.bases.items (Some newest) && is_optional_extent size)) fits in
       let b = and_parts (list_all (has_temp (names_of flow)) arguments.items) (is_site flow.bases.items (Some newest) && is_optional_extent size) a.1 in
       let at_site = (and_parts (is_site flow.bases.items (Some newest)) (is_optional_extent size) b.1).0 in
-      if_some_good l n stands flow _ _ s r.begun (values_of s.temps arguments.items) _ (λ vs e. by_name to a.0 newest at_site name is arguments.items size vs e sized)
+      if_some_good l n gamma flow _ _ s r.begun (values_of s.temps arguments.items) _ (λ vs e. by_name to a.0 newest at_site name is arguments.items size vs e sized)
 
-  by_operands : (to : Option ℕ) (name : LibFn) (arguments : _) (newest : ℕ) (size : Option ℕ) → Reallocates name → fits_operation (names_of flow) (op.Library to name arguments (Some newest) size) ≡ true → HasOperands (op.Library to name arguments (Some newest) size) s.temps → StepIsSound l n stands flow row (op.Library to name arguments (Some newest) size) s
+  by_operands : (to : Option ℕ) (name : LibFn) (arguments : _) (newest : ℕ) (size : Option ℕ) → Reallocates name → fits_operation (names_of flow) (op.Library to name arguments (Some newest) size) ≡ true → HasOperands (op.Library to name arguments (Some newest) size) s.temps → StepIsSound l n gamma flow row (op.Library to name arguments (Some newest) size) s
   by_operands to f.Realloc arguments newest size is fits sized = reallocation_call_sound to f.Realloc arguments newest size is fits sized
   by_operands to _ arguments newest size is fits sized = absurd is
 
-  pub reallocation_step_sound : (i : Operation) → IsReallocationCall i → fits_operation (names_of flow) i ≡ true → HasOperands i s.temps → StepIsSound l n stands flow row i s
+  pub reallocation_step_sound : (i : Operation) → IsReallocationCall i → fits_operation (names_of flow) i ≡ true → HasOperands i s.temps → StepIsSound l n gamma flow row i s
   reallocation_step_sound (op.Library to name arguments (Some newest) size) is fits sized = by_operands to name arguments newest size is fits sized
   reallocation_step_sound i is fits sized = absurd is

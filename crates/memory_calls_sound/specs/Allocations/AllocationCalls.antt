@@ -22,6 +22,6 @@ abbrev pub IsAllocationCall : Operation → Type 0
 IsAllocationCall (op.Library to name arguments (Some newest) size) = Allocates name
 IsAllocationCall _ = ⊥
 
-module _ {I : Type 0} (l : LatticeOf I) (n : IntegersOf I) (stands : I → ℤ → Type 0) (flow : Flow) where
+module _ {I : Type 0} (l : LatticeOf I) (n : IntegersOf I) (gamma : I → ℤ → Type 0) (flow : Flow) where
   abbrev pub AllocationCallsAreSound : Type 0
-  AllocationCallsAreSound = (limits : Limits) → is_well_formed limits flow ≡ true → HasPremises flow → AreSound l n stands flow IsAllocationCall
+  AllocationCallsAreSound = (limits : Limits) → is_well_formed limits flow ≡ true → HasPremises flow → AreSound l n gamma flow IsAllocationCall

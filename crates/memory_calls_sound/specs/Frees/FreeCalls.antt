@@ -18,6 +18,6 @@ abbrev pub IsFreeCall : Operation → Type 0
 IsFreeCall (op.Library to name arguments newest size) = Frees name
 IsFreeCall _ = ⊥
 
-module _ {I : Type 0} (l : LatticeOf I) (n : IntegersOf I) (stands : I → ℤ → Type 0) (flow : Flow) where
+module _ {I : Type 0} (l : LatticeOf I) (n : IntegersOf I) (gamma : I → ℤ → Type 0) (flow : Flow) where
   abbrev pub FreeCallsAreSound : Type 0
-  FreeCallsAreSound = HasPremises flow → AreSound l n stands flow IsFreeCall
+  FreeCallsAreSound = HasPremises flow → AreSound l n gamma flow IsFreeCall

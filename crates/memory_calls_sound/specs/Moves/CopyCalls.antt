@@ -19,6 +19,6 @@ abbrev pub IsCopyCall : Operation → Type 0
 IsCopyCall (op.Library to name arguments newest size) = CopiesBytes name
 IsCopyCall _ = ⊥
 
-module _ {I : Type 0} (l : LatticeOf I) (n : IntegersOf I) (stands : I → ℤ → Type 0) (flow : Flow) where
+module _ {I : Type 0} (l : LatticeOf I) (n : IntegersOf I) (gamma : I → ℤ → Type 0) (flow : Flow) where
   abbrev pub CopyCallsAreSound : Type 0
-  CopyCallsAreSound = HasPremises flow → AreSound l n stands flow IsCopyCall
+  CopyCallsAreSound = HasPremises flow → AreSound l n gamma flow IsCopyCall

@@ -21,6 +21,6 @@ abbrev pub IsReallocationCall : Operation → Type 0
 IsReallocationCall (op.Library to name arguments (Some newest) size) = Reallocates name
 IsReallocationCall _ = ⊥
 
-module _ {I : Type 0} (l : LatticeOf I) (n : IntegersOf I) (stands : I → ℤ → Type 0) (flow : Flow) where
+module _ {I : Type 0} (l : LatticeOf I) (n : IntegersOf I) (gamma : I → ℤ → Type 0) (flow : Flow) where
   abbrev pub ReallocationCallsAreSound : Type 0
-  ReallocationCallsAreSound = (limits : Limits) → is_well_formed limits flow ≡ true → HasPremises flow → AreSound l n stands flow IsReallocationCall
+  ReallocationCallsAreSound = (limits : Limits) → is_well_formed limits flow ≡ true → HasPremises flow → AreSound l n gamma flow IsReallocationCall

@@ -46,7 +46,7 @@ use Rattle.transfer_exact.proofs.spelling.ToldLiterals.{literal_leaf}
 use Rattle.run_exact.proofs.entries.NamedTargets.{NamesTargets, targets_named}
 use Rattle.run_exact.proofs.entries.ToldStatics.{static_leaves}
 
-module _ {I : Type 0} {l : LatticeOf I} {n : IntegersOf I} {stands : I → ℤ → Type 0} (o : OrderLaws l) (q : BoundLaws l n stands) (c : SoundLaws l n stands) (ranges : RangeLaws l n) (exact : ExactLaws n) (flow : Flow) (limits : Limits) (good : is_well_formed limits flow ≡ true) (p : HasPremises flow) (objects : HasObjects flow) (plain : IsPlainProgram flow) (u : UnitView) (same : u.model ≡ flow.model)
+module _ {I : Type 0} {l : LatticeOf I} {n : IntegersOf I} {gamma : I → ℤ → Type 0} (o : OrderLaws l) (q : BoundLaws l n gamma) (c : SoundLaws l n gamma) (ranges : RangeLaws l n) (exact : ExactLaws n) (flow : Flow) (limits : Limits) (good : is_well_formed limits flow ≡ true) (p : HasPremises flow) (objects : HasObjects flow) (plain : IsPlainProgram flow) (u : UnitView) (same : u.model ≡ flow.model)
     (naming : Naming) (memory : Memory) (entered : ℕ → Option ℕ) (g : IsBeginning u flow naming memory entered) (targets : NamesTargets u flow.initial.items entered) where
   abbrev state : MachineState
   state = record { memory = memory; temps = empty_table; entered = entered }
@@ -144,8 +144,8 @@ no_temps : (u : UnitView) (f : FlowView) (r : Reply (Unit {0})) (s : Standing) �
 no_temps u f (goes x w) s e = let h : first_standing u f w ≡ s = cc in ap (λ z. z.temps) h
 no_temps u f (stops why w) s e = absurd (cc)
 
-module _ {I : Type 0} {l : LatticeOf I} {n : IntegersOf I} {stands : I → ℤ → Type 0} (o : OrderLaws l) (q : BoundLaws l n stands) (c : SoundLaws l n stands) (ranges : RangeLaws l n) (exact : ExactLaws n) (flow : Flow) where
-  pub start_is_told : StartIsTold l n stands flow
+module _ {I : Type 0} {l : LatticeOf I} {n : IntegersOf I} {gamma : I → ℤ → Type 0} (o : OrderLaws l) (q : BoundLaws l n gamma) (c : SoundLaws l n gamma) (ranges : RangeLaws l n) (exact : ExactLaws n) (flow : Flow) where
+  pub start_is_told : StartIsTold l n gamma flow
   start_is_told limits good p objects plain none u same begins row after long e draws s run =
       let h = begins draws s run in
       let targets = targets_named u flow h.beginning.own_objects none draws s run in

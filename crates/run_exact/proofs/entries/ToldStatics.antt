@@ -87,7 +87,7 @@ use Rattle.run_exact.proofs.entries.StaticBytes.{refilled_tags, refilled_long}
 int_le_true : (a b : ℤ) → int_le a b ≡ true → a ≤ℤ b
 int_le_true a b e = grind (arith, ints)
 
-module _ {I : Type 0} {l : LatticeOf I} {n : IntegersOf I} {stands : I → ℤ → Type 0} (q : BoundLaws l n stands) (ranges : RangeLaws l n) (exact : ExactLaws n) (flow : Flow) (p : HasPremises flow) (objects : HasObjects flow) (plain : IsPlainProgram flow) (u : UnitView) (same : u.model ≡ flow.model)
+module _ {I : Type 0} {l : LatticeOf I} {n : IntegersOf I} {gamma : I → ℤ → Type 0} (q : BoundLaws l n gamma) (ranges : RangeLaws l n) (exact : ExactLaws n) (flow : Flow) (p : HasPremises flow) (objects : HasObjects flow) (plain : IsPlainProgram flow) (u : UnitView) (same : u.model ≡ flow.model)
     (naming : Naming) (start : Memory) (sane : IsMemoryOf flow.model flow.bases.items naming start) (entered : ℕ → Option ℕ) (lives : AreEntered flow.bases.items naming start entered) (targets : NamesTargets u flow.initial.items entered) where
   base_small : (b i : ℕ) → naming i ≡ Some b → b < most_bases
   base_small b i named = let a = sane.few i b named in let few = p.shaped.few in omega (arith, a, few)

@@ -31,9 +31,9 @@ use Rattle.memory_model.specs.Effects.NumberedTables.{put_at, empty_table}
 use Rattle.memory_model.specs.Effects.Worlds.{Violation}
 use Rattle.semantics.specs.CfgMachine.FlowStates.{Standing}
 use Rattle.store_sound.specs.Concretization.Coverage.{state_of}
-use Rattle.store_sound.specs.Concretization.RowMeaning.{StandsFor}
+use Rattle.store_sound.specs.Concretization.RowMeaning.{InGamma}
 use Rattle.store_sound.specs.Concretization.ValueMeaning.{Naming}
-use Rattle.transfer_sound.specs.Values.SoundSteps.{AreShort, StandsBehind}
+use Rattle.transfer_sound.specs.Values.SoundSteps.{AreShort, InGammaAfter}
 use Rattle.transfer_sound.specs.Induction.Covering.{rows_behind}
 use Rattle.transfer_sound.proofs.induction.AdmittedPairs.{none_behind}
 use Rattle.transfer_sound.proofs.invariant_maps.EdgeEnds.{edge_there}
@@ -106,18 +106,18 @@ module _ {I : Type 0} (l : LatticeOf I) (n : IntegersOf I) (flow : Flow) where
 
   -- ---- the row behind
 
-  module _ (stands : I → ℤ → Type 0) where
+  module _ (gamma : I → ℤ → Type 0) where
     -- the row behind stands for the state behind and tells it
     pub record IsBoth (after : Option (List (Cell I))) (s : Standing) : Type 0 where
       pub row : List (Cell I)
       pub is : after ≡ Some row
       pub long : length row ≡ flow.width
       pub naming : Naming
-      pub stands_for : StandsFor l n stands flow naming row (state_of s)
+      pub stands_for : InGamma l n gamma flow naming row (state_of s)
       pub short : AreShort flow.model s.world.memory
       pub tells : TellsState l n flow row (state_of s)
 
-    pub both : (after : Option (List (Cell I))) (s : Standing) → StandsBehind l n stands flow after s → TellsBehind l n flow after s → IsBoth after s
+    pub both : (after : Option (List (Cell I))) (s : Standing) → InGammaAfter l n gamma flow after s → TellsBehind l n flow after s → IsBoth after s
     both after s a b =
         let same : b.row ≡ a.row = same_Some b.row a.row (sym b.is ∙ a.is) in
         record { row = a.row; is = a.is; long = a.long; naming = a.naming; stands_for = a.stands_for; short = a.short; tells = subst (λ z. TellsState l n flow z (state_of s)) same b.tells }

@@ -44,7 +44,7 @@ use Rattle.store_sound.specs.Concretization.Coverage.{state_of}
 use Rattle.store_sound.specs.Programs.Premises.{HasPremises}
 use Rattle.store_sound.proofs.programs.ShapedBases.{all_at}
 use Rattle.transfer_sound.specs.Values.OperandTypes.{HasOperands}
-use Rattle.transfer_sound.specs.Values.SoundSteps.{IsReached, StandsBehind}
+use Rattle.transfer_sound.specs.Values.SoundSteps.{IsReached, InGammaAfter}
 use Rattle.transfer_sound.specs.Induction.SoundEnds.{IsDoneIn, StepsGoOnSoundly, EndsGoOnSoundly}
 use Rattle.transfer_sound.specs.Induction.Covering.{HasTypedRuns, rows_behind, Admits}
 use Rattle.transfer_sound.proofs.induction.Blocks.{IsAt, is_at, block_facts, goes_or_ends, last_is, get_last}
@@ -78,9 +78,9 @@ placed place [] r h = let a = h.1 in absurd (omega (arith, a))
 placed place (x ∷ xs) r (zero, lt, e) = let d : x ≡ r = e in subst (λ z. Contains (violations_at place (x ∷ xs)) (record { at = place; rule = z })) d (push_first (record { at = place; rule = x }) (violations_at place xs))
 placed place (x ∷ xs) r (suc k, lt, e) = push_later (record { at = place; rule = x }) (record { at = place; rule = r }) (violations_at place xs) (placed place xs r (k, omega (arith, lt), e))
 
-module _ {I : Type 0} {l : LatticeOf I} {n : IntegersOf I} {stands : I → ℤ → Type 0} (o : OrderLaws l) (flow : Flow) (list : List ℤ) (limits : Limits) (good : is_well_formed limits flow ≡ true) (p : HasPremises flow)
-    (steps_sound : StepsGoOnSoundly l n stands flow) (ends_sound : EndsGoOnSoundly l n stands flow limits) (tests_sound : TestsAreSound l n stands flow)
-    (laws : SingleLaws l n stands flow limits) (tests_told : TestsAreTold l n stands flow)
+module _ {I : Type 0} {l : LatticeOf I} {n : IntegersOf I} {gamma : I → ℤ → Type 0} (o : OrderLaws l) (flow : Flow) (list : List ℤ) (limits : Limits) (good : is_well_formed limits flow ≡ true) (p : HasPremises flow)
+    (steps_sound : StepsGoOnSoundly l n gamma flow) (ends_sound : EndsGoOnSoundly l n gamma flow limits) (tests_sound : TestsAreSound l n gamma flow)
+    (laws : SingleLaws l n gamma flow limits) (tests_told : TestsAreTold l n gamma flow)
     (leaves : (number : ℕ) (row : List (Cell I)) → is_own_row l n list flow.bases.items flow.width row ≡ true → through l n flow list number row ≡ edge_end l n flow (edge_at flow.edges.items number).from number row)
     (owns : (block number : ℕ) (row x : List (Cell I)) → is_own_row l n list flow.bases.items flow.width row ≡ true → edge_end l n flow block number row ≡ Some x → is_own_row l n list flow.bases.items flow.width x ≡ true)
     (start_own : is_own_row l n list flow.bases.items flow.width (start_of l n flow list) ≡ true)
@@ -124,13 +124,13 @@ module _ {I : Type 0} {l : LatticeOf I} {n : IntegersOf I} {stands : I → ℤ �
     is : r ≡ running s found
     block : s.block ≡ b
     stands_at : s.at ≡ at
-    passed : IsPassed l n flow stands list rows b at s found
+    passed : IsPassed l n flow gamma list rows b at s found
     heads : HasNoHeads rows
     few : left_from flow.blocks.items b ≤ left + at
 
   record HasStopped (r : FlowRun) : Type 0 where
     rows : Table I
-    closed : IsClosed l n flow stands list rows (found_in r)
+    closed : IsClosed l n flow gamma list rows (found_in r)
     heads : HasNoHeads rows
 
   -- ---- one instruction
@@ -182,7 +182,7 @@ module _ {I : Type 0} {l : LatticeOf I} {n : IntegersOf I} {stands : I → ℤ �
       abbrev row : List (Cell I)
       row = g.passed.before.row
 
-      reached : IsReached l n stands flow g.passed.before.naming row (begun g.s)
+      reached : IsReached l n gamma flow g.passed.before.naming row (begun g.s)
       reached = record { long = g.passed.before.long; stands_for = g.passed.before.stands_for; short = g.passed.before.short; begun = refl }
 
       small : g.b < length flow.blocks.items
@@ -198,11 +198,11 @@ module _ {I : Type 0} {l : LatticeOf I} {n : IntegersOf I} {stands : I → ℤ �
 
       goes_out : (on : leads it.operation ≡ On) (y : Reply Standing) → reply ≡ y → Outcome y
       goes_out on y e =
-          let told = step_told l n stands flow limits laws p objects structs texts single.plain g.passed.before.naming row g.s reached g.passed.before.tells it.operation on done (single.calls it.operation done) is_typed fits operands has_right defined in
+          let told = step_told l n gamma flow limits laws p objects structs texts single.plain g.passed.before.naming row g.s reached g.passed.before.tells it.operation on done (single.calls it.operation done) is_typed fits operands has_right defined in
           let sound = steps_sound g.passed.before.naming row (begun g.s) it.operation (on, done) fits operands reached in
-          by_reply y e (λ t w d. both l n flow stands (operate l n flow row it.operation) (record t { world = w }) (sound.goes_on t w d) (told.goes_on t w d)) told.ends (λ r c. subst (λ z. Contains (world_of z).violated r) e (told.violated r c))
+          by_reply y e (λ t w d. both l n flow gamma (operate l n flow row it.operation) (record t { world = w }) (sound.goes_on t w d) (told.goes_on t w d)) told.ends (λ r c. subst (λ z. Contains (world_of z).violated r) e (told.violated r c))
         where
-          by_reply : (y : Reply Standing) → reply ≡ y → ((t : Standing) (w : World) → reply ≡ goes t w → IsBoth l n flow stands (operate l n flow row it.operation) (record t { world = w })) → ((why : Why) (w : World) → reply ≡ stops why w → operate l n flow row it.operation ≡ None) → ((r : Rule) → violates (operation_violations l n flow row it.operation) r ≡ true → Contains (world_of y).violated r) → Outcome y
+          by_reply : (y : Reply Standing) → reply ≡ y → ((t : Standing) (w : World) → reply ≡ goes t w → IsBoth l n flow gamma (operate l n flow row it.operation) (record t { world = w })) → ((why : Why) (w : World) → reply ≡ stops why w → operate l n flow row it.operation ≡ None) → ((r : Rule) → violates (operation_violations l n flow row it.operation) r ≡ true → Contains (world_of y).violated r) → Outcome y
           by_reply (goes t w) e goes_on ends violated =
               let x = go_on f it.operation (begun g.s) t w on e in
               let few = g.few in
@@ -215,13 +215,13 @@ module _ {I : Type 0} {l : LatticeOf I} {n : IntegersOf I} {stands : I → ℤ �
                 is = refl;
                 block = x.block ∙ g.block;
                 stands_at = x.at ∙ ap suc g.stands_at;
-                passed = on_passed l n flow stands list g.rows g.b g.at g.s g.found g.passed it here_list (violations_at it.place w.violated) (λ r c. placed it.place w.violated r (violated r c)) (record t { world = w }) (goes_on t w e);
+                passed = on_passed l n flow gamma list g.rows g.b g.at g.s g.found g.passed it here_list (violations_at it.place w.violated) (λ r c. placed it.place w.violated r (violated r c)) (record t { world = w }) (goes_on t w e);
                 heads = g.heads;
                 few = omega (arith, few);
               })
           by_reply (stops why w) e goes_on ends violated = inr (record {
             rows = g.rows;
-            closed = stopped_closed l n flow stands list g.rows g.b g.at g.s g.found g.passed it here_list (violations_at it.place w.violated) (λ r c. placed it.place w.violated r (violated r c)) leaves small (ends why w e);
+            closed = stopped_closed l n flow gamma list g.rows g.b g.at g.s g.found g.passed it here_list (violations_at it.place w.violated) (λ r c. placed it.place w.violated r (violated r c)) leaves small (ends why w e);
             heads = g.heads;
           })
 
@@ -252,7 +252,7 @@ module _ {I : Type 0} {l : LatticeOf I} {n : IntegersOf I} {stands : I → ℤ �
             by_reply (goes t w) r = let z : act_step f (act op.Stop) (begun g.s) ≡ goes t w = sym (ap (λ x. act_step f (act x) (begun g.s)) e) ∙ r in cc
             by_reply (stops why w) r = inr (record {
               rows = g.rows;
-              closed = stopped_closed l n flow stands list g.rows g.b g.at g.s g.found g.passed it here_list (violations_at it.place w.violated)
+              closed = stopped_closed l n flow gamma list g.rows g.b g.at g.s g.found g.passed it here_list (violations_at it.place w.violated)
                   (λ r c. placed it.place w.violated r (stop_violates l n flow row w.violated r (subst (λ x. violates (operation_violations l n flow row x) r ≡ true) e c))) leaves small none;
               heads = g.heads;
             })
@@ -273,7 +273,7 @@ module _ {I : Type 0} {l : LatticeOf I} {n : IntegersOf I} {stands : I → ℤ �
                 let e : Edge = told.taken in
                 let from : e.from ≡ g.b = told.leaves ∙ g.block in
                 let taken : sound.taken ≡ e = same_Some sound.taken e (sym sound.is ∙ (ap (slice_get flow.edges.items) one ∙ told.is)) in
-                let h = both l n flow stands (edge l n flow row told.number) (record t { world = w }) (subst (λ z. StandsBehind l n stands flow (edge l n flow row z) (record t { world = w })) one sound.behind) told.behind in
+                let h = both l n flow gamma (edge l n flow row told.number) (record t { world = w }) (subst (λ z. InGammaAfter l n gamma flow (edge l n flow row z) (record t { world = w })) one sound.behind) told.behind in
                 let apart : (other : ℕ) (d : Edge) → slice_get flow.edges.items other ≡ Some d → d.from ≡ g.b → (other ≡ told.number → ⊥) → edge l n flow row other ≡ None = λ other d is_edge leaving ne. told.others other d is_edge (leaving ∙ sym g.block) (way_of other d is_edge (leaving ∙ sym g.block)) ne in
                 let head : is_head_at flow.blocks.items e.to ≡ false = ap (is_head_at flow.blocks.items) (sym told.enters) ∙ single.headless (suc count) (record t { world = w }) (g.found ++ violations_at it.place w.violated) (stepped ∙ ap (run_by g.found it.place) r) in
                 let ahead = forward told.number e told.is head in
@@ -283,7 +283,7 @@ module _ {I : Type 0} {l : LatticeOf I} {n : IntegersOf I} {stands : I → ℤ �
                 let end = end_here in
                 let long = here_length in
                 inl (record {
-                  rows = next l n flow stands list g.rows g.b g.at g.s g.found g.passed it here_list (violations_at it.place w.violated) (λ r c. placed it.place w.violated r (way_violates l n flow row it.operation is w.violated r c)) leaves o end_here sound.stays told.number e told.is from ahead (record t { world = w }) h apart owns;
+                  rows = next l n flow gamma list g.rows g.b g.at g.s g.found g.passed it here_list (violations_at it.place w.violated) (λ r c. placed it.place w.violated r (way_violates l n flow row it.operation is w.violated r c)) leaves o end_here sound.stays told.number e told.is from ahead (record t { world = w }) h apart owns;
                   b = e.to;
                   at = 0;
                   s = record t { world = w };
@@ -291,9 +291,9 @@ module _ {I : Type 0} {l : LatticeOf I} {n : IntegersOf I} {stands : I → ℤ �
                   is = refl;
                   block = told.enters;
                   stands_at = sound.starts;
-                  heads = λ c is_head. next_else l n flow stands list g.rows g.b g.at g.s g.found g.passed it here_list (violations_at it.place w.violated) (λ r c. placed it.place w.violated r (way_violates l n flow row it.operation is w.violated r c)) leaves o end_here sound.stays told.number e told.is from ahead (record t { world = w }) h apart owns c
+                  heads = λ c is_head. next_else l n flow gamma list g.rows g.b g.at g.s g.found g.passed it here_list (violations_at it.place w.violated) (λ r c. placed it.place w.violated r (way_violates l n flow row it.operation is w.violated r c)) leaves o end_here sound.stays told.number e told.is from ahead (record t { world = w }) h apart owns c
                       (λ same. true≢false (sym is_head ∙ (ap (is_head_at flow.blocks.items) same ∙ head))) ∙ g.heads c is_head;
-                  passed = next_passed l n flow stands list g.rows g.b g.at g.s g.found g.passed it here_list (violations_at it.place w.violated) (λ r c. placed it.place w.violated r (way_violates l n flow row it.operation is w.violated r c)) leaves o end_here sound.stays told.number e told.is from ahead (record t { world = w }) h apart owns;
+                  passed = next_passed l n flow gamma list g.rows g.b g.at g.s g.found g.passed it here_list (violations_at it.place w.violated) (λ r c. placed it.place w.violated r (way_violates l n flow row it.operation is w.violated r c)) leaves o end_here sound.stays told.number e told.is from ahead (record t { world = w }) h apart owns;
                   few = omega (arith, all, less, few, end, long);
                 })
               where
@@ -351,7 +351,7 @@ module _ {I : Type 0} {l : LatticeOf I} {n : IntegersOf I} {stands : I → ℤ �
   first_is (goes v w) s e = let a : first_standing u f w ≡ s = cc in record { block = ap (λ z. z.block) (sym a); at = ap (λ z. z.at) (sym a) }
   first_is (stops why w) s e = cc
 
-  module _ (begin : Standing) (begins : flow_begin u f [] ≡ running begin []) (start : IsBoth l n flow stands (Some (start_of l n flow list)) begin) where
+  module _ (begin : Standing) (begins : flow_begin u f [] ≡ running begin []) (start : IsBoth l n flow gamma (Some (start_of l n flow list)) begin) where
     first : GoesOn (run 0) (left_from flow.blocks.items 0)
     first =
         let a = first_is (start_world u []) begin begins in
@@ -364,15 +364,15 @@ module _ {I : Type 0} {l : LatticeOf I} {n : IntegersOf I} {stands : I → ℤ �
           is = begins;
           block = a.block;
           stands_at = a.at;
-          passed = begun_passed l n flow stands list o start_own begin start;
-          heads = λ c is_head. first_at l n flow stands list (start_of l n flow list) c (λ same. true≢false (sym is_head ∙ (ap (is_head_at flow.blocks.items) (same ∙ sym a.block) ∙ single.headless 0 begin [] begins)));
+          passed = begun_passed l n flow gamma list o start_own begin start;
+          heads = λ c is_head. first_at l n flow gamma list (start_of l n flow list) c (λ same. true≢false (sym is_head ∙ (ap (is_head_at flow.blocks.items) (same ∙ sym a.block) ∙ single.headless 0 begin [] begins)));
           few = omega arith;
         }
 
     end : HasEnd
     end = to_end (left_from flow.blocks.items 0) 0 first
 
-    module _ (rows : Table I) (c : IsClosed l n flow stands list rows (found_in (run end.count))) (heads : HasNoHeads rows) where
+    module _ (rows : Table I) (c : IsClosed l n flow gamma list rows (found_in (run end.count))) (heads : HasNoHeads rows) where
       map : List (Option (List (Cell I)))
       map = listed rows (length flow.blocks.items)
 
@@ -403,7 +403,7 @@ module _ {I : Type 0} {l : LatticeOf I} {n : IntegersOf I} {stands : I → ℤ �
 pub run_of : {flow : Flow} {u : UnitView} → IsSingleProgram flow u → IsSingleRun flow u
 run_of single = record { plain = single.plain; parameters = single.parameters; calls = single.calls; headless = λ count s found e. single.headless s.block; steps = single.steps }
 
-pub maps_admit : {I : Type 0} {l : LatticeOf I} {n : IntegersOf I} {stands : I → ℤ → Type 0} → OrderLaws l → (flow : Flow) (list : List ℤ) (limits : Limits) → MapsAdmitOnlyRun l n stands flow list limits
-maps_admit {l = l} {n = n} {stands = stands} o flow list limits s switches u typed rights unstuck single first begins behind tells =
+pub maps_admit : {I : Type 0} {l : LatticeOf I} {n : IntegersOf I} {gamma : I → ℤ → Type 0} → OrderLaws l → (flow : Flow) (list : List ℤ) (limits : Limits) → MapsAdmitOnlyRun l n gamma flow list limits
+maps_admit {l = l} {n = n} {gamma = gamma} o flow list limits s switches u typed rights unstuck single first begins behind tells =
     admits_only_run o flow list limits s.good s.premises s.steps s.ends s.sound s.laws s.told s.leaves s.owns s.start s.structs s.texts s.objects switches u typed rights unstuck single first begins
-    (both l n flow stands (Some (start_of l n flow list)) first behind (record { row = start_of l n flow list; is = refl; tells = tells }))
+    (both l n flow gamma (Some (start_of l n flow list)) first behind (record { row = start_of l n flow list; is = refl; tells = tells }))

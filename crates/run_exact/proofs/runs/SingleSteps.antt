@@ -28,7 +28,7 @@ use Rattle.transfer_exact.specs.Accesses.TypedAccesses.{HasObjects}
 use Rattle.transfer_exact.specs.Edges.WayLaws.{IsWay}
 use Rattle.run_exact.specs.Runs.SingleRuns.{IsPlainOperation, IsTypedStep, SingleLaws}
 
-module _ {I : Type 0} (l : LatticeOf I) (n : IntegersOf I) (stands : I → ℤ → Type 0) (flow : Flow) (limits : Limits) (laws : SingleLaws l n stands flow limits) (p : HasPremises flow) (objects : HasObjects flow) (structs : HasStructs flow) (texts : SpellsOverCharacters flow) (plain : IsPlainProgram flow) (naming : Naming) (row : List (Cell I)) (s : Standing) (r : IsReached l n stands flow naming row (begun s)) (t : TellsState l n flow row (state_of s)) where
+module _ {I : Type 0} (l : LatticeOf I) (n : IntegersOf I) (gamma : I → ℤ → Type 0) (flow : Flow) (limits : Limits) (laws : SingleLaws l n gamma flow limits) (p : HasPremises flow) (objects : HasObjects flow) (structs : HasStructs flow) (texts : SpellsOverCharacters flow) (plain : IsPlainProgram flow) (naming : Naming) (row : List (Cell I)) (s : Standing) (r : IsReached l n gamma flow naming row (begun s)) (t : TellsState l n flow row (state_of s)) where
   abbrev IsToldHere : Operation → Type 0
   IsToldHere o = leads o ≡ On → IsDoneIn flow o → IsPlainOperation o → IsTypedStep flow o s → fits_operation (names_of flow) o ≡ true → HasOperands o s.temps → HasRight o s.temps → IsDefined (act_step (flow_view flow) (act o) (begun s)) → StepIsTold l n flow row o (begun s)
 

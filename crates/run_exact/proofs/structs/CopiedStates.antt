@@ -52,7 +52,7 @@ pub record Came (old : Memory) (i offset j at x : ℕ) (y : Byte) : Type 0 where
   pub content : y.content ≡ source.content
   pub tag : y.tag ≡ was.tag
 
-module _ {I : Type 0} {l : LatticeOf I} {n : IntegersOf I} {stands : I → ℤ → Type 0} (order : OrderLaws l) (q : BoundLaws l n stands) (ranges : RangeLaws l n) (exact : ExactLaws n)
+module _ {I : Type 0} {l : LatticeOf I} {n : IntegersOf I} {gamma : I → ℤ → Type 0} (order : OrderLaws l) (q : BoundLaws l n gamma) (ranges : RangeLaws l n) (exact : ExactLaws n)
     (flow : Flow) (p : HasPremises flow) (objects : HasObjects flow) (plain : IsPlainProgram flow) (index : ℕ) (view : StructView) (listed : IsListed flow.model (structs_view flow.structs) index view)
     (b d : ℕ) (target source : BaseInfo) (o a : ℕ) (t : IsSide flow index view b target o) (s : IsSide flow index view d source a)
     (apart : (x : ℕ) → d ≡ b → o ≤ x → x < o + view.size → a ≤ x → x < a + view.size → o ≡ a)

@@ -59,7 +59,7 @@ module _ (flow : Flow) (old new : Memory) (j from i to : ℕ) (x y : Leaf) (clas
 
 -- ---- values
 
-module _ {I : Type 0} {l : LatticeOf I} {n : IntegersOf I} {stands : I → ℤ → Type 0} (o : OrderLaws l) (q : BoundLaws l n stands) (ranges : RangeLaws l n) (x : ExactLaws n) (flow : Flow) (entered : ℕ → Option ℕ) (memory : Memory) (sane : (i offset : ℕ) (byte : Byte) → byte_at memory i offset ≡ Some byte → IsContentIn memory byte.content byte.tag)
+module _ {I : Type 0} {l : LatticeOf I} {n : IntegersOf I} {gamma : I → ℤ → Type 0} (o : OrderLaws l) (q : BoundLaws l n gamma) (ranges : RangeLaws l n) (x : ExactLaws n) (flow : Flow) (entered : ℕ → Option ℕ) (memory : Memory) (sane : (i offset : ℕ) (byte : Byte) → byte_at memory i offset ≡ Some byte → IsContentIn memory byte.content byte.tag)
     (i offset : ℕ) (leaf : Leaf) (v : values.Value I) (near : IsNearValue l n v) where
   abbrev kind : IntType
   kind = kind_of flow.model leaf.class leaf.signed

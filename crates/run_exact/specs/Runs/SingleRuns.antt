@@ -31,7 +31,7 @@ use Rattle.transfer_system.specs.System.BlockPasses.{edge_end}
 use Rattle.transfer_system.specs.System.FlowMachines.{edge_at, is_head_at, start_of, through, flow_machine}
 use Rattle.store_sound.specs.Concretization.Coverage.{state_of}
 use Rattle.store_sound.specs.Programs.Premises.{HasPremises}
-use Rattle.transfer_sound.specs.Values.SoundSteps.{StandsBehind}
+use Rattle.transfer_sound.specs.Values.SoundSteps.{InGammaAfter}
 use Rattle.struct_copies_sound.specs.Structs.StructTables.{HasStructs}
 use Rattle.transfer_sound.specs.Edges.EdgeSteps.{TestsAreSound}
 use Rattle.analysis_sound.specs.Programs.OpenSteps.{SpellsOverCharacters}
@@ -107,20 +107,20 @@ pub record IsViolatedAlone (flow : Flow) (u : UnitView) (place : Place) (rule : 
 
 -- ---- the laws on single instructions together
 
-module _ {I : Type 0} (l : LatticeOf I) (n : IntegersOf I) (stands : I → ℤ → Type 0) (flow : Flow) where
+module _ {I : Type 0} (l : LatticeOf I) (n : IntegersOf I) (gamma : I → ℤ → Type 0) (flow : Flow) where
   pub record SingleLaws (limits : Limits) : Type 0 where
-    pub values : ValueStepsAreTold l n stands flow
-    pub pointers : PointerStepsAreTold l n stands flow
-    pub calls : CallsAreTold l n stands flow
-    pub loads : LoadsAreTold l n stands flow
-    pub stores : StoresAreTold l n stands flow
-    pub copies : CopiesAreTold l n stands flow
-    pub spells : SpellsAreTold l n stands flow
-    pub enters : EntersAreTold l n stands flow
-    pub leaves : LeavesAreTold l n stands flow
-    pub forgets : ForgetsAreTold l n stands flow
-    pub clears : ClearsAreTold l n stands flow
-    pub ways : WaysAreTold l n stands flow limits
+    pub values : ValueStepsAreTold l n gamma flow
+    pub pointers : PointerStepsAreTold l n gamma flow
+    pub calls : CallsAreTold l n gamma flow
+    pub loads : LoadsAreTold l n gamma flow
+    pub stores : StoresAreTold l n gamma flow
+    pub copies : CopiesAreTold l n gamma flow
+    pub spells : SpellsAreTold l n gamma flow
+    pub enters : EntersAreTold l n gamma flow
+    pub leaves : LeavesAreTold l n gamma flow
+    pub forgets : ForgetsAreTold l n gamma flow
+    pub clears : ClearsAreTold l n gamma flow
+    pub ways : WaysAreTold l n gamma flow limits
 
 -- ---- maps
 
@@ -131,7 +131,7 @@ module _ {I : Type 0} (l : LatticeOf I) (n : IntegersOf I) (flow : Flow) where
 
 -- ---- what is supposed beside
 
-module _ {I : Type 0} (l : LatticeOf I) (n : IntegersOf I) (stands : I → ℤ → Type 0) (flow : Flow) (list : List ℤ) (limits : Limits) where
+module _ {I : Type 0} (l : LatticeOf I) (n : IntegersOf I) (gamma : I → ℤ → Type 0) (flow : Flow) (list : List ℤ) (limits : Limits) where
   -- a well-formed program for which the analysis is sound and the laws hold, on whose own rows the fit changes nothing
   pub record HasLaws : Type 0 where
     pub good : is_well_formed limits flow ≡ true
@@ -139,11 +139,11 @@ module _ {I : Type 0} (l : LatticeOf I) (n : IntegersOf I) (stands : I → ℤ �
     pub objects : HasObjects flow
     pub structs : HasStructs flow
     pub texts : SpellsOverCharacters flow
-    pub steps : StepsGoOnSoundly l n stands flow
-    pub ends : EndsGoOnSoundly l n stands flow limits
-    pub sound : TestsAreSound l n stands flow
-    pub laws : SingleLaws l n stands flow limits
-    pub told : TestsAreTold l n stands flow
+    pub steps : StepsGoOnSoundly l n gamma flow
+    pub ends : EndsGoOnSoundly l n gamma flow limits
+    pub sound : TestsAreSound l n gamma flow
+    pub laws : SingleLaws l n gamma flow limits
+    pub told : TestsAreTold l n gamma flow
     pub leaves : (number : ℕ) (row : List (Cell I)) → is_own_row l n list flow.bases.items flow.width row ≡ true → through l n flow list number row ≡ edge_end l n flow (edge_at flow.edges.items number).from number row
     pub owns : (block number : ℕ) (row x : List (Cell I)) → is_own_row l n list flow.bases.items flow.width row ≡ true → edge_end l n flow block number row ≡ Some x → is_own_row l n list flow.bases.items flow.width x ≡ true
     pub start : is_own_row l n list flow.bases.items flow.width (start_of l n flow list) ≡ true
@@ -151,4 +151,4 @@ module _ {I : Type 0} (l : LatticeOf I) (n : IntegersOf I) (stands : I → ℤ �
   -- where the row of the entry stands for the state in which the run begins and tells it, and operands are of their types
   abbrev pub MapsAdmitOnlyRun : Type 0
   MapsAdmitOnlyRun = HasLaws → SwitchesAreApart flow → (u : UnitView) → HasTypedRuns flow u → HasRightOperands flow u → IsNeverStuckAlone flow u → IsSingleRun flow u → (first : Standing) → flow_begin u (flow_view flow) [] ≡ running first []
-      → StandsBehind l n stands flow (Some (start_of l n flow list)) first → TellsState l n flow (start_of l n flow list) (state_of first) → AdmitOnlyRun l n flow list u
+      → InGammaAfter l n gamma flow (Some (start_of l n flow list)) first → TellsState l n flow (start_of l n flow list) (state_of first) → AdmitOnlyRun l n flow list u

@@ -32,7 +32,7 @@ use Rattle.memory_model.specs.Memory.Scalars.{integer}
 use Rattle.memory_model.specs.Effects.ScalarBytes.{number_bytes, bits_in, scalar_bytes}
 use Rattle.store_sound.specs.Concretization.Matching.{Matched, number_in, Holds}
 use Rattle.store_sound.specs.Concretization.SeenLabels.{as_set}
-use Rattle.store_sound.specs.Concretization.ValueMeaning.{Naming, StandsContent}
+use Rattle.store_sound.specs.Concretization.ValueMeaning.{Naming, InGammaContent}
 use Rattle.store_sound.proofs.operations.Classes.{integer_class, class_above, class_size}
 use Rattle.store_sound.proofs.operations.Rereading.{halves, unsigned_below}
 use Rattle.store_sound.proofs.operations.FreshValues.{cell_of, as_labels, number_stands, type_near}
@@ -63,7 +63,7 @@ number_within m class t ns e h = let a = class_above m class in by_sign t ns (ki
 
 -- ---- the cell of a character
 
-module _ {I : Type 0} {l : LatticeOf I} {n : IntegersOf I} {stands : I → ℤ → Type 0} (c : SoundLaws l n stands) (m : Model) (kind : IntType) (char : class_of kind ≡ Char) (z : ℤ) (labels : Labels) (x : Value I) (st : stands x.num z) where
+module _ {I : Type 0} {l : LatticeOf I} {n : IntegersOf I} {gamma : I → ℤ → Type 0} (c : SoundLaws l n gamma) (m : Model) (kind : IntType) (char : class_of kind ≡ Char) (z : ℤ) (labels : Labels) (x : Value I) (st : gamma x.num z) where
   size_one : class_bytes m (class_of kind) ≡ 1
   size_one = ap (class_bytes m) char
 
@@ -71,7 +71,7 @@ module _ {I : Type 0} {l : LatticeOf I} {n : IntegersOf I} {stands : I → ℤ �
   first_byte = ap (λ a. slice_get (scalar_bytes a (integer z labels)) 0) size_one
 
   -- the byte that is stored, read as a number
-  pub byte_number : (t : Bool) (ns : List Labelled) → length ns ≡ class_bytes m (class_of kind) → ((y : Labelled) → slice_get ns 0 ≡ Some y → number_in y ≡ byte_of z labels) → stands (cell_of n m (of.Int kind) x t).num (number_of t ns)
+  pub byte_number : (t : Bool) (ns : List Labelled) → length ns ≡ class_bytes m (class_of kind) → ((y : Labelled) → slice_get ns 0 ≡ Some y → number_in y ≡ byte_of z labels) → gamma (cell_of n m (of.Int kind) x t).num (number_of t ns)
   byte_number t ns e h = number_stands c m kind z labels x t ns st e (λ k y f.
       let w = slice_get_within ns k y f in
       let one = size_one in
@@ -79,13 +79,13 @@ module _ {I : Type 0} {l : LatticeOf I} {n : IntegersOf I} {stands : I → ℤ �
       subst (λ a. slice_get (number_bytes (class_bytes m (class_of kind)) (bits_in (class_bytes m (class_of kind)) z) labels) a ≡ Some (number_in y)) (sym g)
       (first_byte ∙ sym (ap Some (h y (subst (λ a. slice_get ns a ≡ Some y) g f)))))
 
-  pub held_number : {old new : Memory} {i offset : ℕ} (s : IsByteStore old new i offset (byte_of z labels)) (t : Bool) (ns : List Labelled) → Holds m new i offset (class_of kind) ns → stands (cell_of n m (of.Int kind) x t).num (number_of t ns)
+  pub held_number : {old new : Memory} {i offset : ℕ} (s : IsByteStore old new i offset (byte_of z labels)) (t : Bool) (ns : List Labelled) → Holds m new i offset (class_of kind) ns → gamma (cell_of n m (of.Int kind) x t).num (number_of t ns)
   held_number {old} {new} {i} {offset} s t ns h = byte_number t ns h.size (λ y e.
       let w = slice_get_within ns 0 y e in
       let f : offset + 0 ≡ offset = omega arith in
       (matched_in s 0 (class_of kind) (number_in y) (subst (λ a. Matched new i a (class_of kind) 0 (number_in y)) f (h.each 0 y w e))).0)
 
-  pub byte_content : (naming : Naming) (new : Memory) (t : Bool) → labels_leq (as_set labels) x.labels ≡ true → StandsContent stands naming new (cell_of n m (of.Int kind) x t) (class_of kind) (byte_of z labels)
+  pub byte_content : (naming : Naming) (new : Memory) (t : Bool) → labels_leq (as_set labels) x.labels ≡ true → InGammaContent gamma naming new (cell_of n m (of.Int kind) x t) (class_of kind) (byte_of z labels)
   byte_content naming new t h =
       let p = integer_class kind in
       let b : (cell_of n m (of.Int kind) x t).labels ≡ x.labels = as_labels n m (stored_value (class_of kind) x) (class_of kind) t ∙ ap (λ u. cond u no_labels x.labels) p in
@@ -93,15 +93,15 @@ module _ {I : Type 0} {l : LatticeOf I} {n : IntegersOf I} {stands : I → ℤ �
 
 -- ---- the cells of other classes
 
-module _ {I : Type 0} {l : LatticeOf I} {n : IntegersOf I} {stands : I → ℤ → Type 0} (o : OrderLaws l) (q : BoundLaws l n stands) (m : Model) (class : Class) (t : Bool) (bound : sets.Labels) where
-  pub written_number : (ns : List Labelled) → is_pointer class ≡ false → length ns ≡ class_bytes m class → ((k : ℕ) (y : Labelled) → slice_get ns k ≡ Some y → y.number < 256) → stands (byte_written l n m class t bound).num (number_of t ns)
+module _ {I : Type 0} {l : LatticeOf I} {n : IntegersOf I} {gamma : I → ℤ → Type 0} (o : OrderLaws l) (q : BoundLaws l n gamma) (m : Model) (class : Class) (t : Bool) (bound : sets.Labels) where
+  pub written_number : (ns : List Labelled) → is_pointer class ≡ false → length ns ≡ class_bytes m class → ((k : ℕ) (y : Labelled) → slice_get ns k ≡ Some y → y.number < 256) → gamma (byte_written l n m class t bound).num (number_of t ns)
   written_number ns p e h =
       let r = number_within m class t ns e h in
       let r0 = r.0 in
       let r1 = r.1 in
-      rw p (subst (λ z. stands z (number_of t ns)) (sym (some_between o q (least_of (kind_of m class t)) (greatest_of (kind_of m class t)) (omega (arith, ints)))) (between_stands o q (least_of (kind_of m class t)) (greatest_of (kind_of m class t)) (number_of t ns) r0 r1))
+      rw p (subst (λ z. gamma z (number_of t ns)) (sym (some_between o q (least_of (kind_of m class t)) (greatest_of (kind_of m class t)) (omega (arith, ints)))) (between_stands o q (least_of (kind_of m class t)) (greatest_of (kind_of m class t)) (number_of t ns) r0 r1))
 
-  pub written_content : (naming : Naming) (memory : Memory) (d : ℕ) (labels : Labels) → labels_leq (as_set labels) bound ≡ true → StandsContent stands naming memory (byte_written l n m class t bound) class (number d labels)
+  pub written_content : (naming : Naming) (memory : Memory) (d : ℕ) (labels : Labels) → labels_leq (as_set labels) bound ≡ true → InGammaContent gamma naming memory (byte_written l n m class t bound) class (number d labels)
   written_content naming memory d labels h = elim (cases_Bool (is_pointer class)) [
     | inl e ↦ rw e (h, λ f. refl)
     | inr e ↦ rw e (h, λ (f : false ≡ true). cc)

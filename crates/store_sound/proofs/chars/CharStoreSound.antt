@@ -58,8 +58,8 @@ use Rattle.store_sound.specs.Concretization.Matching.{number_in}
 use Rattle.store_sound.specs.Concretization.Places.{IsPlaceOf, OwnedByLeaf, IsLeafPlace}
 use Rattle.store_sound.specs.Concretization.SeenLabels.{as_set}
 use Rattle.store_sound.specs.Concretization.SoundMemory.{IsWithin, IsPointerIn, IsMemoryOf, IsInstanceOf, storage_for}
-use Rattle.store_sound.specs.Concretization.ValueMeaning.{Naming, StandsScalar, StandsInto, StandsPointer, StandsState, StandsZero}
-use Rattle.store_sound.specs.Concretization.RowMeaning.{IsLiveOf, MachineState, StandsFor, array_of, array_bytes}
+use Rattle.store_sound.specs.Concretization.ValueMeaning.{Naming, InGammaScalar, InGammaInto, InGammaPointer, InGammaState, InGammaZero}
+use Rattle.store_sound.specs.Concretization.RowMeaning.{IsLiveOf, MachineState, InGamma, array_of, array_bytes}
 use Rattle.store_sound.specs.Operations.Gives.{Gives}
 use Rattle.store_sound.specs.Operations.Scalars.{signed_in, IsOfKind}
 use Rattle.store_sound.specs.Operations.Shapes.{IsShaped, AreShaped, AreLaid, HasTexts, SeesPadding}
@@ -112,11 +112,11 @@ same_holds a e = ap (λ z. holds Eq z (pos 0)) e
 other_fails : (a : ℤ) → (a ≡ pos 0 → ⊥) → holds Eq a (pos 0) ≡ false
 other_fails a n = elim (cases_Bool (holds Eq a (pos 0))) [ inr e ↦ e | inl e ↦ absurd (n (grind (arith, ints))) ]
 
-module _ {I : Type 0} {l : LatticeOf I} {n : IntegersOf I} {stands : I → ℤ → Type 0} (q : BoundLaws l n stands) (c : SoundLaws l n stands) (flow : Flow) (kind : IntType) (char : class_of kind ≡ Char) (z : ℤ) (labels : Labels) (x : Value I) (st : stands x.num z) where
+module _ {I : Type 0} {l : LatticeOf I} {n : IntegersOf I} {gamma : I → ℤ → Type 0} (q : BoundLaws l n gamma) (c : SoundLaws l n gamma) (flow : Flow) (kind : IntType) (char : class_of kind ≡ Char) (z : ℤ) (labels : Labels) (x : Value I) (st : gamma x.num z) where
   abbrev stored_byte : Labelled
   stored_byte = record { number = bits_in 1 z % 256; labels = labels }
 
-  num_stands : stands (cell_of n flow.model (of.Int kind) x kind.signed).num (number_of kind.signed (stored_byte ∷ []))
+  num_stands : gamma (cell_of n flow.model (of.Int kind) x kind.signed).num (number_of kind.signed (stored_byte ∷ []))
   num_stands = byte_number c flow.model kind char z labels x st kind.signed (stored_byte ∷ []) (sym (ap (class_bytes flow.model) char)) (λ y e. let f : stored_byte ≡ y = cc in sym (ap number_in f))
 
   pub may_be_zero : bits_in 1 z % 256 ≡ 0 → can_hold (n.compare Eq (cell_of n flow.model (of.Int kind) x kind.signed).num (n.one (pos 0))) ≡ true
@@ -178,8 +178,8 @@ module _ (flow : Flow) (shaped : AreShaped flow.bases.items) (padding : SeesPadd
 
 -- ---- the row
 
-module _ {I : Type 0} {l : LatticeOf I} {n : IntegersOf I} {stands : I → ℤ → Type 0} (o : OrderLaws l) (q : BoundLaws l n stands) (c : SoundLaws l n stands) (r : RangeLaws l n) (flow : Flow) (shaped : AreShaped flow.bases.items) (texts : (b : ℕ) (base : BaseInfo) → slice_get flow.bases.items b ≡ Some base → HasTexts flow.model base) (padding : SeesPadding flow.model flow.bases.items) (behind : ℕ) (laid : AreLaid flow.bases.items behind) (temporaries : behind ≤ flow.width - flow.temps) (naming : Naming) (row : List (Cell I)) (long : behind ≤ length row) (state : MachineState) (s : StandsFor l n stands flow naming row state) where
-  module _ {new : Memory} {i offset : ℕ} (kind : IntType) (char : class_of kind ≡ Char) (z : ℤ) (labels : Labels) (x : Value I) (near : IsNearValue l n x) (st : stands x.num z) (labelled : labels_leq (as_set labels) x.labels ≡ true) (u : IsByteStore state.memory new i offset (byte_of z labels))
+module _ {I : Type 0} {l : LatticeOf I} {n : IntegersOf I} {gamma : I → ℤ → Type 0} (o : OrderLaws l) (q : BoundLaws l n gamma) (c : SoundLaws l n gamma) (r : RangeLaws l n) (flow : Flow) (shaped : AreShaped flow.bases.items) (texts : (b : ℕ) (base : BaseInfo) → slice_get flow.bases.items b ≡ Some base → HasTexts flow.model base) (padding : SeesPadding flow.model flow.bases.items) (behind : ℕ) (laid : AreLaid flow.bases.items behind) (temporaries : behind ≤ flow.width - flow.temps) (naming : Naming) (row : List (Cell I)) (long : behind ≤ length row) (state : MachineState) (s : InGamma l n gamma flow naming row state) where
+  module _ {new : Memory} {i offset : ℕ} (kind : IntType) (char : class_of kind ≡ Char) (z : ℤ) (labels : Labels) (x : Value I) (near : IsNearValue l n x) (st : gamma x.num z) (labelled : labels_leq (as_set labels) x.labels ≡ true) (u : IsByteStore state.memory new i offset (byte_of z labels))
       (b : ℕ) (base : BaseInfo) (at : slice_get flow.bases.items b ≡ Some base) (named : naming i ≡ Some b) (alive : life_at state.memory i ≡ live) (window : Window) (from : window.lo ≤ offset) (to : offset ≤ window.hi) (set_of : Bases) (has : has_base set_of b ≡ true) (alone : Bool) (only : alone ≡ true → IsAlone flow.bases.items set_of b) where
     abbrev write : Write I
     write = record { access = record { class = class_of kind; signed = kind.signed; window = window }; value = stored_value (class_of kind) x; alone = alone }
@@ -222,18 +222,18 @@ module _ {I : Type 0} {l : LatticeOf I} {n : IntegersOf I} {stands : I → ℤ �
     offset_small = let a = s.sane.small i in let e = u.fits in omega arith
 
     -- what is followed of an array that the base's write meets
-    met_zero : (d j : ℕ) (other : BaseInfo) (zeros : ZeroPart) (f : FirstZero I) (target : ZeroTarget) → slice_get flow.bases.items d ≡ Some other → has_base set_of d ≡ true → IsLiveOf naming state.memory d j → IsNear (n.bounds f.at) → IsTarget zeros window target → StandsZero stands naming state.memory f (array_bytes zeros (bytes_at state.memory j))
-        → StandsZero stands naming new (put_at l n f target (zero_of_write l n flow.model write) alone) (array_bytes zeros (bytes_at new j))
+    met_zero : (d j : ℕ) (other : BaseInfo) (zeros : ZeroPart) (f : FirstZero I) (target : ZeroTarget) → slice_get flow.bases.items d ≡ Some other → has_base set_of d ≡ true → IsLiveOf naming state.memory d j → IsNear (n.bounds f.at) → IsTarget zeros window target → InGammaZero gamma naming state.memory f (array_bytes zeros (bytes_at state.memory j))
+        → InGammaZero gamma naming new (put_at l n f target (zero_of_write l n flow.model write) alone) (array_bytes zeros (bytes_at new j))
     met_zero d j other zeros f target e h g nf t a = elim (cases_eq j i) [
       | inr ne ↦ outside (λ k. ne k)
       | inl k ↦ elim (in_or_not zeros.size zeros.offset offset) [
         | inr out ↦ outside_in k out
         | inl inside ↦ (let w = local_has zeros window target offset t inside from to offset_small in
             let hi = local_small zeros window target t in
-            subst (λ m. StandsZero stands naming new (put_at l n f target (zero_of_write l n flow.model write) alone) (array_bytes zeros (bytes_at new m))) (sym k)
-            (subst (StandsZero stands naming new (put_at l n f target (zero_of_write l n flow.model write) alone)) (sym (array_set u zeros inside))
+            subst (λ m. InGammaZero gamma naming new (put_at l n f target (zero_of_write l n flow.model write) alone) (array_bytes zeros (bytes_at new m))) (sym k)
+            (subst (InGammaZero gamma naming new (put_at l n f target (zero_of_write l n flow.model write) alone)) (sym (array_set u zeros inside))
             (put_inside o q f target (zero_of_write l n flow.model write) alone (array_bytes zeros (bytes_at state.memory i)) (offset - zeros.offset) (bits_in 1 z % 256) labels u.was nf
-            (subst (λ m. StandsZero stands naming state.memory f (array_bytes zeros (bytes_at state.memory m))) k a) w.0 w.1 (omega arith) (place_inside u zeros inside) (array_small zeros i)
+            (subst (λ m. InGammaZero gamma naming state.memory f (array_bytes zeros (bytes_at state.memory m))) k a) w.0 w.1 (omega arith) (place_inside u zeros inside) (array_small zeros i)
             (may_be_zero q c flow kind char z labels x st) (may_be_other q c flow kind char z labels x st))))
       ]
     ]
@@ -243,23 +243,23 @@ module _ {I : Type 0} {l : LatticeOf I} {n : IntegersOf I} {stands : I → ℤ �
         not_sure true false n = refl
         not_sure false w n = refl
 
-        stays : (j ≡ i → IsIn zeros.size zeros.offset offset → ⊥) → (alone && target.whole) ≡ false → StandsZero stands naming new (put_at l n f target (zero_of_write l n flow.model write) alone) (array_bytes zeros (bytes_at new j))
-        stays ne k = subst (StandsZero stands naming new (put_at l n f target (zero_of_write l n flow.model write) alone)) (sym (array_kept u zeros j ne)) (put_outside o q f target (zero_of_write l n flow.model write) alone _ k a)
+        stays : (j ≡ i → IsIn zeros.size zeros.offset offset → ⊥) → (alone && target.whole) ≡ false → InGammaZero gamma naming new (put_at l n f target (zero_of_write l n flow.model write) alone) (array_bytes zeros (bytes_at new j))
+        stays ne k = subst (InGammaZero gamma naming new (put_at l n f target (zero_of_write l n flow.model write) alone)) (sym (array_kept u zeros j ne)) (put_outside o q f target (zero_of_write l n flow.model write) alone _ k a)
 
-        outside : (j ≡ i → ⊥) → StandsZero stands naming new (put_at l n f target (zero_of_write l n flow.model write) alone) (array_bytes zeros (bytes_at new j))
+        outside : (j ≡ i → ⊥) → InGammaZero gamma naming new (put_at l n f target (zero_of_write l n flow.model write) alone) (array_bytes zeros (bytes_at new j))
         outside ne = stays (λ k w. ne k) (not_sure alone target.whole (λ p w. ne (same_instance d other e h p j g)))
 
-        outside_in : j ≡ i → (IsIn zeros.size zeros.offset offset → ⊥) → StandsZero stands naming new (put_at l n f target (zero_of_write l n flow.model write) alone) (array_bytes zeros (bytes_at new j))
+        outside_in : j ≡ i → (IsIn zeros.size zeros.offset offset → ⊥) → InGammaZero gamma naming new (put_at l n f target (zero_of_write l n flow.model write) alone) (array_bytes zeros (bytes_at new j))
         outside_in k out = stays (λ w y. out y) (not_sure alone target.whole (λ p w. out (whole_in zeros window target offset t w from to)))
 
-    near_zero : (f : FirstZero I) (bytes : List Byte) → length bytes ≤ 2 ^ 64 - 1 → StandsZero stands naming new f bytes → StandsZero stands naming new (record { at = near_number l n f.at }) bytes
+    near_zero : (f : FirstZero I) (bytes : List Byte) → length bytes ≤ 2 ^ 64 - 1 → InGammaZero gamma naming new f bytes → InGammaZero gamma naming new (record { at = near_number l n f.at }) bytes
     near_zero f bytes small h =
         let a = offset_near (first_zero bytes) (λ k e. let w = zero_small bytes k e in omega arith) in
         near_stands o q f.at (zero_offset (first_zero bytes)) (omega (arith, ints)) (omega (arith, ints)) h
 
-    zero_target_stands : (d j y : ℕ) (other : BaseInfo) (zeros : ZeroPart) (target : Option ZeroTarget) → zero_target zeros window ≡ target → slice_get flow.bases.items d ≡ Some other → slice_get other.shape.zeros y ≡ Some zeros → has_base set_of d ≡ true → IsLiveOf naming state.memory d j → StandsZero stands naming new (zero_put l n target (zero_of_write l n flow.model write) alone (zero_at l n row (zero_position other y))) (array_bytes zeros (bytes_at new j))
+    zero_target_stands : (d j y : ℕ) (other : BaseInfo) (zeros : ZeroPart) (target : Option ZeroTarget) → zero_target zeros window ≡ target → slice_get flow.bases.items d ≡ Some other → slice_get other.shape.zeros y ≡ Some zeros → has_base set_of d ≡ true → IsLiveOf naming state.memory d j → InGammaZero gamma naming new (zero_put l n target (zero_of_write l n flow.model write) alone (zero_at l n row (zero_position other y))) (array_bytes zeros (bytes_at new j))
     zero_target_stands d j y other zeros None t e f h g =
-        subst (StandsZero stands naming new (zero_at l n row (zero_position other y))) (sym (array_kept u zeros j (λ k inside. target_there zeros window offset inside from to offset_small t))) (s.zeros d y j other zeros e f g)
+        subst (InGammaZero gamma naming new (zero_at l n row (zero_position other y))) (sym (array_kept u zeros j (λ k inside. target_there zeros window offset inside from to offset_small t))) (s.zeros d y j other zeros e f g)
     zero_target_stands d j y other zeros (Some target) t e f h g =
         let a = s.zeros d y j other zeros e f g in
         let m = met_zero d j other zeros (zero_at l n row (zero_position other y)) target e h g (zero_near q row (zero_position other y)) (target_is zeros window target t) a in
@@ -272,16 +272,16 @@ module _ {I : Type 0} {l : LatticeOf I} {n : IntegersOf I} {stands : I → ℤ �
             by_size None bytes start h = let e = length-drop start bytes in omega arith
             by_size (Some size) bytes start h = let e = length-drop start bytes in let f = length-take size (drop start bytes) in omega arith
 
-    zero_stands : (d y j : ℕ) (other : BaseInfo) (zeros : ZeroPart) → slice_get flow.bases.items d ≡ Some other → slice_get other.shape.zeros y ≡ Some zeros → IsLiveOf naming new d j → StandsZero stands naming new (zero_at l n after (zero_position other y)) (array_bytes zeros (bytes_at new j))
+    zero_stands : (d y j : ℕ) (other : BaseInfo) (zeros : ZeroPart) → slice_get flow.bases.items d ≡ Some other → slice_get other.shape.zeros y ≡ Some zeros → IsLiveOf naming new d j → InGammaZero gamma naming new (zero_at l n after (zero_position other y)) (array_bytes zeros (bytes_at new j))
     zero_stands d y j other zeros e f h =
         let g = live_moves u.refill.alike naming d j h in
         let v : FirstZero I = zero_at l n row (zero_position other y) in
         let is = zero_value l n flow.model flow.bases.items behind laid set_of write (class_small (class_of kind)) is_char_write d other y zeros e f row (zero_in_row d y other zeros e f) in
         elim (cases_Bool (has_base set_of d)) [
-          | inl hit ↦ subst (λ w. StandsZero stands naming new w (array_bytes zeros (bytes_at new j))) (sym (is ∙ cond_yes (has_base set_of d) _ v hit)) (zero_target_stands d j y other zeros (zero_target zeros window) refl e f hit g)
+          | inl hit ↦ subst (λ w. InGammaZero gamma naming new w (array_bytes zeros (bytes_at new j))) (sym (is ∙ cond_yes (has_base set_of d) _ v hit)) (zero_target_stands d j y other zeros (zero_target zeros window) refl e f hit g)
           | inr miss ↦ (let ne : j ≡ i → ⊥ = λ k. true≢false (sym has ∙ (ap (has_base set_of) (same_Some b d (sym named ∙ (ap naming (sym k) ∙ g.named))) ∙ miss)) in
-              subst (λ w. StandsZero stands naming new w (array_bytes zeros (bytes_at new j))) (sym (is ∙ cond_no (has_base set_of d) _ v miss))
-              (subst (StandsZero stands naming new v) (sym (array_kept u zeros j (λ k w. ne k))) (s.zeros d y j other zeros e f g)))
+              subst (λ w. InGammaZero gamma naming new w (array_bytes zeros (bytes_at new j))) (sym (is ∙ cond_no (has_base set_of d) _ v miss))
+              (subst (InGammaZero gamma naming new v) (sym (array_kept u zeros j (λ k w. ne k))) (s.zeros d y j other zeros e f g)))
         ]
       where
         cond_yes : (p : Bool) (x y : FirstZero I) → p ≡ true → cond p x y ≡ x
@@ -292,26 +292,26 @@ module _ {I : Type 0} {l : LatticeOf I} {n : IntegersOf I} {stands : I → ℤ �
         cond_no true x y e = cc
         cond_no false x y e = refl
 
-    state_by : (y : AllocState I) (life : Life) (size : ℕ) → StandsState stands naming state.memory y life size → StandsState stands naming new y life size
+    state_by : (y : AllocState I) (life : Life) (size : ℕ) → InGammaState gamma naming state.memory y life size → InGammaState gamma naming new y life size
     state_by y live size h = h
     state_by y ended size h = h
     state_by y freed size h = h
 
-    state_stands : (d j : ℕ) (other : BaseInfo) → slice_get flow.bases.items d ≡ Some other → other.shape.heap ≡ true → naming j ≡ Some d → StandsState stands naming new (state_at l n after (state_position other)) (life_at new j) (length (bytes_at new j))
+    state_stands : (d j : ℕ) (other : BaseInfo) → slice_get flow.bases.items d ≡ Some other → other.shape.heap ≡ true → naming j ≡ Some d → InGammaState gamma naming new (state_at l n after (state_position other)) (life_at new j) (length (bytes_at new j))
     state_stands d j other e heap h =
         let k = same_state l n row after (state_position other) (state_after l n flow.model flow.bases.items behind laid set_of write (class_small (class_of kind)) is_char_write d other e heap row) in
-        subst (λ y. StandsState stands naming new y (life_at new j) (length (bytes_at new j))) (sym k)
-        (subst (λ y. StandsState stands naming new (state_at l n row (state_position other)) (life_at new j) y) (sym (u.refill.alike.lengths j))
-        (subst (λ y. StandsState stands naming new (state_at l n row (state_position other)) y (length (bytes_at state.memory j))) (sym (u.refill.alike.lives j)) (state_by (state_at l n row (state_position other)) (life_at state.memory j) (length (bytes_at state.memory j)) (s.states d j other e heap h))))
+        subst (λ y. InGammaState gamma naming new y (life_at new j) (length (bytes_at new j))) (sym k)
+        (subst (λ y. InGammaState gamma naming new (state_at l n row (state_position other)) (life_at new j) y) (sym (u.refill.alike.lengths j))
+        (subst (λ y. InGammaState gamma naming new (state_at l n row (state_position other)) y (length (bytes_at state.memory j))) (sym (u.refill.alike.lives j)) (state_by (state_at l n row (state_position other)) (life_at state.memory j) (length (bytes_at state.memory j)) (s.states d j other e heap h))))
 
-    temp_stands : (t : ℕ) (scalar : Scalar) → state.temps t ≡ Some scalar → StandsScalar stands naming new (temp_value l n flow after t) scalar
+    temp_stands : (t : ℕ) (scalar : Scalar) → state.temps t ≡ Some scalar → InGammaScalar gamma naming new (temp_value l n flow after t) scalar
     temp_stands t scalar e =
         let small = laid.small in
         let p : behind ≤ temp_position flow t = omega arith in
         let k = same_value l n row after (temp_position flow t) ((behind_keeps l n flow.model flow.bases.items behind laid set_of write (class_small (class_of kind)) is_char_write (temp_position flow t) p).keeps row) in
-        subst (λ y. StandsScalar stands naming new y scalar) (sym k) (scalar_moves u.refill.alike stands naming (temp_value l n flow row t) scalar (s.temps t scalar e))
+        subst (λ y. InGammaScalar gamma naming new y scalar) (sym k) (scalar_moves u.refill.alike gamma naming (temp_value l n flow row t) scalar (s.temps t scalar e))
 
-    pub all_stand : StandsFor l n stands flow naming after (record { memory = new; temps = state.temps; entered = state.entered })
+    pub all_stand : InGamma l n gamma flow naming after (record { memory = new; temps = state.temps; entered = state.entered })
     all_stand = record {
       sane = sane_new;
       held = record {
@@ -328,10 +328,10 @@ module _ {I : Type 0} {l : LatticeOf I} {n : IntegersOf I} {stands : I → ℤ �
 
   -- ---- the machine's store
 
-  number_stood : (x : Value I) (v : Scalar) (z : ℤ) (labels : Labels) → v ≡ integer z labels → StandsScalar stands naming state.memory x v → stands x.num z × (labels_leq (as_set labels) x.labels ≡ true)
-  number_stood x v z labels e h = subst (StandsScalar stands naming state.memory x) e h
+  number_stood : (x : Value I) (v : Scalar) (z : ℤ) (labels : Labels) → v ≡ integer z labels → InGammaScalar gamma naming state.memory x v → gamma x.num z × (labels_leq (as_set labels) x.labels ≡ true)
+  number_stood x v z labels e h = subst (InGammaScalar gamma naming state.memory x) e h
 
-  pub char_store_stands : (kind : IntType) (p : Pointers I) (at : MachinePointer) (x : Value I) (v t : Scalar) (w u : World) → w.memory ≡ state.memory → same_class (class_of kind) Char ≡ true → StandsPointer stands naming state.memory p at → IsPointerIn state.memory at → StandsScalar stands naming state.memory x v → IsNearValue l n x → store flow.model (of.Int kind) (pointer at) v w ≡ goes t u → Gives (λ after. StandsFor l n stands flow naming after (record { memory = u.memory; temps = state.temps; entered = state.entered })) (abstract_store l n flow.model flow.bases.items p (class_of kind) kind.signed x row)
+  pub char_store_stands : (kind : IntType) (p : Pointers I) (at : MachinePointer) (x : Value I) (v t : Scalar) (w u : World) → w.memory ≡ state.memory → same_class (class_of kind) Char ≡ true → InGammaPointer gamma naming state.memory p at → IsPointerIn state.memory at → InGammaScalar gamma naming state.memory x v → IsNearValue l n x → store flow.model (of.Int kind) (pointer at) v w ≡ goes t u → Gives (λ after. InGamma l n gamma flow naming after (record { memory = u.memory; temps = state.temps; entered = state.entered })) (abstract_store l n flow.model flow.bases.items p (class_of kind) kind.signed x row)
   unfolding abstract_store store_access can_store
   char_store_stands kind p at x v t w u same char st inside stv near h =
       let class : Class = class_of kind in
@@ -346,7 +346,7 @@ module _ {I : Type 0} {l : LatticeOf I} {n : IntegersOf I} {stands : I → ℤ �
       let alive : life_at state.memory i ≡ live = subst (λ z. life_at z i ≡ live) same g.alive in
       let sto : IsByteStore state.memory u.memory i offset (byte_of sb.z sb.labels) = subst (λ z. IsByteStore z u.memory i offset (byte_of sb.z sb.labels)) same g.store in
       let num = number_stood x v sb.z sb.labels sb.is stv in
-      let y = into_live o q c r flow shaped texts behind laid temporaries naming row long state s p i offset g.lo g.hi alive (subst (StandsPointer stands naming state.memory p) g.pointer st) in
+      let y = into_live o q c r flow shaped texts behind laid temporaries naming row long state s p i offset g.lo g.hi alive (subst (InGammaPointer gamma naming state.memory p) g.pointer st) in
       let ins : IsWithin state.memory i offset g.lo g.hi = subst (IsPointerIn state.memory) g.pointer inside in
       let d = ins.within in
       let m = s.sane.small i in
@@ -370,6 +370,6 @@ module _ {I : Type 0} {l : LatticeOf I} {n : IntegersOf I} {stands : I → ℤ �
       let row_stands = all_stand kind is_char sb.z sb.labels x near num.0 num.1 sto y.base base.0 base.1 y.named alive z.window z.from z.to set_of has alone (alone_is o q c r flow shaped texts behind laid temporaries naming row long state s set_of y.base has) in
       rw z.is (rw (some, place) (record { value = _; is = refl; good = row_stands }))
 
-  pub any_char_store : (kind : declared.Scalar) (p : Pointers I) (at : MachinePointer) (x : Value I) (v t : Scalar) (w u : World) → w.memory ≡ state.memory → same_class (class_in kind) Char ≡ true → StandsPointer stands naming state.memory p at → IsPointerIn state.memory at → StandsScalar stands naming state.memory x v → IsNearValue l n x → store flow.model kind (pointer at) v w ≡ goes t u → Gives (λ after. StandsFor l n stands flow naming after (record { memory = u.memory; temps = state.temps; entered = state.entered })) (abstract_store l n flow.model flow.bases.items p (class_in kind) (signed_in kind) x row)
+  pub any_char_store : (kind : declared.Scalar) (p : Pointers I) (at : MachinePointer) (x : Value I) (v t : Scalar) (w u : World) → w.memory ≡ state.memory → same_class (class_in kind) Char ≡ true → InGammaPointer gamma naming state.memory p at → IsPointerIn state.memory at → InGammaScalar gamma naming state.memory x v → IsNearValue l n x → store flow.model kind (pointer at) v w ≡ goes t u → Gives (λ after. InGamma l n gamma flow naming after (record { memory = u.memory; temps = state.temps; entered = state.entered })) (abstract_store l n flow.model flow.bases.items p (class_in kind) (signed_in kind) x row)
   any_char_store (of.Int kind) p at x v t w u same char st inside stv near h = char_store_stands kind p at x v t w u same char st inside stv near h
   any_char_store of.Pointer p at x v t w u same char st inside stv near h = cc

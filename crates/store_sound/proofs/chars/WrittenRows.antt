@@ -36,7 +36,7 @@ use Rattle.store_sound.specs.Concretization.Places.{IsPlaceOf, IsLeafPlace, Owne
 use Rattle.store_sound.specs.Concretization.SeenLabels.{as_set}
 use Rattle.store_sound.specs.Concretization.SoundMemory.{IsMemoryOf}
 use Rattle.store_sound.specs.Concretization.ValueMeaning.{Naming}
-use Rattle.store_sound.specs.Concretization.RowMeaning.{IsLiveOf, StandsCell, StandsLeaf, StandsClass, MachineState, StandsFor}
+use Rattle.store_sound.specs.Concretization.RowMeaning.{IsLiveOf, InGammaCell, InGammaLeaf, InGammaClass, MachineState, InGamma}
 use Rattle.store_sound.specs.Operations.Shapes.{AreShaped, AreLaid, at_offset}
 use Rattle.store_sound.proofs.operations.Classes.{is_same_class, same_class_is, class_small, class_number_back, class_above, integer_class}
 use Rattle.store_sound.proofs.operations.Selected.{place_selected, is_stray, counted_place, single_in}
@@ -64,8 +64,8 @@ other_number : (cn : ℕ) → cn < 6 → (cn ≡ 0 → ⊥) → (j : ℕ) × (j 
 other_number zero h n = absurd (n refl)
 other_number (suc j) h n = (j, omega arith, omega arith)
 
-module _ {I : Type 0} {l : LatticeOf I} {n : IntegersOf I} {stands : I → ℤ → Type 0} (o : OrderLaws l) (q : BoundLaws l n stands) (c : SoundLaws l n stands) (r : RangeLaws l n) (flow : Flow) (shaped : AreShaped flow.bases.items) (behind : ℕ) (laid : AreLaid flow.bases.items behind) (naming : Naming) (row : List (Cell I)) (long : behind ≤ length row) (state : MachineState) (s : StandsFor l n stands flow naming row state)
-    {new : Memory} {i offset : ℕ} (kind : IntType) (char : class_of kind ≡ Char) (z : ℤ) (labels : Labels) (x : Value I) (near : IsNearValue l n x) (st : stands x.num z) (labelled : labels_leq (as_set labels) x.labels ≡ true) (u : IsByteStore state.memory new i offset (byte_of z labels)) (sane : IsMemoryOf flow.model flow.bases.items naming new)
+module _ {I : Type 0} {l : LatticeOf I} {n : IntegersOf I} {gamma : I → ℤ → Type 0} (o : OrderLaws l) (q : BoundLaws l n gamma) (c : SoundLaws l n gamma) (r : RangeLaws l n) (flow : Flow) (shaped : AreShaped flow.bases.items) (behind : ℕ) (laid : AreLaid flow.bases.items behind) (naming : Naming) (row : List (Cell I)) (long : behind ≤ length row) (state : MachineState) (s : InGamma l n gamma flow naming row state)
+    {new : Memory} {i offset : ℕ} (kind : IntType) (char : class_of kind ≡ Char) (z : ℤ) (labels : Labels) (x : Value I) (near : IsNearValue l n x) (st : gamma x.num z) (labelled : labels_leq (as_set labels) x.labels ≡ true) (u : IsByteStore state.memory new i offset (byte_of z labels)) (sane : IsMemoryOf flow.model flow.bases.items naming new)
     (b : ℕ) (base : BaseInfo) (at : slice_get flow.bases.items b ≡ Some base) (named : naming i ≡ Some b) (alive : life_at state.memory i ≡ live) (window : Window) (from : window.lo ≤ offset) (to : offset ≤ window.hi) (set : Bases) (has : has_base set b ≡ true) (alone : Bool) (only : alone ≡ true → IsAlone flow.bases.items set b) where
   abbrev the_write : Write I
   the_write = record { access = record { class = class_of kind; signed = kind.signed; window = window }; value = stored_value (class_of kind) x; alone = alone }
@@ -113,7 +113,7 @@ module _ {I : Type 0} {l : LatticeOf I} {n : IntegersOf I} {stands : I → ℤ �
   -- ---- leaves
 
   abbrev LeafStands : ℕ → Leaf → Value I → Type 0
-  LeafStands d leaf v = StandsLeaf stands flow naming new d leaf v
+  LeafStands d leaf v = InGammaLeaf gamma flow naming new d leaf v
 
   -- what stands in a leaf that the store does not reach
   leaf_apart : (d j : ℕ) (other : BaseInfo) (leaf : Leaf) → slice_get flow.bases.items d ≡ Some other → slice_get other.shape.cells j ≡ Some leaf → (IsLiveOf naming state.memory d i → (a : ℕ) → IsPlaceOf leaf a → a ≤ offset → offset < a + class_bytes flow.model leaf.class → ⊥) → LeafStands d leaf (value_at l n row (leaf_position other j))
@@ -141,9 +141,9 @@ module _ {I : Type 0} {l : LatticeOf I} {n : IntegersOf I} {stands : I → ℤ �
         | inr miss ↦ subst (LeafStands d leaf) (sym (cond_apart (is_selected leaf (class_of kind) window) _ (value_at l n row (leaf_position other j)) miss))
             (leaf_apart d j other leaf e f (λ h a p g w. true≢false (sym (and_from _ _ (is_same_class leaf.class (class_of kind) k) (place_selected leaf window a p ((shaped.each d other e).strides j leaf f) (omega arith) (omega arith))) ∙ miss)))
         | inl hit ↦ subst (LeafStands d leaf) (sym (cond_hit (is_selected leaf (class_of kind) window) _ (value_at l n row (leaf_position other j)) hit))
-            (subst (λ w. StandsCell stands flow naming new d w leaf.signed (λ size a. IsPlaceOf leaf a) (OwnedByLeaf flow.model leaf) (written l n flow.model (value_at l n row (leaf_position other j)) (cell_value n flow.model the_write leaf.signed) (is_strong leaf the_write))) (sym k)
+            (subst (λ w. InGammaCell gamma flow naming new d w leaf.signed (λ size a. IsPlaceOf leaf a) (OwnedByLeaf flow.model leaf) (written l n flow.model (value_at l n row (leaf_position other j)) (cell_value n flow.model the_write leaf.signed) (is_strong leaf the_write))) (sym k)
             (cell_char o q c flow naming z labels u kind char x st labelled r near row d (leaf_position other j) leaf.signed (is_strong leaf the_write) (λ size a. IsPlaceOf leaf a) (OwnedByLeaf flow.model leaf)
-            (subst (λ w. StandsCell stands flow naming state.memory d w leaf.signed (λ size a. IsPlaceOf leaf a) (OwnedByLeaf flow.model leaf) (value_at l n row (leaf_position other j))) k (s.leaves d j other leaf e f))
+            (subst (λ w. InGammaCell gamma flow naming state.memory d w leaf.signed (λ size a. IsPlaceOf leaf a) (OwnedByLeaf flow.model leaf) (value_at l n row (leaf_position other j))) k (s.leaves d j other leaf e f))
             (λ h j2 a al pl. let t = strong_at leaf hit h in let w = only_place leaf a t.0 pl in let y = t.1 in (strong_instance d other e hasd (and_parts alone (window_is_one window && (leaf.count == 1)) h).0 j2 al, omega arith))
             (λ h j2 a k2 al ow. let t = strong_at leaf hit h in let w = only_place leaf ow.start t.0 ow.place in let y = t.1 in let g = ow.there in let sm = ow.small in (strong_instance d other e hasd (and_parts alone (window_is_one window && (leaf.count == 1)) h).0 j2 al, omega arith))))
       ]
@@ -186,7 +186,7 @@ module _ {I : Type 0} {l : LatticeOf I} {n : IntegersOf I} {stands : I → ℤ �
       unlike : (leaf : Leaf) → same_class leaf.class Char ≡ false → is_selected leaf (class_of kind) window ≡ false
       unlike leaf e = and_apart (same_class leaf.class (class_of kind)) (has_place_in leaf window) (ap (same_class leaf.class) char ∙ e)
 
-  pub leaf_stands : (d j : ℕ) (other : BaseInfo) (leaf : Leaf) → slice_get flow.bases.items d ≡ Some other → slice_get other.shape.cells j ≡ Some leaf → StandsLeaf stands flow naming new d leaf (value_at l n (store_all l n flow.model flow.bases.items set the_write row) (leaf_position other j))
+  pub leaf_stands : (d j : ℕ) (other : BaseInfo) (leaf : Leaf) → slice_get flow.bases.items d ≡ Some other → slice_get other.shape.cells j ≡ Some leaf → InGammaLeaf gamma flow naming new d leaf (value_at l n (store_all l n flow.model flow.bases.items set the_write row) (leaf_position other j))
   leaf_stands d j other leaf e f =
       let v : Value I = value_at l n row (leaf_position other j) in
       let is = leaf_value l n flow.model flow.bases.items behind laid set the_write (class_small (class_of kind)) is_char d other j leaf e f row (in_row d other j leaf e f) in
@@ -198,20 +198,20 @@ module _ {I : Type 0} {l : LatticeOf I} {n : IntegersOf I} {stands : I → ℤ �
   -- ---- class cells
 
   class_apart : (d cn : ℕ) (other : BaseInfo) → slice_get flow.bases.items d ≡ Some other → other.shape.heap ≡ true → cn < 6 → (IsLiveOf naming state.memory d i → (a : ℕ) → (IsLeafPlace other.shape.cells (class_at cn) a → ⊥) → a ≤ offset → offset < a + class_bytes flow.model (class_at cn) → ⊥) → (IsLiveOf naming state.memory d i → (k : ℕ) → OwnedByClass flow.model other.shape.cells (class_at cn) offset k → ⊥)
-      → StandsClass stands flow naming new d other (class_at cn) (value_at l n row (class_position other cn))
+      → InGammaClass gamma flow naming new d other (class_at cn) (value_at l n row (class_position other cn))
   class_apart d cn other e heap h miss none = cell_apart o q c flow naming z labels u d (class_at cn) true (IsClassPlace flow.model other.shape.cells (class_at cn)) (OwnedByClass flow.model other.shape.cells (class_at cn)) (value_at l n row (class_position other cn)) (s.classes d cn other e heap h)
       (λ g a p f k. miss g a p.no_leaf f k) none
 
   -- the class cell of another class is written where the base is reached
-  other_class : (d cn j : ℕ) (other : BaseInfo) → slice_get flow.bases.items d ≡ Some other → other.shape.heap ≡ true → cn ≡ j + 1 → j < 5 → StandsClass stands flow naming new d other (class_at cn) (value_at l n after (class_position other cn))
-  other_class d cn j other e heap k jh = subst (λ w. StandsClass stands flow naming new d other (class_at w) (value_at l n after (class_position other w))) (sym k)
+  other_class : (d cn j : ℕ) (other : BaseInfo) → slice_get flow.bases.items d ≡ Some other → other.shape.heap ≡ true → cn ≡ j + 1 → j < 5 → InGammaClass gamma flow naming new d other (class_at cn) (value_at l n after (class_position other cn))
+  other_class d cn j other e heap k jh = subst (λ w. InGammaClass gamma flow naming new d other (class_at w) (value_at l n after (class_position other w))) (sym k)
       (let p : ℕ = class_position other (j + 1) in
       let v : Value I = value_at l n row p in
       let is = other_value l n flow.model flow.bases.items behind laid set the_write (class_small (class_of kind)) is_char d other e heap j jh row (class_in_row d other e heap (j + 1) (omega arith)) in
       elim (cases_Bool (has_base set d)) [
-        | inl hit ↦ subst (StandsClass stands flow naming new d other (class_at (j + 1))) (sym (is ∙ cond_hit (has_base set d) _ v hit))
+        | inl hit ↦ subst (InGammaClass gamma flow naming new d other (class_at (j + 1))) (sym (is ∙ cond_hit (has_base set d) _ v hit))
             (cell_other o q c flow naming z labels u sane (labels_of (class_of kind) x.labels) stored_labels (class_at (j + 1)) true d p row (IsClassPlace flow.model other.shape.cells (class_at (j + 1))) (OwnedByClass flow.model other.shape.cells (class_at (j + 1))) (s.classes d (j + 1) other e heap (omega arith)))
-        | inr miss ↦ subst (StandsClass stands flow naming new d other (class_at (j + 1))) (sym (is ∙ cond_apart (has_base set d) _ v miss))
+        | inr miss ↦ subst (InGammaClass gamma flow naming new d other (class_at (j + 1))) (sym (is ∙ cond_apart (has_base set d) _ v miss))
             (class_apart d (j + 1) other e heap (omega arith) (λ h a w f g. true≢false (sym (has_here d h) ∙ miss)) (λ h w f. true≢false (sym (has_here d h) ∙ miss)))
       ])
 
@@ -224,16 +224,16 @@ module _ {I : Type 0} {l : LatticeOf I} {n : IntegersOf I} {stands : I → ℤ �
       true≢false (sym (and_from _ _ heap t) ∙ miss)
 
   abbrev CharStands : ℕ → BaseInfo → Value I → Type 0
-  CharStands d other v = StandsClass stands flow naming new d other (class_of kind) v
+  CharStands d other v = InGammaClass gamma flow naming new d other (class_of kind) v
 
-  char_apart : (d : ℕ) (other : BaseInfo) → slice_get flow.bases.items d ≡ Some other → other.shape.heap ≡ true → StandsClass stands flow naming state.memory d other (class_of kind) (value_at l n row (class_position other (class_number (class_of kind)))) → (IsLiveOf naming state.memory d i → (IsLeafPlace other.shape.cells (class_of kind) offset → ⊥) → ⊥) → CharStands d other (value_at l n row (class_position other (class_number (class_of kind))))
+  char_apart : (d : ℕ) (other : BaseInfo) → slice_get flow.bases.items d ≡ Some other → other.shape.heap ≡ true → InGammaClass gamma flow naming state.memory d other (class_of kind) (value_at l n row (class_position other (class_number (class_of kind)))) → (IsLiveOf naming state.memory d i → (IsLeafPlace other.shape.cells (class_of kind) offset → ⊥) → ⊥) → CharStands d other (value_at l n row (class_position other (class_number (class_of kind))))
   char_apart d other e heap old miss =
       let one : class_bytes flow.model (class_of kind) ≡ 1 = ap (class_bytes flow.model) char in
       cell_apart o q c flow naming z labels u d (class_of kind) true (IsClassPlace flow.model other.shape.cells (class_of kind)) (OwnedByClass flow.model other.shape.cells (class_of kind)) (value_at l n row (class_position other (class_number (class_of kind)))) old
       (λ g a p f k. miss g (let w : a ≡ offset = omega arith in subst (λ y. IsLeafPlace other.shape.cells (class_of kind) y → ⊥) w p.no_leaf))
       (λ g k p. let sm = p.small in miss g (p.no_leaf offset (omega arith)))
 
-  char_class : (d : ℕ) (other : BaseInfo) → slice_get flow.bases.items d ≡ Some other → other.shape.heap ≡ true → StandsClass stands flow naming state.memory d other (class_of kind) (value_at l n row (class_position other (class_number (class_of kind)))) → CharStands d other (value_at l n after (class_position other (class_number (class_of kind))))
+  char_class : (d : ℕ) (other : BaseInfo) → slice_get flow.bases.items d ≡ Some other → other.shape.heap ≡ true → InGammaClass gamma flow naming state.memory d other (class_of kind) (value_at l n row (class_position other (class_number (class_of kind)))) → CharStands d other (value_at l n after (class_position other (class_number (class_of kind))))
   char_class d other e heap old =
       let p : ℕ = class_position other (class_number (class_of kind)) in
       let v : Value I = value_at l n row p in
@@ -247,13 +247,13 @@ module _ {I : Type 0} {l : LatticeOf I} {n : IntegersOf I} {stands : I → ℤ �
         ])
       ]
 
-  pub class_stands : (d cn : ℕ) (other : BaseInfo) → slice_get flow.bases.items d ≡ Some other → other.shape.heap ≡ true → cn < 6 → StandsClass stands flow naming new d other (class_at cn) (value_at l n (store_all l n flow.model flow.bases.items set the_write row) (class_position other cn))
+  pub class_stands : (d cn : ℕ) (other : BaseInfo) → slice_get flow.bases.items d ≡ Some other → other.shape.heap ≡ true → cn < 6 → InGammaClass gamma flow naming new d other (class_at cn) (value_at l n (store_all l n flow.model flow.bases.items set the_write row) (class_position other cn))
   class_stands d cn other e heap h = elim (cases_eq cn (class_number (class_of kind))) [
     | inl f ↦ (let k : class_at cn ≡ class_of kind = ap class_at f ∙ class_number_back (class_of kind) in
-        let a : StandsClass stands flow naming state.memory d other (class_of kind) (value_at l n row (class_position other (class_number (class_of kind)))) =
-        subst (λ y. StandsClass stands flow naming state.memory d other (class_of kind) (value_at l n row (class_position other y))) f (subst (λ y. StandsClass stands flow naming state.memory d other y (value_at l n row (class_position other cn))) k (s.classes d cn other e heap h)) in
-        subst (λ y. StandsClass stands flow naming new d other y (value_at l n after (class_position other cn))) (sym k)
-        (subst (λ y. StandsClass stands flow naming new d other (class_of kind) (value_at l n after (class_position other y))) (sym f) (char_class d other e heap a)))
+        let a : InGammaClass gamma flow naming state.memory d other (class_of kind) (value_at l n row (class_position other (class_number (class_of kind)))) =
+        subst (λ y. InGammaClass gamma flow naming state.memory d other (class_of kind) (value_at l n row (class_position other y))) f (subst (λ y. InGammaClass gamma flow naming state.memory d other y (value_at l n row (class_position other cn))) k (s.classes d cn other e heap h)) in
+        subst (λ y. InGammaClass gamma flow naming new d other y (value_at l n after (class_position other cn))) (sym k)
+        (subst (λ y. InGammaClass gamma flow naming new d other (class_of kind) (value_at l n after (class_position other y))) (sym f) (char_class d other e heap a)))
     | inr f ↦ (let zero_is : class_number (class_of kind) ≡ 0 = ap class_number char in
         let t = other_number cn h (λ (g : cn ≡ 0). f (g ∙ sym zero_is)) in
         other_class d cn t.0 other e heap t.2 t.1)

@@ -23,9 +23,9 @@ use Rattle.memory_model.specs.Memory.Instances.{Memory, bytes_at}
 use Rattle.memory_model.specs.Memory.Numbers.{Labelled, number_of}
 use Rattle.store_sound.specs.Concretization.Matching.{Matched, number_in, Holds}
 use Rattle.memory_model.specs.Memory.Scalars.{Scalar, integer, pointer}
-use Rattle.store_sound.specs.Concretization.ValueMeaning.{Naming, StandsScalar, StandsPointer, StandsContent}
+use Rattle.store_sound.specs.Concretization.ValueMeaning.{Naming, InGammaScalar, InGammaPointer, InGammaContent}
 use Rattle.store_sound.specs.Concretization.SoundMemory.{IsMemoryOf}
-use Rattle.store_sound.specs.Concretization.RowMeaning.{IsLiveOf, StandsCell}
+use Rattle.store_sound.specs.Concretization.RowMeaning.{IsLiveOf, InGammaCell}
 use Rattle.memory_model.specs.Effects.Accesses.{class_in, has_blank, numbers_in, joined_labels, pointer_in, pointer_by, are_parts, are_zeros, scalar_in, integer_in, pointer_scalar}
 use Rattle.store_sound.specs.Operations.Scalars.{signed_in}
 use Rattle.cc_base.specs.IntegerLaws.{SoundLaws}
@@ -60,9 +60,9 @@ zero_first (part p k) cs h = cc
 zero_first (number zero labels) cs h = (labels, refl)
 zero_first (number (suc n) labels) cs h = cc
 
-module _ {I : Type 0} {l : LatticeOf I} {n : IntegersOf I} {stands : I → ℤ → Type 0} (o : SoundLaws l n stands) (flow : Flow) (naming : Naming) (memory : Memory) (sane : IsMemoryOf flow.model flow.bases.items naming memory) where
-  module _ (b : ℕ) (class : Class) (signed : Bool) (Place : ℕ → ℕ → Type 0) (Owns : ℕ → ℕ → Type 0) (v : Value I) (cell : StandsCell stands flow naming memory b class signed Place Owns v) (i offset : ℕ) (alive : IsLiveOf naming memory b i) (place : Place (length (bytes_at memory i)) offset) (owns : (k : ℕ) → k < class_bytes flow.model class → Owns (offset + k) k) (cs : List Content) (sees : Sees flow.model memory i offset class cs) where
-    content_stands : (k : ℕ) (c : Content) → slice_get cs k ≡ Some c → StandsContent stands naming memory v class c
+module _ {I : Type 0} {l : LatticeOf I} {n : IntegersOf I} {gamma : I → ℤ → Type 0} (o : SoundLaws l n gamma) (flow : Flow) (naming : Naming) (memory : Memory) (sane : IsMemoryOf flow.model flow.bases.items naming memory) where
+  module _ (b : ℕ) (class : Class) (signed : Bool) (Place : ℕ → ℕ → Type 0) (Owns : ℕ → ℕ → Type 0) (v : Value I) (cell : InGammaCell gamma flow naming memory b class signed Place Owns v) (i offset : ℕ) (alive : IsLiveOf naming memory b i) (place : Place (length (bytes_at memory i)) offset) (owns : (k : ℕ) → k < class_bytes flow.model class → Owns (offset + k) k) (cs : List Content) (sees : Sees flow.model memory i offset class cs) where
+    content_stands : (k : ℕ) (c : Content) → slice_get cs k ≡ Some c → InGammaContent gamma naming memory v class c
     content_stands k c e = let m = sees.each k c e in cell.byte i (offset + k) k c alive (owns k m.0) m.1
 
     pub blank_stands : has_blank cs ≡ true → v.indeterminate ≡ true
@@ -77,14 +77,14 @@ module _ {I : Type 0} {l : LatticeOf I} {n : IntegersOf I} {stands : I → ℤ �
     are_bytes : (ns : List Labelled) → numbers_in cs ≡ Some ns → (k : ℕ) (x : Labelled) → slice_get ns k ≡ Some x → x.number < 256
     are_bytes ns h k x e = let m = (sees.each k (number_in x) (numbers_at cs ns k x h e)).1 in sane.bytes i (offset + k) _ m.here
 
-    number_stands : (ns : List Labelled) → is_pointer class ≡ false → numbers_in cs ≡ Some ns → stands v.num (number_of signed ns)
+    number_stands : (ns : List Labelled) → is_pointer class ≡ false → numbers_in cs ≡ Some ns → gamma v.num (number_of signed ns)
     number_stands ns p h = cell.whole i offset ns alive place p (held ns h)
 
-    converted_stands : (ns : List Labelled) (t : Bool) → is_pointer class ≡ false → numbers_in cs ≡ Some ns → stands (n.convert v.num (kind_of flow.model class t)) (number_of t ns)
+    converted_stands : (ns : List Labelled) (t : Bool) → is_pointer class ≡ false → numbers_in cs ≡ Some ns → gamma (n.convert v.num (kind_of flow.model class t)) (number_of t ns)
     converted_stands ns t p h =
         let e : length ns ≡ class_bytes flow.model class = numbers_length cs ns h ∙ sees.long in
         let s = class_above flow.model class in
-        subst (stands (n.convert v.num (kind_of flow.model class t))) (reread signed t ns (kind_of flow.model class t) refl (sym e) (omega arith) (are_bytes ns h))
+        subst (gamma (n.convert v.num (kind_of flow.model class t))) (reread signed t ns (kind_of flow.model class t) refl (sym e) (omega arith) (are_bytes ns h))
         (o.convert_stands (kind_of flow.model class t) v.num (number_of signed ns) (class_size flow.model class) (number_stands ns p h))
 
     same_signs : (s t : Bool) → same_sign s t ≡ true → s ≡ t
@@ -93,33 +93,33 @@ module _ {I : Type 0} {l : LatticeOf I} {n : IntegersOf I} {stands : I → ℤ �
     same_signs false true h = cc
     same_signs false false h = refl
 
-    integer_stands : (ns : List Labelled) (t : Bool) → is_pointer class ≡ false → numbers_in cs ≡ Some ns → StandsScalar stands naming memory (as_read n flow.model v class signed t) (integer (number_of t ns) (joined_labels ns))
+    integer_stands : (ns : List Labelled) (t : Bool) → is_pointer class ≡ false → numbers_in cs ≡ Some ns → InGammaScalar gamma naming memory (as_read n flow.model v class signed t) (integer (number_of t ns) (joined_labels ns))
     integer_stands ns t p h = elim (cases_Bool (same_sign signed t)) [
-      | inl e ↦ rw (p, e) (subst (λ u. stands v.num (number_of u ns)) (same_signs signed t e) (number_stands ns p h), labels_stand ns h)
+      | inl e ↦ rw (p, e) (subst (λ u. gamma v.num (number_of u ns)) (same_signs signed t e) (number_stands ns p h), labels_stand ns h)
       | inr e ↦ rw (p, e) (converted_stands ns t p h, labels_stand ns h)
     ]
 
-    pointer_content : (c : Content) (ds : List Content) (p : MachinePointer) → cs ≡ c ∷ ds → is_pointer class ≡ true → pointer_by c cs ≡ Some p → StandsPointer stands naming memory v.pointer p
+    pointer_content : (c : Content) (ds : List Content) (p : MachinePointer) → cs ≡ c ∷ ds → is_pointer class ≡ true → pointer_by c cs ≡ Some p → InGammaPointer gamma naming memory v.pointer p
     pointer_content indeterminate ds p e k h = let r = cond_is (are_zeros cs) null p h in let z = zero_first indeterminate ds (subst (λ x. are_zeros x ≡ true) e r.0) in let f = z.1 in cc
     pointer_content (number m labels) ds p e k h =
         let r = cond_is (are_zeros cs) null p h in
         let s = content_stands 0 (number m labels) (subst (λ x. slice_get x 0 ≡ Some (number m labels)) (sym e) refl) in
-        subst (StandsPointer stands naming memory v.pointer) r.1 (s.1 k)
+        subst (InGammaPointer gamma naming memory v.pointer) r.1 (s.1 k)
     pointer_content (part q j) ds p e k h =
         let r = cond_is (are_parts q 0 cs) q p h in
         let s = content_stands 0 (part q j) (subst (λ x. slice_get x 0 ≡ Some (part q j)) (sym e) refl) in
-        subst (StandsPointer stands naming memory v.pointer) r.1 s
+        subst (InGammaPointer gamma naming memory v.pointer) r.1 s
 
-    pointer_stands : (ds : List Content) (p : MachinePointer) → cs ≡ ds → is_pointer class ≡ true → pointer_in ds ≡ Some p → StandsPointer stands naming memory v.pointer p
+    pointer_stands : (ds : List Content) (p : MachinePointer) → cs ≡ ds → is_pointer class ≡ true → pointer_in ds ≡ Some p → InGammaPointer gamma naming memory v.pointer p
     pointer_stands [] p e k h = cc
     pointer_stands (c ∷ ds) p e k h = pointer_content c ds p e k (subst (λ x. pointer_by c x ≡ Some p) (sym e) h)
 
-    pub scalar_stands : (kind : declared.Scalar) (s : Scalar) → class ≡ class_in kind → scalar_in kind cs ≡ Some s → StandsScalar stands naming memory (as_read n flow.model v class signed (signed_in kind)) s
+    pub scalar_stands : (kind : declared.Scalar) (s : Scalar) → class ≡ class_in kind → scalar_in kind cs ≡ Some s → InGammaScalar gamma naming memory (as_read n flow.model v class signed (signed_in kind)) s
     scalar_stands (of.Int kind) s e h =
         let r = integer_is (numbers_in cs) kind s h in
         let p : is_pointer class ≡ false = subst (λ x. is_pointer x ≡ false) (sym e) (integer_class kind) in
-        subst (StandsScalar stands naming memory (as_read n flow.model v class signed kind.signed)) (sym r.2) (integer_stands r.0 kind.signed p r.1)
+        subst (InGammaScalar gamma naming memory (as_read n flow.model v class signed kind.signed)) (sym r.2) (integer_stands r.0 kind.signed p r.1)
     scalar_stands of.Pointer s e h =
         let r = scalar_pointer_is (pointer_in cs) s h in
         let p : is_pointer class ≡ true = ap is_pointer e in
-        subst (StandsScalar stands naming memory (as_read n flow.model v class signed false)) (sym r.2) (rw p (pointer_stands cs r.0 refl p r.1))
+        subst (InGammaScalar gamma naming memory (as_read n flow.model v class signed false)) (sym r.2) (rw p (pointer_stands cs r.0 refl p r.1))

@@ -35,8 +35,8 @@ use Rattle.memory_model.specs.Memory.Tags.{fits_tag, fit_from, tag_at}
 use Rattle.store_sound.specs.Concretization.Places.{IsPlaceOf, IsLeafPlace, OwnedByLeaf, OwnedByClass, IsClassPlace}
 use Rattle.store_sound.specs.Concretization.SoundMemory.{IsContentIn, IsPointerIn, IsWithin}
 use Rattle.memory_model.specs.Memory.Scalars.{Scalar, integer, pointer}
-use Rattle.store_sound.specs.Concretization.ValueMeaning.{Naming, StandsPointer, StandsScalar, StandsState, StandsContent}
-use Rattle.store_sound.specs.Concretization.RowMeaning.{MachineState, StandsCell, StandsClass, StandsFor}
+use Rattle.store_sound.specs.Concretization.ValueMeaning.{Naming, InGammaPointer, InGammaScalar, InGammaState, InGammaContent}
+use Rattle.store_sound.specs.Concretization.RowMeaning.{MachineState, InGammaCell, InGammaClass, InGamma}
 use Rattle.memory_model.specs.Effects.Worlds.{World, goes, stopped_by}
 use Rattle.memory_model.specs.Effects.ScalarBytes.{region, contents}
 use Rattle.memory_model.specs.Effects.Touches.{is_allocated, storage_at}
@@ -93,12 +93,12 @@ wide_number Long h = (2, omega arith, refl)
 wide_number LongLong h = (3, omega arith, refl)
 wide_number Pointer h = (4, omega arith, refl)
 
-module _ {I : Type 0} {l : LatticeOf I} {n : IntegersOf I} {stands : I → ℤ → Type 0} (o : OrderLaws l) (q : BoundLaws l n stands) (flow : Flow) (shaped : AreShaped flow.bases.items) (padding : SeesPadding flow.model flow.bases.items) (naming : Naming) (row : List (Cell I)) (state : MachineState) (s : StandsFor l n stands flow naming row state)
-    (access : Access) (char : access.class ≡ Char) (i offset : ℕ) (from : access.window.lo ≤ offset) (to : offset ≤ access.window.hi) (alive : life_at state.memory i ≡ live) (inside : offset + class_bytes flow.model access.class ≤ length (bytes_at state.memory i)) (b : ℕ) (base : BaseInfo) (at : slice_get flow.bases.items b ≡ Some base) (named : naming i ≡ Some b) (byte : Byte) (here : byte_at state.memory i offset ≡ Some byte) {P : Value I → Type 0} (up : (y z : Value I) → (value_lattice l).leq y z ≡ true → P y → P z) (other : (v : Value I) (d : Class) → StandsContent stands naming state.memory v d byte.content → P (byte_read l n flow.model v d access.signed)) (pad : P (whole_range l n (kind_of flow.model Char access.signed) all_labels true)) (text : is_text l n base row access.window ≡ true → (v : Value I) → P v → P (record v { indeterminate = v.indeterminate && false })) where
+module _ {I : Type 0} {l : LatticeOf I} {n : IntegersOf I} {gamma : I → ℤ → Type 0} (o : OrderLaws l) (q : BoundLaws l n gamma) (flow : Flow) (shaped : AreShaped flow.bases.items) (padding : SeesPadding flow.model flow.bases.items) (naming : Naming) (row : List (Cell I)) (state : MachineState) (s : InGamma l n gamma flow naming row state)
+    (access : Access) (char : access.class ≡ Char) (i offset : ℕ) (from : access.window.lo ≤ offset) (to : offset ≤ access.window.hi) (alive : life_at state.memory i ≡ live) (inside : offset + class_bytes flow.model access.class ≤ length (bytes_at state.memory i)) (b : ℕ) (base : BaseInfo) (at : slice_get flow.bases.items b ≡ Some base) (named : naming i ≡ Some b) (byte : Byte) (here : byte_at state.memory i offset ≡ Some byte) {P : Value I → Type 0} (up : (y z : Value I) → (value_lattice l).leq y z ≡ true → P y → P z) (other : (v : Value I) (d : Class) → InGammaContent gamma naming state.memory v d byte.content → P (byte_read l n flow.model v d access.signed)) (pad : P (whole_range l n (kind_of flow.model Char access.signed) all_labels true)) (text : is_text l n base row access.window ≡ true → (v : Value I) → P v → P (record v { indeterminate = v.indeterminate && false })) where
   matched : (d : Class) (k : ℕ) → Fits d k byte.tag → Matched state.memory i offset d k byte.content
   matched d k f = record { tag = byte.tag; here = here; fits = f }
 
-  cell_gives : (d : Class) (k : ℕ) (signed : Bool) (Place Owns : ℕ → ℕ → Type 0) (v : Value I) → StandsCell stands flow naming state.memory b d signed Place Owns v → Owns offset k → Fits d k byte.tag → P (byte_read l n flow.model v d access.signed)
+  cell_gives : (d : Class) (k : ℕ) (signed : Bool) (Place Owns : ℕ → ℕ → Type 0) (v : Value I) → InGammaCell gamma flow naming state.memory b d signed Place Owns v → Owns offset k → Fits d k byte.tag → P (byte_read l n flow.model v d access.signed)
   cell_gives d k signed Place Owns v cell owns f = other v d (cell.byte i offset k byte.content (record { named = named; alive = alive }) owns (matched d k f))
 
   -- a leaf of another class that owns the byte
@@ -113,7 +113,7 @@ module _ {I : Type 0} {l : LatticeOf I} {n : IntegersOf I} {stands : I → ℤ �
       let m = wide_number d e in
       let h : class_at (m.0 + 1) ≡ d = ap class_at (sym m.2) ∙ class_number_back d in
       let lt = m.1 in
-      let cell : StandsClass stands flow naming state.memory b base (class_at (m.0 + 1)) (value_at l n row (class_position base (m.0 + 1))) = s.classes b (m.0 + 1) base at heap (omega arith) in
+      let cell : InGammaClass gamma flow naming state.memory b base (class_at (m.0 + 1)) (value_at l n row (class_position base (m.0 + 1))) = s.classes b (m.0 + 1) base at heap (omega arith) in
       by_classes o n up flow.model row access offset from to base heap
       (class_cells_give o n up flow.model row access offset from to base m.0 m.1
       (cell_gives (class_at (m.0 + 1)) k true (IsClassPlace flow.model base.shape.cells (class_at (m.0 + 1))) (OwnedByClass flow.model base.shape.cells (class_at (m.0 + 1))) (value_at l n row (class_position base (m.0 + 1))) cell
@@ -150,7 +150,7 @@ module _ {I : Type 0} {l : LatticeOf I} {n : IntegersOf I} {stands : I → ℤ �
       let w : t.0 ≡ byte = same_Some t.0 byte (sym r.1 ∙ here) in
       single_list (region bytes offset (class_bytes flow.model access.class)) byte (h ∙ e) (t.1 ∙ ap Some w)
 
-  module _ (cells : Fits access.class 0 byte.tag → (signed : Bool) (Place Owns : ℕ → ℕ → Type 0) (v : Value I) → StandsCell stands flow naming state.memory b access.class signed Place Owns v → Place (length (bytes_at state.memory i)) offset → ((k : ℕ) → k < class_bytes flow.model access.class → Owns (offset + k) k) → P (as_read n flow.model v access.class signed access.signed)) where
+  module _ (cells : Fits access.class 0 byte.tag → (signed : Bool) (Place Owns : ℕ → ℕ → Type 0) (v : Value I) → InGammaCell gamma flow naming state.memory b access.class signed Place Owns v → Place (length (bytes_at state.memory i)) offset → ((k : ℕ) → k < class_bytes flow.model access.class → Owns (offset + k) k) → P (as_read n flow.model v access.class signed access.signed)) where
     is_char : same_class access.class Char ≡ true
     is_char = is_same_class access.class Char char
 
@@ -210,16 +210,16 @@ module _ {I : Type 0} {l : LatticeOf I} {n : IntegersOf I} {stands : I → ℤ �
         let w = slice_get_within flow.bases.items b base at in
         let live_base : may_be_live l n base row ≡ true = live_if base.shape.heap _ (λ e.
         let y = s.states b i base at e named in
-        (subst (λ z. StandsState stands naming state.memory (state_at l n row (state_position base)) z (length (bytes_at state.memory i))) alive y).1) in
+        (subst (λ z. InGammaState gamma naming state.memory (state_at l n row (state_position base)) z (length (bytes_at state.memory i))) alive y).1) in
         bases_give o n up flow.model row access offset from to flow.bases.items set b base at
         (and_from _ _ (and_from _ _ (lt-ltb _ _ (omega arith)) has) live_base)
         (char_base o n up flow.model row access offset from to base is_char text (in_base base.shape.heap refl))
 
-module _ {I : Type 0} {l : LatticeOf I} {n : IntegersOf I} {stands : I → ℤ → Type 0} (o : OrderLaws l) (q : BoundLaws l n stands) (c : SoundLaws l n stands) (flow : Flow) (shaped : AreShaped flow.bases.items) (padding : SeesPadding flow.model flow.bases.items) (naming : Naming) (row : List (Cell I)) (w : World) (temps : ℕ → Option Scalar) (entered : ℕ → Option ℕ) (s : StandsFor l n stands flow naming row (state_in w temps entered)) where
+module _ {I : Type 0} {l : LatticeOf I} {n : IntegersOf I} {gamma : I → ℤ → Type 0} (o : OrderLaws l) (q : BoundLaws l n gamma) (c : SoundLaws l n gamma) (flow : Flow) (shaped : AreShaped flow.bases.items) (padding : SeesPadding flow.model flow.bases.items) (naming : Naming) (row : List (Cell I)) (w : World) (temps : ℕ → Option Scalar) (entered : ℕ → Option ℕ) (s : InGamma l n gamma flow naming row (state_in w temps entered)) where
   first_of : (bytes : List Byte) (k : ℕ) (ct : Content) → slice_get (contents bytes) k ≡ Some ct → (y : Byte) × (slice_get bytes k ≡ Some y) × (y.content ≡ ct)
   first_of bytes k ct e = get_map (λ z. z.content) bytes k ct e
 
-  pub char_stands : (p : Pointers I) (at : MachinePointer) (kind : declared.Scalar) (v : Scalar) (u : World) → same_class (class_in kind) Char ≡ true → StandsPointer stands naming w.memory p at → IsPointerIn w.memory at → load flow.model kind (pointer at) w ≡ goes v u → Gives (λ y. StandsScalar stands naming w.memory y v) (table l n flow row p kind)
+  pub char_stands : (p : Pointers I) (at : MachinePointer) (kind : declared.Scalar) (v : Scalar) (u : World) → same_class (class_in kind) Char ≡ true → InGammaPointer gamma naming w.memory p at → IsPointerIn w.memory at → load flow.model kind (pointer at) w ≡ goes v u → Gives (λ y. InGammaScalar gamma naming w.memory y v) (table l n flow row p kind)
   unfolding abstract_load byte_at
   char_stands p at of.Pointer v u e st inside h = cc
   char_stands p at (of.Int k) v u e st inside h =
@@ -231,7 +231,7 @@ module _ {I : Type 0} {l : LatticeOf I} {n : IntegersOf I} {stands : I → ℤ �
       let g = load_goes flow.model kind at w u v h in
       let r = g.1 in
       let cs : List Content = g.0 in
-      let t = into_live o q c flow shaped naming row w temps entered s p r.i r.offset r.lo r.hi r.alive (subst (StandsPointer stands naming w.memory p) r.pointer st) in
+      let t = into_live o q c flow shaped naming row w temps entered s p r.i r.offset r.lo r.hi r.alive (subst (InGammaPointer gamma naming w.memory p) r.pointer st) in
       let ins : IsWithin w.memory r.i r.offset r.lo r.hi = subst (IsPointerIn w.memory) r.pointer inside in
       let d = ins.within in
       let m = s.sane.small r.i in
@@ -252,16 +252,16 @@ module _ {I : Type 0} {l : LatticeOf I} {n : IntegersOf I} {stands : I → ℤ �
       let is_v : v ≡ integer (number_of k.signed (x.0 ∷ [])) (joined_labels (x.0 ∷ [])) = f.2 ∙ ap (λ a. integer (number_of k.signed a) (joined_labels a)) only in
       let found : scalar_in kind cs ≡ Some (integer (number_of k.signed (x.0 ∷ [])) (joined_labels (x.0 ∷ []))) = g.3 ∙ ap Some is_v in
       let low : x.0.number < 256 = subst (λ z. IsContentIn w.memory z y.0.tag) y.2 (s.sane.bytes r.i r.offset y.0 rg.1) in
-      let res = char_reaches o q flow shaped padding naming row (state_in w temps entered) s access char r.i r.offset z.from z.to r.alive (omega arith) t.base base.0 base.1 t.named y.0 rg.1 {P = λ b. StandsScalar stands naming w.memory b (integer (number_of k.signed (x.0 ∷ [])) (joined_labels (x.0 ∷ [])))}
+      let res = char_reaches o q flow shaped padding naming row (state_in w temps entered) s access char r.i r.offset z.from z.to r.alive (omega arith) t.base base.0 base.1 t.named y.0 rg.1 {P = λ b. InGammaScalar gamma naming w.memory b (integer (number_of k.signed (x.0 ∷ [])) (joined_labels (x.0 ∷ [])))}
       (λ a b h. scalar_larger q naming w.memory a b (integer (number_of k.signed (x.0 ∷ [])) (joined_labels (x.0 ∷ []))) (value_below l a b h))
-      (λ vv d h. byte_stands o q flow.model naming w.memory vv d k.signed x.0 low (subst (StandsContent stands naming w.memory vv d) y.2 h))
+      (λ vv d h. byte_stands o q flow.model naming w.memory vv d k.signed x.0 low (subst (InGammaContent gamma naming w.memory vv d) y.2 h))
       (padding_stands o q flow.model naming w.memory k.signed x.0 low) (λ t vv h. h)
       (λ fits signed Place Owns vv cell place owns. scalar_stands c flow naming w.memory s.sane t.base class signed Place Owns vv cell r.i r.offset (record { named = t.named; alive = r.alive }) place owns cs (sees_one flow.model w.memory r.i r.offset class cs (number_in x.0) y.0 csl one ct rg.1 y.2 fits) kind (integer (number_of k.signed (x.0 ∷ [])) (joined_labels (x.0 ∷ []))) refl found) p.bases t.among in
-      subst (λ a. Gives (λ b. StandsScalar stands naming w.memory b a) (table l n flow row p kind)) (sym is_v)
+      subst (λ a. Gives (λ b. InGammaScalar gamma naming w.memory b a) (table l n flow row p kind)) (sym is_v)
       (rw z.is (relabelled o q c flow shaped naming row w temps entered s class _ (λ a b. relabel_scalar o q c flow shaped naming row w temps entered s kind a (integer (number_of k.signed (x.0 ∷ [])) (joined_labels (x.0 ∷ []))) cs found b) res))
 
   -- where the machine stops at an indeterminate character, the value says so: the window lies in no text up to its first zero
-  pub char_blank : (p : Pointers I) (at : MachinePointer) (kind : declared.Scalar) → same_class (class_in kind) Char ≡ true → StandsPointer stands naming w.memory p at → IsPointerIn w.memory at → load flow.model kind (pointer at) w ≡ stopped_by w rule.Uninitref → Gives (λ y. y.indeterminate ≡ true) (table l n flow row p kind)
+  pub char_blank : (p : Pointers I) (at : MachinePointer) (kind : declared.Scalar) → same_class (class_in kind) Char ≡ true → InGammaPointer gamma naming w.memory p at → IsPointerIn w.memory at → load flow.model kind (pointer at) w ≡ stopped_by w rule.Uninitref → Gives (λ y. y.indeterminate ≡ true) (table l n flow row p kind)
   unfolding abstract_load byte_at
   char_blank p at kind e st inside h =
       let class : Class = class_in kind in
@@ -271,7 +271,7 @@ module _ {I : Type 0} {l : LatticeOf I} {n : IntegersOf I} {stands : I → ℤ �
       let g = load_blank flow.model kind at w h in
       let r = g.1 in
       let cs : List Content = g.0 in
-      let t = into_live o q c flow shaped naming row w temps entered s p r.i r.offset r.lo r.hi r.alive (subst (StandsPointer stands naming w.memory p) r.pointer st) in
+      let t = into_live o q c flow shaped naming row w temps entered s p r.i r.offset r.lo r.hi r.alive (subst (InGammaPointer gamma naming w.memory p) r.pointer st) in
       let ins : IsWithin w.memory r.i r.offset r.lo r.hi = subst (IsPointerIn w.memory) r.pointer inside in
       let d = ins.within in
       let m = s.sane.small r.i in
@@ -290,7 +290,7 @@ module _ {I : Type 0} {l : LatticeOf I} {n : IntegersOf I} {stands : I → ℤ �
       let access : Access = record { class = class; signed = signed_in kind; window = z.window } in
       let res = char_reaches o q flow shaped padding naming row (state_in w temps entered) s access char r.i r.offset z.from z.to r.alive (omega arith) t.base base.0 base.1 t.named y.0 rg.1 {P = λ b. b.indeterminate ≡ true}
       (λ a b k. (value_below l a b k).indeterminate)
-      (λ vv d k. byte_flag l n flow.model vv d (signed_in kind) (subst (StandsContent stands naming w.memory vv d) y.2 k))
+      (λ vv d k. byte_flag l n flow.model vv d (signed_in kind) (subst (InGammaContent gamma naming w.memory vv d) y.2 k))
       refl
       (λ text vv k. absurd (no_text q flow naming row (state_in w temps entered) s r.i r.offset t.base base.0 base.1 (record { named = t.named; alive = r.alive }) z.window z.from z.to y.0 rg.1 y.2 text))
       (λ fits signed Place Owns vv cell place owns. read_flag n flow.model vv class signed (signed_in kind) (blank_stands c flow naming w.memory s.sane t.base class signed Place Owns vv cell r.i r.offset (record { named = t.named; alive = r.alive }) place owns cs (sees_one flow.model w.memory r.i r.offset class cs indeterminate y.0 csl one ct rg.1 y.2 fits) g.2)) p.bases t.among in

@@ -15,7 +15,7 @@ use Rattle.memory_model.specs.Memory.Instances.{Memory}
 use Rattle.store_sound.specs.Concretization.SeenLabels.{as_set}
 use Rattle.store_sound.specs.Concretization.Matching.{number_in}
 use Rattle.memory_model.specs.Memory.Scalars.{integer}
-use Rattle.store_sound.specs.Concretization.ValueMeaning.{Naming, StandsScalar, StandsContent}
+use Rattle.store_sound.specs.Concretization.ValueMeaning.{Naming, InGammaScalar, InGammaContent}
 use Rattle.memory_model.specs.Effects.Accesses.{joined_labels}
 -- ---- the instance at hand
 
@@ -47,20 +47,20 @@ not_or : (p q : Bool) → (p ≡ true → q ≡ true) → (not p || q) ≡ true
 not_or true q h = h refl
 not_or false q h = refl
 
-module _ {I : Type 0} {l : LatticeOf I} {n : IntegersOf I} {stands : I → ℤ → Type 0} (o : OrderLaws l) (q : BoundLaws l n stands) (m : Model) (naming : Naming) (memory : Memory) where
-  range_stands : (signed : Bool) (x : Labelled) (bound : Labels) (blank : Bool) → x.number < 256 → labels_leq (as_set x.labels) bound ≡ true → StandsScalar stands naming memory (whole_range l n (kind_of m Char signed) bound blank) (integer (number_of signed (x ∷ [])) (joined_labels (x ∷ [])))
+module _ {I : Type 0} {l : LatticeOf I} {n : IntegersOf I} {gamma : I → ℤ → Type 0} (o : OrderLaws l) (q : BoundLaws l n gamma) (m : Model) (naming : Naming) (memory : Memory) where
+  range_stands : (signed : Bool) (x : Labelled) (bound : Labels) (blank : Bool) → x.number < 256 → labels_leq (as_set x.labels) bound ≡ true → InGammaScalar gamma naming memory (whole_range l n (kind_of m Char signed) bound blank) (integer (number_of signed (x ∷ [])) (joined_labels (x ∷ [])))
   range_stands true x bound blank h e =
       let r = char_near true x h in
-      (subst (λ z. stands z (number_of true (x ∷ []))) (sym (some_between o q (negsuc 127) (pos 127) (omega (arith, ints)))) (between_stands o q (negsuc 127) (pos 127) (number_of true (x ∷ [])) r.0 r.1), labels_order.join_least (as_set x.labels) no_labels bound e (labels_order.least_below bound))
+      (subst (λ z. gamma z (number_of true (x ∷ []))) (sym (some_between o q (negsuc 127) (pos 127) (omega (arith, ints)))) (between_stands o q (negsuc 127) (pos 127) (number_of true (x ∷ [])) r.0 r.1), labels_order.join_least (as_set x.labels) no_labels bound e (labels_order.least_below bound))
   range_stands false x bound blank h e =
       let r = char_near false x h in
-      (subst (λ z. stands z (number_of false (x ∷ []))) (sym (some_between o q (pos 0) (pos 255) (omega (arith, ints)))) (between_stands o q (pos 0) (pos 255) (number_of false (x ∷ [])) r.0 r.1), labels_order.join_least (as_set x.labels) no_labels bound e (labels_order.least_below bound))
+      (subst (λ z. gamma z (number_of false (x ∷ []))) (sym (some_between o q (pos 0) (pos 255) (omega (arith, ints)))) (between_stands o q (pos 0) (pos 255) (number_of false (x ∷ [])) r.0 r.1), labels_order.join_least (as_set x.labels) no_labels bound e (labels_order.least_below bound))
 
   -- a byte of a cell of another class
-  pub byte_stands : (v : Value I) (d : Class) (signed : Bool) (x : Labelled) → x.number < 256 → StandsContent stands naming memory v d (number_in x) → StandsScalar stands naming memory (byte_read l n m v d signed) (integer (number_of signed (x ∷ [])) (joined_labels (x ∷ [])))
+  pub byte_stands : (v : Value I) (d : Class) (signed : Bool) (x : Labelled) → x.number < 256 → InGammaContent gamma naming memory v d (number_in x) → InGammaScalar gamma naming memory (byte_read l n m v d signed) (integer (number_of signed (x ∷ [])) (joined_labels (x ∷ [])))
   byte_stands v d signed x h s =
       let e : (not (is_pointer d) || v.pointer.null) ≡ true = not_or (is_pointer d) v.pointer.null s.1 in
       rw e (range_stands signed x v.labels v.indeterminate h s.0)
 
-  pub padding_stands : (signed : Bool) (x : Labelled) → x.number < 256 → StandsScalar stands naming memory (whole_range l n (kind_of m Char signed) all_labels true) (integer (number_of signed (x ∷ [])) (joined_labels (x ∷ [])))
+  pub padding_stands : (signed : Bool) (x : Labelled) → x.number < 256 → InGammaScalar gamma naming memory (whole_range l n (kind_of m Char signed) all_labels true) (integer (number_of signed (x ∷ [])) (joined_labels (x ∷ [])))
   padding_stands signed x h = range_stands signed x all_labels true h (all_above (as_set x.labels))

@@ -17,9 +17,9 @@ use Rattle.memory_model.specs.Memory.Numbers.{Labelled, number_of}
 use Rattle.store_sound.specs.Concretization.Matching.{Fits, Matched, number_in, Holds}
 use Rattle.memory_model.specs.Memory.Tags.{tag_of}
 use Rattle.memory_model.specs.Memory.Scalars.{Scalar, integer, pointer}
-use Rattle.store_sound.specs.Concretization.ValueMeaning.{Naming, StandsInto, StandsByLife, StandsPointer, StandsScalar, StandsContent}
+use Rattle.store_sound.specs.Concretization.ValueMeaning.{Naming, InGammaInto, InGammaByLife, InGammaPointer, InGammaScalar, InGammaContent}
 use Rattle.store_sound.specs.Concretization.SoundMemory.{IsWithin, IsPointerIn, IsScalarIn}
-use Rattle.store_sound.specs.Concretization.RowMeaning.{IsLiveOf, StandsCell}
+use Rattle.store_sound.specs.Concretization.RowMeaning.{IsLiveOf, InGammaCell}
 use Rattle.store_sound.proofs.operations.Larger.{ValueBelow, content_larger}
 use Rattle.store_sound.proofs.operations.Slices.{get_there}
 use Rattle.store_sound.proofs.operations.Classes.{class_above}
@@ -54,8 +54,8 @@ module _ {old new : Memory} (a : IsAlike old new) where
   pub live_moves : (naming : Naming) (b i : ℕ) → IsLiveOf naming new b i → IsLiveOf naming old b i
   live_moves naming b i h = record { named = h.named; alive = sym (a.lives i) ∙ h.alive }
 
-  module _ {I : Type 0} (stands : I → ℤ → Type 0) (naming : Naming) where
-    into_moves : (v : Pointers I) (i offset lo hi : ℕ) → StandsInto stands naming old v i offset lo hi → StandsInto stands naming new v i offset lo hi
+  module _ {I : Type 0} (gamma : I → ℤ → Type 0) (naming : Naming) where
+    into_moves : (v : Pointers I) (i offset lo hi : ℕ) → InGammaInto gamma naming old v i offset lo hi → InGammaInto gamma naming new v i offset lo hi
     into_moves v i offset lo hi s = record {
       base = s.base;
       named = s.named;
@@ -66,20 +66,20 @@ module _ {old new : Memory} (a : IsAlike old new) where
       whole = λ e. let r = s.whole e in (r.0, r.1 ∙ sym (a.lengths i));
     }
 
-    life_moves : (v : Pointers I) (life : Life) (i offset lo hi : ℕ) → StandsByLife stands naming old v life i offset lo hi → StandsByLife stands naming new v life i offset lo hi
+    life_moves : (v : Pointers I) (life : Life) (i offset lo hi : ℕ) → InGammaByLife gamma naming old v life i offset lo hi → InGammaByLife gamma naming new v life i offset lo hi
     life_moves v live i offset lo hi s = into_moves v i offset lo hi s
     life_moves v ended i offset lo hi s = s
     life_moves v freed i offset lo hi s = into_moves v i offset lo hi s
 
-    pub pointer_moves : (v : Pointers I) (p : MachinePointer) → StandsPointer stands naming old v p → StandsPointer stands naming new v p
+    pub pointer_moves : (v : Pointers I) (p : MachinePointer) → InGammaPointer gamma naming old v p → InGammaPointer gamma naming new v p
     pointer_moves v null s = s
-    pointer_moves v (into i offset lo hi) s = subst (λ z. StandsByLife stands naming new v z i offset lo hi) (sym (a.lives i)) (life_moves v (life_at old i) i offset lo hi s)
+    pointer_moves v (into i offset lo hi) s = subst (λ z. InGammaByLife gamma naming new v z i offset lo hi) (sym (a.lives i)) (life_moves v (life_at old i) i offset lo hi s)
 
-    pub scalar_moves : (v : Value I) (x : Scalar) → StandsScalar stands naming old v x → StandsScalar stands naming new v x
+    pub scalar_moves : (v : Value I) (x : Scalar) → InGammaScalar gamma naming old v x → InGammaScalar gamma naming new v x
     scalar_moves v (integer n labels) s = s
     scalar_moves v (pointer p) s = pointer_moves v.pointer p s
 
-    pub content_moves : (v : Value I) (class : Class) (c : Content) → StandsContent stands naming old v class c → StandsContent stands naming new v class c
+    pub content_moves : (v : Value I) (class : Class) (c : Content) → InGammaContent gamma naming old v class c → InGammaContent gamma naming new v class c
     content_moves v class indeterminate s = s
     content_moves v class (number n labels) s = s
     content_moves v class (part p k) s = pointer_moves v.pointer p s
@@ -128,14 +128,14 @@ in_or_out j i o offset size = elim (cases_eq j i) [
   ]
 ]
 
-module _ {I : Type 0} {l : LatticeOf I} {n : IntegersOf I} {stands : I → ℤ → Type 0} (q : BoundLaws l n stands) (flow : Flow) (naming : Naming) {old new : Memory} {i offset : ℕ} {class : Class} {cs : List Content} (s : IsStore old new i offset class (class_bytes flow.model class) cs) where
-  module _ (b : ℕ) (d : Class) (signed : Bool) (Place Owns : ℕ → ℕ → Type 0) (v x : Value I) (cell : StandsCell stands flow naming old b d signed Place Owns v)
+module _ {I : Type 0} {l : LatticeOf I} {n : IntegersOf I} {gamma : I → ℤ → Type 0} (q : BoundLaws l n gamma) (flow : Flow) (naming : Naming) {old new : Memory} {i offset : ℕ} {class : Class} {cs : List Content} (s : IsStore old new i offset class (class_bytes flow.model class) cs) where
+  module _ (b : ℕ) (d : Class) (signed : Bool) (Place Owns : ℕ → ℕ → Type 0) (v x : Value I) (cell : InGammaCell gamma flow naming old b d signed Place Owns v)
       (keeps_place : (j o : ℕ) → IsLiveOf naming old b j → Place (length (bytes_at old j)) o → (j ≡ i → o ≡ offset → d ≡ class → ⊥) → ValueBelow l v x)
       (keeps_byte : (j o k : ℕ) → IsLiveOf naming old b j → Owns o k → (j ≡ i → offset ≤ o → o < offset + class_bytes flow.model class → ⊥) → ValueBelow l v x)
-      (fresh_place : IsLiveOf naming old b i → d ≡ class → Place (length (bytes_at old i)) offset → is_pointer d ≡ false → (ns : List Labelled) → Holds flow.model new i offset class ns → stands x.num (number_of signed ns))
-      (fresh_byte : IsLiveOf naming old b i → d ≡ class → (k : ℕ) (c : Content) → Owns (offset + k) k → slice_get cs k ≡ Some c → StandsContent stands naming new x d c) where
+      (fresh_place : IsLiveOf naming old b i → d ≡ class → Place (length (bytes_at old i)) offset → is_pointer d ≡ false → (ns : List Labelled) → Holds flow.model new i offset class ns → gamma x.num (number_of signed ns))
+      (fresh_byte : IsLiveOf naming old b i → d ≡ class → (k : ℕ) (c : Content) → Owns (offset + k) k → slice_get cs k ≡ Some c → InGammaContent gamma naming new x d c) where
     -- a place whose bytes are none of the stored ones
-    old_place : (j o : ℕ) (ns : List Labelled) → IsLiveOf naming new b j → Place (length (bytes_at new j)) o → is_pointer d ≡ false → Holds flow.model new j o d ns → (j ≡ i → o ≡ offset → ⊥) → stands x.num (number_of signed ns)
+    old_place : (j o : ℕ) (ns : List Labelled) → IsLiveOf naming new b j → Place (length (bytes_at new j)) o → is_pointer d ≡ false → Holds flow.model new j o d ns → (j ≡ i → o ≡ offset → ⊥) → gamma x.num (number_of signed ns)
     old_place j o ns alive place p h ne =
         let u = live_moves (alike s) naming b j alive in
         let z = subst (λ y. Place y o) (s.lengths j) place in
@@ -149,7 +149,7 @@ module _ {I : Type 0} {l : LatticeOf I} {n : IntegersOf I} {stands : I → ℤ �
         q.larger v.num x.num (number_of signed ns) (keeps_place j o u z (λ e f w. ne e f)).num (cell.whole j o ns u z p g)
 
     -- the stored place
-    new_place : (ns : List Labelled) → IsLiveOf naming new b i → Place (length (bytes_at new i)) offset → is_pointer d ≡ false → Holds flow.model new i offset d ns → stands x.num (number_of signed ns)
+    new_place : (ns : List Labelled) → IsLiveOf naming new b i → Place (length (bytes_at new i)) offset → is_pointer d ≡ false → Holds flow.model new i offset d ns → gamma x.num (number_of signed ns)
     new_place ns alive place p h =
         let a = class_above flow.model d in
         let f = class_above flow.model class in
@@ -158,7 +158,7 @@ module _ {I : Type 0} {l : LatticeOf I} {n : IntegersOf I} {stands : I → ℤ �
         let t = matched_in s (offset + 0) 0 d (number_in y.0) (h.each 0 y.0 (omega arith) y.1) (omega arith) (omega arith) in
         fresh_place (live_moves (alike s) naming b i alive) t.own (subst (λ z. Place z offset) (s.lengths i) place) p ns (subst (λ z. Holds flow.model new i offset z ns) t.own h)
 
-    whole_place : (j o : ℕ) (ns : List Labelled) → IsLiveOf naming new b j → Place (length (bytes_at new j)) o → is_pointer d ≡ false → Holds flow.model new j o d ns → stands x.num (number_of signed ns)
+    whole_place : (j o : ℕ) (ns : List Labelled) → IsLiveOf naming new b j → Place (length (bytes_at new j)) o → is_pointer d ≡ false → Holds flow.model new j o d ns → gamma x.num (number_of signed ns)
     whole_place j o ns alive place p h = elim (cases_eq j i) [
       | inr n ↦ old_place j o ns alive place p h (λ e f. n e)
       | inl e ↦ elim (cases_eq o offset) [
@@ -168,14 +168,14 @@ module _ {I : Type 0} {l : LatticeOf I} {n : IntegersOf I} {stands : I → ℤ �
       ]
     ]
 
-    each_byte : (j o k : ℕ) (c : Content) → IsLiveOf naming new b j → Owns o k → Matched new j o d k c → StandsContent stands naming new x d c
+    each_byte : (j o k : ℕ) (c : Content) → IsLiveOf naming new b j → Owns o k → Matched new j o d k c → InGammaContent gamma naming new x d c
     each_byte j o k c alive owns m =
         let u = live_moves (alike s) naming b j alive in
         elim (in_or_out j i o offset (class_bytes flow.model class)) [
-          | inr out ↦ content_moves (alike s) stands naming x d c (content_larger q naming old v x d c (keeps_byte j o k u owns out) (cell.byte j o k c u owns (matched_out s j o k d c m out)))
+          | inr out ↦ content_moves (alike s) gamma naming x d c (content_larger q naming old v x d c (keeps_byte j o k u owns out) (cell.byte j o k c u owns (matched_out s j o k d c m out)))
           | inl r ↦ (let t = matched_in s o k d c (subst (λ a. Matched new a o d k c) r.0 m) r.1 r.2 in
               fresh_byte (subst (IsLiveOf naming old b) r.0 u) t.own k c (subst (λ z. Owns z k) t.there owns) t.content)
         ]
 
-    pub cell_stored : StandsCell stands flow naming new b d signed Place Owns x
+    pub cell_stored : InGammaCell gamma flow naming new b d signed Place Owns x
     cell_stored = record { whole = whole_place; byte = each_byte }

@@ -17,9 +17,9 @@ use Rattle.memory_model.specs.Memory.Instances.{Life, live, ended, freed, Instan
 use Rattle.memory_model.specs.Memory.Scalars.{Scalar, integer, pointer}
 use Rattle.memory_model.specs.Effects.Touches.{is_allocated}
 use Rattle.memory_model.specs.Effects.Accesses.{is_freed_life, points_into_freed}
-use Rattle.store_sound.specs.Concretization.ValueMeaning.{Naming, StandsInto, StandsByLife, StandsScalar, StandsState}
+use Rattle.store_sound.specs.Concretization.ValueMeaning.{Naming, InGammaInto, InGammaByLife, InGammaScalar, InGammaState}
 use Rattle.store_sound.specs.Concretization.SoundMemory.{IsInstanceOf}
-use Rattle.store_sound.specs.Concretization.RowMeaning.{MachineState, StandsFor}
+use Rattle.store_sound.specs.Concretization.RowMeaning.{MachineState, InGamma}
 use Rattle.store_sound.specs.Operations.Shapes.{AreShaped}
 use Rattle.store_sound.proofs.operations.Walks.{walk_meets}
 use Rattle.store_sound.proofs.operations.Slices.{get_there}
@@ -36,7 +36,7 @@ is_freed freed h = refl
 or_keeps : (a b : Bool) → a ≡ true → (a || b) ≡ true
 or_keeps a b h = or_left a b h
 
-module _ {I : Type 0} {l : LatticeOf I} {n : IntegersOf I} {stands : I → ℤ → Type 0} (flow : Flow) (shaped : AreShaped flow.bases.items) (naming : Naming) (row : List (Cell I)) (state : MachineState) (s : StandsFor l n stands flow naming row state) where
+module _ {I : Type 0} {l : LatticeOf I} {n : IntegersOf I} {gamma : I → ℤ → Type 0} (flow : Flow) (shaped : AreShaped flow.bases.items) (naming : Naming) (row : List (Cell I)) (state : MachineState) (s : InGamma l n gamma flow naming row state) where
   -- a freed instance of a base is one of the heap, and its state says so
   base_freed : (i b : ℕ) (base : BaseInfo) → life_at state.memory i ≡ freed → naming i ≡ Some b → slice_get flow.bases.items b ≡ Some base → may_be_freed l n base row ≡ true
   base_freed i b base gone named at =
@@ -46,10 +46,10 @@ module _ {I : Type 0} {l : LatticeOf I} {n : IntegersOf I} {stands : I → ℤ �
       let a : it.0.storage ≡ allocated = s.sane.freed_rightly i it.0 it.1 life in
       let heap : base.shape.heap ≡ true = sym (shaped.each b base at).kind ∙ (ap is_allocated (sym k.storage) ∙ ap is_allocated a) in
       let x = s.states b i base at heap named in
-      let y = subst (λ z. StandsState stands naming state.memory (state_at l n row (state_position base)) z (length (bytes_at state.memory i))) gone x in
+      let y = subst (λ z. InGammaState gamma naming state.memory (state_at l n row (state_position base)) z (length (bytes_at state.memory i))) gone x in
       and_from _ _ heap y.1
 
-  pub into_freed : (v : Pointers I) (i offset lo hi : ℕ) → life_at state.memory i ≡ freed → StandsInto stands naming state.memory v i offset lo hi → any_freed l n flow.bases.items row v.bases ≡ true
+  pub into_freed : (v : Pointers I) (i offset lo hi : ℕ) → life_at state.memory i ≡ freed → InGammaInto gamma naming state.memory v i offset lo hi → any_freed l n flow.bases.items row v.bases ≡ true
   into_freed v i offset lo hi gone h =
       let base = get_there flow.bases.items h.base (s.sane.few i h.base h.named) in
       let few = shaped.few in
@@ -57,9 +57,9 @@ module _ {I : Type 0} {l : LatticeOf I} {n : IntegersOf I} {stands : I → ℤ �
       walk_meets (λ r. r ≡ true) (is_freed_or l n row v.bases) (λ k at r f. or_keeps r _ f) 0 flow.bases.items false h.base h.base base.0 base.1 (omega arith)
       (λ r. or_right r _ (and_from _ _ (and_from _ _ (lt-ltb _ _ (omega arith)) h.among) (base_freed i h.base base.0 gone h.named base.1)))
 
-  pub freed_shows : (x : Value I) (v : Scalar) → StandsScalar stands naming state.memory x v → points_into_freed state.memory v ≡ true → any_freed l n flow.bases.items row x.pointer.bases ≡ true
+  pub freed_shows : (x : Value I) (v : Scalar) → InGammaScalar gamma naming state.memory x v → points_into_freed state.memory v ≡ true → any_freed l n flow.bases.items row x.pointer.bases ≡ true
   freed_shows x (integer z labels) h f = cc
   freed_shows x (pointer null) h f = cc
   freed_shows x (pointer (into i offset lo hi)) h f =
       let gone = is_freed (life_at state.memory i) f in
-      into_freed x.pointer i offset lo hi gone (subst (λ z. StandsByLife stands naming state.memory x.pointer z i offset lo hi) gone h)
+      into_freed x.pointer i offset lo hi gone (subst (λ z. InGammaByLife gamma naming state.memory x.pointer z i offset lo hi) gone h)

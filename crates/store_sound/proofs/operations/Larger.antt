@@ -17,7 +17,7 @@ use Rattle.memory_model.specs.Memory.Bytes.{MachinePointer, null, into, Content,
 use Rattle.memory_model.specs.Memory.Instances.{Memory, Life, live, ended, freed, life_at}
 use Rattle.memory_model.specs.Memory.Scalars.{Scalar, integer, pointer}
 use Rattle.store_sound.specs.Concretization.SeenLabels.{as_set}
-use Rattle.store_sound.specs.Concretization.ValueMeaning.{Naming, StandsInto, StandsByLife, StandsPointer, StandsScalar, StandsContent}
+use Rattle.store_sound.specs.Concretization.ValueMeaning.{Naming, InGammaInto, InGammaByLife, InGammaPointer, InGammaScalar, InGammaContent}
 
 pub record PointerBelow {I : Type 0} (l : LatticeOf I) (x y : Pointers I) : Type 0 where
   pub bases : bases_within x.bases y.bases ≡ true
@@ -59,8 +59,8 @@ value_below l x y h =
     let c = and_parts _ _ b.1 in
     record { num = a.0; pointer = pointer_below l x.pointer y.pointer b.0; indeterminate = flag_up x.indeterminate y.indeterminate c.0; labels = c.1 }
 
-module _ {I : Type 0} {l : LatticeOf I} {n : IntegersOf I} {stands : I → ℤ → Type 0} (q : BoundLaws l n stands) (naming : Naming) (memory : Memory) where
-  into_larger : (x y : Pointers I) (i offset lo hi : ℕ) → PointerBelow l x y → StandsInto stands naming memory x i offset lo hi → StandsInto stands naming memory y i offset lo hi
+module _ {I : Type 0} {l : LatticeOf I} {n : IntegersOf I} {gamma : I → ℤ → Type 0} (q : BoundLaws l n gamma) (naming : Naming) (memory : Memory) where
+  into_larger : (x y : Pointers I) (i offset lo hi : ℕ) → PointerBelow l x y → InGammaInto gamma naming memory x i offset lo hi → InGammaInto gamma naming memory y i offset lo hi
   into_larger x y i offset lo hi b s = record {
     base = s.base;
     named = s.named;
@@ -71,20 +71,20 @@ module _ {I : Type 0} {l : LatticeOf I} {n : IntegersOf I} {stands : I → ℤ �
     whole = λ e. s.whole (b.part e);
   }
 
-  life_larger : (x y : Pointers I) (life : Life) (i offset lo hi : ℕ) → PointerBelow l x y → StandsByLife stands naming memory x life i offset lo hi → StandsByLife stands naming memory y life i offset lo hi
+  life_larger : (x y : Pointers I) (life : Life) (i offset lo hi : ℕ) → PointerBelow l x y → InGammaByLife gamma naming memory x life i offset lo hi → InGammaByLife gamma naming memory y life i offset lo hi
   life_larger x y live i offset lo hi b s = into_larger x y i offset lo hi b s
   life_larger x y ended i offset lo hi b s = b.ended s
   life_larger x y freed i offset lo hi b s = into_larger x y i offset lo hi b s
 
-  pub pointer_larger : (x y : Pointers I) (p : MachinePointer) → PointerBelow l x y → StandsPointer stands naming memory x p → StandsPointer stands naming memory y p
+  pub pointer_larger : (x y : Pointers I) (p : MachinePointer) → PointerBelow l x y → InGammaPointer gamma naming memory x p → InGammaPointer gamma naming memory y p
   pointer_larger x y null b s = b.null s
   pointer_larger x y (into i offset lo hi) b s = life_larger x y (life_at memory i) i offset lo hi b s
 
-  pub scalar_larger : (x y : Value I) (v : Scalar) → ValueBelow l x y → StandsScalar stands naming memory x v → StandsScalar stands naming memory y v
+  pub scalar_larger : (x y : Value I) (v : Scalar) → ValueBelow l x y → InGammaScalar gamma naming memory x v → InGammaScalar gamma naming memory y v
   scalar_larger x y (integer z labels) b s = (q.larger x.num y.num z b.num s.0, labels_order.transitive (as_set labels) x.labels y.labels s.1 b.labels)
   scalar_larger x y (pointer p) b s = pointer_larger x.pointer y.pointer p b.pointer s
 
-  pub content_larger : (x y : Value I) (class : Class) (content : Content) → ValueBelow l x y → StandsContent stands naming memory x class content → StandsContent stands naming memory y class content
+  pub content_larger : (x y : Value I) (class : Class) (content : Content) → ValueBelow l x y → InGammaContent gamma naming memory x class content → InGammaContent gamma naming memory y class content
   content_larger x y class indeterminate b s = b.indeterminate s
   content_larger x y class (number k labels) b s = (labels_order.transitive (as_set labels) x.labels y.labels s.0 b.labels, λ e. b.pointer.null (s.1 e))
   content_larger x y class (part p k) b s = pointer_larger x.pointer y.pointer p b.pointer s

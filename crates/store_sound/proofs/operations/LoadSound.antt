@@ -34,8 +34,8 @@ use Rattle.memory_model.specs.Memory.Tags.{fits_tag, fit_from, tag_of, tag_at}
 use Rattle.store_sound.specs.Concretization.Places.{IsPlaceOf, IsLeafPlace, OwnedByLeaf, OwnedByClass, IsClassPlace}
 use Rattle.store_sound.specs.Concretization.SoundMemory.{IsPointerIn, IsWithin, IsInstanceOf}
 use Rattle.memory_model.specs.Memory.Scalars.{Scalar, integer, pointer}
-use Rattle.store_sound.specs.Concretization.ValueMeaning.{Naming, StandsInto, StandsByLife, StandsPointer, StandsScalar, StandsState}
-use Rattle.store_sound.specs.Concretization.RowMeaning.{MachineState, IsLiveOf, StandsCell, StandsLeaf, StandsClass, StandsFor}
+use Rattle.store_sound.specs.Concretization.ValueMeaning.{Naming, InGammaInto, InGammaByLife, InGammaPointer, InGammaScalar, InGammaState}
+use Rattle.store_sound.specs.Concretization.RowMeaning.{MachineState, IsLiveOf, InGammaCell, InGammaLeaf, InGammaClass, InGamma}
 use Rattle.memory_model.specs.Effects.Worlds.{World, goes, stopped_by}
 use Rattle.memory_model.specs.Effects.ScalarBytes.{region}
 use Rattle.memory_model.specs.Effects.Touches.{is_allocated, storage_at, storage_of}
@@ -84,12 +84,12 @@ pub record IsRead (model : Model) (memory : Memory) (class : Class) (i offset : 
   pub inside : offset + class_bytes model class ≤ length (bytes_at memory i)
   pub seen : fit_from (is_allocated (storage_at memory i)) class 0 (region (bytes_at memory i) offset (class_bytes model class)) ≡ true
 
-module _ {I : Type 0} {l : LatticeOf I} {n : IntegersOf I} {stands : I → ℤ → Type 0} (o : OrderLaws l) (q : BoundLaws l n stands) (flow : Flow) (shaped : AreShaped flow.bases.items) (naming : Naming) (row : List (Cell I)) (state : MachineState) (s : StandsFor l n stands flow naming row state) where
-  module _ {P : Value I → Type 0} (up : (x y : Value I) → (value_lattice l).leq x y ≡ true → P x → P y) (access : Access) (i offset : ℕ) (from : access.window.lo ≤ offset) (to : offset ≤ access.window.hi) (read : IsRead flow.model state.memory access.class i offset) (b : ℕ) (base : BaseInfo) (at : slice_get flow.bases.items b ≡ Some base) (named : naming i ≡ Some b) (cells : (signed : Bool) (Place Owns : ℕ → ℕ → Type 0) (v : Value I) → StandsCell stands flow naming state.memory b access.class signed Place Owns v → Place (length (bytes_at state.memory i)) offset → ((k : ℕ) → k < class_bytes flow.model access.class → Owns (offset + k) k) → P (as_read n flow.model v access.class signed access.signed)) where
+module _ {I : Type 0} {l : LatticeOf I} {n : IntegersOf I} {gamma : I → ℤ → Type 0} (o : OrderLaws l) (q : BoundLaws l n gamma) (flow : Flow) (shaped : AreShaped flow.bases.items) (naming : Naming) (row : List (Cell I)) (state : MachineState) (s : InGamma l n gamma flow naming row state) where
+  module _ {P : Value I → Type 0} (up : (x y : Value I) → (value_lattice l).leq x y ≡ true → P x → P y) (access : Access) (i offset : ℕ) (from : access.window.lo ≤ offset) (to : offset ≤ access.window.hi) (read : IsRead flow.model state.memory access.class i offset) (b : ℕ) (base : BaseInfo) (at : slice_get flow.bases.items b ≡ Some base) (named : naming i ≡ Some b) (cells : (signed : Bool) (Place Owns : ℕ → ℕ → Type 0) (v : Value I) → InGammaCell gamma flow naming state.memory b access.class signed Place Owns v → Place (length (bytes_at state.memory i)) offset → ((k : ℕ) → k < class_bytes flow.model access.class → Owns (offset + k) k) → P (as_read n flow.model v access.class signed access.signed)) where
     pub at_leaf : IsLeafPlace base.shape.cells access.class offset → Gives P (loads.load_leaves l n flow.model base row access)
     at_leaf place =
-        let x : StandsLeaf stands flow naming state.memory b place.leaf (value_at l n row (leaf_position base place.at)) = s.leaves b place.at base place.leaf at place.among in
-        let y = subst (λ k. StandsCell stands flow naming state.memory b k place.leaf.signed (λ size z. IsPlaceOf place.leaf z) (OwnedByLeaf flow.model place.leaf) (value_at l n row (leaf_position base place.at))) place.same x in
+        let x : InGammaLeaf gamma flow naming state.memory b place.leaf (value_at l n row (leaf_position base place.at)) = s.leaves b place.at base place.leaf at place.among in
+        let y = subst (λ k. InGammaCell gamma flow naming state.memory b k place.leaf.signed (λ size z. IsPlaceOf place.leaf z) (OwnedByLeaf flow.model place.leaf) (value_at l n row (leaf_position base place.at))) place.same x in
         leaves_give o n up flow.model row access offset from to base (shaped.each b base at) place
         (cells place.leaf.signed (λ size z. IsPlaceOf place.leaf z) (OwnedByLeaf flow.model place.leaf) (value_at l n row (leaf_position base place.at)) y place.place
         (λ k h. record { start = offset; place = place.place; there = refl; small = subst (λ d. k < class_bytes flow.model d) (sym place.same) h }))
@@ -99,7 +99,7 @@ module _ {I : Type 0} {l : LatticeOf I} {n : IntegersOf I} {stands : I → ℤ �
         let shape = shaped.each b base at in
         let f : IsLeafPlace base.shape.cells access.class offset → ⊥ = λ p. uncounted_place base.shape.cells access.class offset (shape.single heap) none p in
         let x = s.classes b (class_number access.class) base at heap (class_small access.class) in
-        let y = subst (λ k. StandsClass stands flow naming state.memory b base k (value_at l n row (class_position base (class_number access.class)))) (class_number_back access.class) x in
+        let y = subst (λ k. InGammaClass gamma flow naming state.memory b base k (value_at l n row (class_position base (class_number access.class)))) (class_number_back access.class) x in
         class_gives o n up flow.model row access offset from to base shape heap f none
         (cells true (IsClassPlace flow.model base.shape.cells access.class) (OwnedByClass flow.model base.shape.cells access.class) (value_at l n row (class_position base (class_number access.class))) y (record { fits = read.inside; no_leaf = f })
         (λ k h. record { small = h; no_leaf = λ start e p. f (subst (IsLeafPlace base.shape.cells access.class) (let d : start ≡ offset = omega arith in d) p) }))
@@ -132,7 +132,7 @@ module _ {I : Type 0} {l : LatticeOf I} {n : IntegersOf I} {stands : I → ℤ �
     pub may_live : may_be_live l n base row ≡ true
     may_live = live_if base.shape.heap _ (λ e.
         let x = s.states b i base at e named in
-        let y = subst (λ z. StandsState stands naming state.memory (state_at l n row (state_position base)) z (length (bytes_at state.memory i))) read.alive x in
+        let y = subst (λ z. InGammaState gamma naming state.memory (state_at l n row (state_position base)) z (length (bytes_at state.memory i))) read.alive x in
         y.1)
 
     in_base : same_class access.class Char ≡ false → (h : Bool) → base.shape.heap ≡ h → Gives P (load_own l n flow.model base row access)
@@ -160,22 +160,22 @@ table l n flow row p kind = loads.load l n flow.model flow.bases.items row p (cl
 abbrev pub wide : declared.Scalar → Type 0
 wide kind = same_class (class_in kind) Char ≡ false
 
-module _ {I : Type 0} {l : LatticeOf I} {n : IntegersOf I} {stands : I → ℤ → Type 0} (o : OrderLaws l) (q : BoundLaws l n stands) (c : SoundLaws l n stands) (flow : Flow) (shaped : AreShaped flow.bases.items) (naming : Naming) (row : List (Cell I)) (w : World) (temps : ℕ → Option Scalar) (entered : ℕ → Option ℕ) (s : StandsFor l n stands flow naming row (state_in w temps entered)) where
-  pub into_live : (v : Pointers I) (i offset lo hi : ℕ) → life_at w.memory i ≡ live → StandsPointer stands naming w.memory v (into i offset lo hi) → StandsInto stands naming w.memory v i offset lo hi
-  into_live v i offset lo hi e h = subst (λ z. StandsByLife stands naming w.memory v z i offset lo hi) e h
+module _ {I : Type 0} {l : LatticeOf I} {n : IntegersOf I} {gamma : I → ℤ → Type 0} (o : OrderLaws l) (q : BoundLaws l n gamma) (c : SoundLaws l n gamma) (flow : Flow) (shaped : AreShaped flow.bases.items) (naming : Naming) (row : List (Cell I)) (w : World) (temps : ℕ → Option Scalar) (entered : ℕ → Option ℕ) (s : InGamma l n gamma flow naming row (state_in w temps entered)) where
+  pub into_live : (v : Pointers I) (i offset lo hi : ℕ) → life_at w.memory i ≡ live → InGammaPointer gamma naming w.memory v (into i offset lo hi) → InGammaInto gamma naming w.memory v i offset lo hi
+  into_live v i offset lo hi e h = subst (λ z. InGammaByLife gamma naming w.memory v z i offset lo hi) e h
 
   pub relabelled : {P : Value I → Type 0} (class : Class) (x : Option (Value I)) → ((v : Value I) → P v → P (record v { labels = labels_of class v.labels })) → Gives P x → Gives P (loaded class x)
   relabelled class None f g = let e = g.is in cc
   relabelled {P} class (Some v) f g = record { value = record v { labels = labels_of class v.labels }; is = refl; good = f v (subst P (cc g.is) g.good) }
 
   -- what holds of what each cell of the place gives holds of what the load gives
-  loads_give : {P : Value I → Type 0} (up : (x y : Value I) → (value_lattice l).leq x y ≡ true → P x → P y) (p : Pointers I) (at : MachinePointer) (kind : declared.Scalar) (cs : List Content) → wide kind → ((v : Value I) → P v → P (record v { labels = labels_of (class_in kind) v.labels })) → StandsPointer stands naming w.memory p at → IsPointerIn w.memory at → HasRead flow.model kind w at cs
-      → ((i offset b : ℕ) (signed : Bool) (Place Owns : ℕ → ℕ → Type 0) (v : Value I) → Sees flow.model w.memory i offset (class_in kind) cs → IsLiveOf naming w.memory b i → StandsCell stands flow naming w.memory b (class_in kind) signed Place Owns v → Place (length (bytes_at w.memory i)) offset → ((k : ℕ) → k < class_bytes flow.model (class_in kind) → Owns (offset + k) k) → P (as_read n flow.model v (class_in kind) signed (signed_in kind)))
+  loads_give : {P : Value I → Type 0} (up : (x y : Value I) → (value_lattice l).leq x y ≡ true → P x → P y) (p : Pointers I) (at : MachinePointer) (kind : declared.Scalar) (cs : List Content) → wide kind → ((v : Value I) → P v → P (record v { labels = labels_of (class_in kind) v.labels })) → InGammaPointer gamma naming w.memory p at → IsPointerIn w.memory at → HasRead flow.model kind w at cs
+      → ((i offset b : ℕ) (signed : Bool) (Place Owns : ℕ → ℕ → Type 0) (v : Value I) → Sees flow.model w.memory i offset (class_in kind) cs → IsLiveOf naming w.memory b i → InGammaCell gamma flow naming w.memory b (class_in kind) signed Place Owns v → Place (length (bytes_at w.memory i)) offset → ((k : ℕ) → k < class_bytes flow.model (class_in kind) → Owns (offset + k) k) → P (as_read n flow.model v (class_in kind) signed (signed_in kind)))
       → Gives P (table l n flow row p kind)
   unfolding abstract_load
   loads_give {P} up p at kind cs small relabel st inside r cells =
       let size = class_bytes flow.model (class_in kind) in
-      let t = into_live p r.i r.offset r.lo r.hi r.alive (subst (StandsPointer stands naming w.memory p) r.pointer st) in
+      let t = into_live p r.i r.offset r.lo r.hi r.alive (subst (InGammaPointer gamma naming w.memory p) r.pointer st) in
       let u : IsWithin w.memory r.i r.offset r.lo r.hi = subst (IsPointerIn w.memory) r.pointer inside in
       let d = u.within in
       let m = s.sane.small r.i in
@@ -191,20 +191,20 @@ module _ {I : Type 0} {l : LatticeOf I} {n : IntegersOf I} {stands : I → ℤ �
       (λ signed Place Owns v cell place owns. cells r.i r.offset t.base signed Place Owns v sees (record { named = t.named; alive = r.alive }) cell place owns) small p.bases t.among in
       rw z.is (relabelled (class_in kind) _ relabel g)
 
-  pub relabel_scalar : (kind : declared.Scalar) (x : Value I) (v : Scalar) (cs : List Content) → scalar_in kind cs ≡ Some v → StandsScalar stands naming w.memory x v → StandsScalar stands naming w.memory (record x { labels = labels_of (class_in kind) x.labels }) v
+  pub relabel_scalar : (kind : declared.Scalar) (x : Value I) (v : Scalar) (cs : List Content) → scalar_in kind cs ≡ Some v → InGammaScalar gamma naming w.memory x v → InGammaScalar gamma naming w.memory (record x { labels = labels_of (class_in kind) x.labels }) v
   relabel_scalar (of.Int k) x (integer z ls) cs h g = (g.0, subst (λ b. labels_leq (as_set ls) (cond b no_labels x.labels) ≡ true) (sym (integer_class k)) g.1)
   relabel_scalar (of.Int k) x (pointer p) cs h g = g
   relabel_scalar of.Pointer x (integer z ls) cs h g = let r = scalar_pointer_is (pointer_in cs) (integer z ls) h in let e = r.2 in cc
   relabel_scalar of.Pointer x (pointer p) cs h g = g
 
-  pub load_stands : (p : Pointers I) (at : MachinePointer) (kind : declared.Scalar) (v : Scalar) (u : World) → wide kind → StandsPointer stands naming w.memory p at → IsPointerIn w.memory at → load flow.model kind (pointer at) w ≡ goes v u → Gives (λ x. StandsScalar stands naming w.memory x v) (table l n flow row p kind)
+  pub load_stands : (p : Pointers I) (at : MachinePointer) (kind : declared.Scalar) (v : Scalar) (u : World) → wide kind → InGammaPointer gamma naming w.memory p at → IsPointerIn w.memory at → load flow.model kind (pointer at) w ≡ goes v u → Gives (λ x. InGammaScalar gamma naming w.memory x v) (table l n flow row p kind)
   load_stands p at kind v u small st inside h =
       let r = load_goes flow.model kind at w u v h in
       loads_give (λ x y b. scalar_larger q naming w.memory x y v (value_below l x y b)) p at kind r.0 small
       (λ x g. relabel_scalar kind x v r.0 r.3 g) st inside r.1
       (λ i offset b signed Place Owns x sees alive cell place owns. scalar_stands c flow naming w.memory s.sane b (class_in kind) signed Place Owns x cell i offset alive place owns r.0 sees kind v refl r.3)
 
-  pub blank_flagged : (p : Pointers I) (at : MachinePointer) (kind : declared.Scalar) → wide kind → StandsPointer stands naming w.memory p at → IsPointerIn w.memory at → load flow.model kind (pointer at) w ≡ stopped_by w rule.Uninitref → Gives (λ x. x.indeterminate ≡ true) (table l n flow row p kind)
+  pub blank_flagged : (p : Pointers I) (at : MachinePointer) (kind : declared.Scalar) → wide kind → InGammaPointer gamma naming w.memory p at → IsPointerIn w.memory at → load flow.model kind (pointer at) w ≡ stopped_by w rule.Uninitref → Gives (λ x. x.indeterminate ≡ true) (table l n flow row p kind)
   blank_flagged p at kind small st inside h =
       let r = load_blank flow.model kind at w h in
       loads_give (λ x y b. (value_below l x y b).indeterminate) p at kind r.0 small

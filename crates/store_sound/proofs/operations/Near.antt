@@ -20,7 +20,7 @@ pub record IsNearValue {I : Type 0} (l : LatticeOf I) (n : IntegersOf I) (v : Va
   pub rel : near_number l n v.pointer.rel ≡ v.pointer.rel
   pub len : near_number l n v.pointer.len ≡ v.pointer.len
 
-module _ {I : Type 0} {l : LatticeOf I} {n : IntegersOf I} {stands : I → ℤ → Type 0} (o : OrderLaws l) (q : BoundLaws l n stands) where
+module _ {I : Type 0} {l : LatticeOf I} {n : IntegersOf I} {gamma : I → ℤ → Type 0} (o : OrderLaws l) (q : BoundLaws l n gamma) where
   pub near_is : (v : Value I) → IsNearValue l n v → near_value l n v ≡ v
   near_is v h = λ i. record v { num = h.num i; pointer = record (v.pointer) { lo = h.lo i; rel = h.rel i; len = h.len i } }
 

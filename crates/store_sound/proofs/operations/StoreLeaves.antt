@@ -26,8 +26,8 @@ use Rattle.store.specs.Stores.{stored_value, cell_value, is_strong, store_all}
 use Rattle.memory_model.specs.Memory.Instances.{Memory, live, ended, life_at}
 use Rattle.store_sound.specs.Concretization.Places.{IsPlaceOf, IsLeafPlace, OwnedByLeaf, OwnedByClass, IsClassPlace}
 use Rattle.memory_model.specs.Memory.Scalars.{Scalar}
-use Rattle.store_sound.specs.Concretization.ValueMeaning.{Naming, StandsScalar}
-use Rattle.store_sound.specs.Concretization.RowMeaning.{IsLiveOf, StandsCell, StandsLeaf, StandsClass, MachineState, StandsFor}
+use Rattle.store_sound.specs.Concretization.ValueMeaning.{Naming, InGammaScalar}
+use Rattle.store_sound.specs.Concretization.RowMeaning.{IsLiveOf, InGammaCell, InGammaLeaf, InGammaClass, MachineState, InGamma}
 use Rattle.memory_model.specs.Effects.Accesses.{class_in}
 use Rattle.memory_model.specs.Effects.ScalarBytes.{scalar_bytes}
 use Rattle.cc_base.specs.IntegerLaws.{SoundLaws}
@@ -67,8 +67,8 @@ pub record IsAlone (bases : List BaseInfo) (set : Bases) (b : ℕ) : Type 0 wher
 pub not_older : (kind : _) → is_single_kind kind ≡ true → kind ≡ Older → ⊥
 not_older kind h e = let f : is_single_kind Older ≡ true = subst (λ k. is_single_kind k ≡ true) e h in cc
 
-module _ {I : Type 0} {l : LatticeOf I} {n : IntegersOf I} {stands : I → ℤ → Type 0} (o : OrderLaws l) (q : BoundLaws l n stands) (c : SoundLaws l n stands) (r : RangeLaws l n) (flow : Flow) (shaped : AreShaped flow.bases.items) (behind : ℕ) (laid : AreLaid flow.bases.items behind) (naming : Naming) (row : List (Cell I)) (long : behind ≤ length row) (state : MachineState) (s : StandsFor l n stands flow naming row state)
-    {new : Memory} {i offset : ℕ} (kind : declared.Scalar) (wide : same_class (class_in kind) Char ≡ false) (v : Scalar) (of_kind : IsOfKind kind v) (x : Value I) (near : IsNearValue l n x) (st : StandsScalar stands naming state.memory x v) (u : IsStore state.memory new i offset (class_in kind) (class_bytes flow.model (class_in kind)) (scalar_bytes (class_bytes flow.model (class_in kind)) v))
+module _ {I : Type 0} {l : LatticeOf I} {n : IntegersOf I} {gamma : I → ℤ → Type 0} (o : OrderLaws l) (q : BoundLaws l n gamma) (c : SoundLaws l n gamma) (r : RangeLaws l n) (flow : Flow) (shaped : AreShaped flow.bases.items) (behind : ℕ) (laid : AreLaid flow.bases.items behind) (naming : Naming) (row : List (Cell I)) (long : behind ≤ length row) (state : MachineState) (s : InGamma l n gamma flow naming row state)
+    {new : Memory} {i offset : ℕ} (kind : declared.Scalar) (wide : same_class (class_in kind) Char ≡ false) (v : Scalar) (of_kind : IsOfKind kind v) (x : Value I) (near : IsNearValue l n x) (st : InGammaScalar gamma naming state.memory x v) (u : IsStore state.memory new i offset (class_in kind) (class_bytes flow.model (class_in kind)) (scalar_bytes (class_bytes flow.model (class_in kind)) v))
     (b : ℕ) (base : BaseInfo) (at : slice_get flow.bases.items b ≡ Some base) (named : naming i ≡ Some b) (alive : life_at state.memory i ≡ live) (window : Window) (from : window.lo ≤ offset) (to : offset ≤ window.hi) (set : Bases) (has : has_base set b ≡ true) (alone : Bool) (only : alone ≡ true → IsAlone flow.bases.items set b) where
   abbrev the_write : Write I
   the_write = record { access = record { class = class_in kind; signed = signed_in kind; window = window }; value = stored_value (class_in kind) x; alone = alone }
@@ -126,18 +126,18 @@ module _ {I : Type 0} {l : LatticeOf I} {n : IntegersOf I} {stands : I → ℤ �
       let p = class_is other cn (omega arith) (omega arith) in
       omega arith
 
-  pub leaf_stands : (d j : ℕ) (other : BaseInfo) (leaf : Leaf) → slice_get flow.bases.items d ≡ Some other → slice_get other.shape.cells j ≡ Some leaf → StandsLeaf stands flow naming new d leaf (value_at l n (store_all l n flow.model flow.bases.items set the_write row) (leaf_position other j))
+  pub leaf_stands : (d j : ℕ) (other : BaseInfo) (leaf : Leaf) → slice_get flow.bases.items d ≡ Some other → slice_get other.shape.cells j ≡ Some leaf → InGammaLeaf gamma flow naming new d leaf (value_at l n (store_all l n flow.model flow.bases.items set the_write row) (leaf_position other j))
   leaf_stands d j other leaf e f = elim (cases_Bool (has_base set d && is_selected leaf (class_in kind) window)) [
-    | inr miss ↦ subst (StandsLeaf stands flow naming new d leaf) (sym (leaf_value l n flow.model flow.bases.items behind laid set the_write (class_small (class_in kind)) wide row d other j leaf e f (in_row d other j leaf e f) ∙ rw miss refl))
+    | inr miss ↦ subst (InGammaLeaf gamma flow naming new d leaf) (sym (leaf_value l n flow.model flow.bases.items behind laid set the_write (class_small (class_in kind)) wide row d other j leaf e f (in_row d other j leaf e f) ∙ rw miss refl))
         (cell_apart o q c flow naming kind v of_kind x st u d leaf.class leaf.signed (λ size z. IsPlaceOf leaf z) (OwnedByLeaf flow.model leaf) (value_at l n row (leaf_position other j)) (s.leaves d j other leaf e f)
         (λ h k p. leaf_missed d other j leaf e f miss h k p)
         (λ h k z p. leaf_missed d other j leaf e f miss h k (let w = p.there in subst (IsPlaceOf leaf) (omega arith) p.place)))
     | inl hit ↦ (let p = and_parts (has_base set d) (is_selected leaf (class_in kind) window) hit in
         let k : leaf.class ≡ class_in kind = same_class_is _ _ (and_parts (same_class leaf.class (class_in kind)) (has_place_in leaf window) p.1).0 in
-        subst (StandsLeaf stands flow naming new d leaf) (sym (leaf_value l n flow.model flow.bases.items behind laid set the_write (class_small (class_in kind)) wide row d other j leaf e f (in_row d other j leaf e f) ∙ rw hit refl))
-        (subst (λ z. StandsCell stands flow naming new d z leaf.signed (λ size a. IsPlaceOf leaf a) (OwnedByLeaf flow.model leaf) (written l n flow.model (value_at l n row (leaf_position other j)) (cell_value n flow.model the_write leaf.signed) (is_strong leaf the_write))) (sym k)
+        subst (InGammaLeaf gamma flow naming new d leaf) (sym (leaf_value l n flow.model flow.bases.items behind laid set the_write (class_small (class_in kind)) wide row d other j leaf e f (in_row d other j leaf e f) ∙ rw hit refl))
+        (subst (λ z. InGammaCell gamma flow naming new d z leaf.signed (λ size a. IsPlaceOf leaf a) (OwnedByLeaf flow.model leaf) (written l n flow.model (value_at l n row (leaf_position other j)) (cell_value n flow.model the_write leaf.signed) (is_strong leaf the_write))) (sym k)
         (cell_written o q c flow naming kind v of_kind x st u r near row d (leaf_position other j) leaf.signed (is_strong leaf the_write) (λ size a. IsPlaceOf leaf a) (OwnedByLeaf flow.model leaf)
-        (subst (λ z. StandsCell stands flow naming state.memory d z leaf.signed (λ size a. IsPlaceOf leaf a) (OwnedByLeaf flow.model leaf) (value_at l n row (leaf_position other j))) k (s.leaves d j other leaf e f))
+        (subst (λ z. InGammaCell gamma flow naming state.memory d z leaf.signed (λ size a. IsPlaceOf leaf a) (OwnedByLeaf flow.model leaf) (value_at l n row (leaf_position other j))) k (s.leaves d j other leaf e f))
         (λ h i2 a al pl. let t = strong_place leaf p.1 h in let w = place_is leaf a t.0 pl in let y = t.1 in (strong_instance d other e p.0 (and_parts alone (window_is_one window && (leaf.count == 1)) h).0 i2 al, omega arith))
         (λ h i2 a z al ow. let t = strong_place leaf p.1 h in let w = place_is leaf ow.start t.0 ow.place in let y = t.1 in let g = ow.there in let sm : z < class_bytes flow.model (class_in kind) = subst (λ cl. z < class_bytes flow.model cl) k ow.small in
         (strong_instance d other e p.0 (and_parts alone (window_is_one window && (leaf.count == 1)) h).0 i2 al, omega arith, omega arith)))))
@@ -153,25 +153,25 @@ module _ {I : Type 0} {l : LatticeOf I} {n : IntegersOf I} {stands : I → ℤ �
       let t : has_stray other.shape.cells (class_in kind) window ≡ true = is_stray other.shape.cells (class_in kind) (shape.apart heap (class_in kind)) window offset (shape.single heap) from to w in
       true≢false (sym (and_from _ _ g (and_from _ _ heap t)) ∙ miss)
 
-  own_class_stands : (d : ℕ) (other : BaseInfo) → slice_get flow.bases.items d ≡ Some other → other.shape.heap ≡ true → StandsClass stands flow naming state.memory d other (class_in kind) (value_at l n row (class_position other (class_number (class_in kind)))) → StandsClass stands flow naming new d other (class_in kind) (value_at l n (store_all l n flow.model flow.bases.items set the_write row) (class_position other (class_number (class_in kind))))
+  own_class_stands : (d : ℕ) (other : BaseInfo) → slice_get flow.bases.items d ≡ Some other → other.shape.heap ≡ true → InGammaClass gamma flow naming state.memory d other (class_in kind) (value_at l n row (class_position other (class_number (class_in kind)))) → InGammaClass gamma flow naming new d other (class_in kind) (value_at l n (store_all l n flow.model flow.bases.items set the_write row) (class_position other (class_number (class_in kind))))
   own_class_stands d other e heap old = elim (cases_Bool (has_base set d && reaches_class other (the_write).access)) [
-    | inr miss ↦ subst (StandsClass stands flow naming new d other (class_in kind)) (sym (class_value l n flow.model flow.bases.items behind laid set the_write (class_small (class_in kind)) wide row d other e heap (class_in_row d other e heap (class_number (class_in kind)) (class_small (class_in kind))) ∙ rw miss refl))
+    | inr miss ↦ subst (InGammaClass gamma flow naming new d other (class_in kind)) (sym (class_value l n flow.model flow.bases.items behind laid set the_write (class_small (class_in kind)) wide row d other e heap (class_in_row d other e heap (class_number (class_in kind)) (class_small (class_in kind))) ∙ rw miss refl))
         (cell_apart o q c flow naming kind v of_kind x st u d (class_in kind) true (IsClassPlace flow.model other.shape.cells (class_in kind)) (OwnedByClass flow.model other.shape.cells (class_in kind)) (value_at l n row (class_position other (class_number (class_in kind)))) old
         (λ h k p. class_missed d other e heap miss h p.no_leaf)
         (λ h k z p. class_missed d other e heap miss h (p.no_leaf offset refl)))
-    | inl hit ↦ subst (StandsClass stands flow naming new d other (class_in kind)) (sym (class_value l n flow.model flow.bases.items behind laid set the_write (class_small (class_in kind)) wide row d other e heap (class_in_row d other e heap (class_number (class_in kind)) (class_small (class_in kind))) ∙ rw hit refl))
+    | inl hit ↦ subst (InGammaClass gamma flow naming new d other (class_in kind)) (sym (class_value l n flow.model flow.bases.items behind laid set the_write (class_small (class_in kind)) wide row d other e heap (class_in_row d other e heap (class_number (class_in kind)) (class_small (class_in kind))) ∙ rw hit refl))
         (cell_written o q c flow naming kind v of_kind x st u r near row d (class_position other (class_number (class_in kind))) true false (IsClassPlace flow.model other.shape.cells (class_in kind)) (OwnedByClass flow.model other.shape.cells (class_in kind)) old (λ h. cc) (λ h. cc))
   ]
 
-  pub class_stands : (d cn : ℕ) (other : BaseInfo) → slice_get flow.bases.items d ≡ Some other → other.shape.heap ≡ true → cn < 6 → StandsClass stands flow naming new d other (class_at cn) (value_at l n (store_all l n flow.model flow.bases.items set the_write row) (class_position other cn))
+  pub class_stands : (d cn : ℕ) (other : BaseInfo) → slice_get flow.bases.items d ≡ Some other → other.shape.heap ≡ true → cn < 6 → InGammaClass gamma flow naming new d other (class_at cn) (value_at l n (store_all l n flow.model flow.bases.items set the_write row) (class_position other cn))
   class_stands d cn other e heap h = elim (cases_eq cn (class_number (class_in kind))) [
     | inl f ↦ (let k : class_at cn ≡ class_in kind = ap class_at f ∙ class_number_back (class_in kind) in
-        let a : StandsClass stands flow naming state.memory d other (class_in kind) (value_at l n row (class_position other (class_number (class_in kind)))) =
-        subst (λ z. StandsClass stands flow naming state.memory d other (class_in kind) (value_at l n row (class_position other z))) f (subst (λ z. StandsClass stands flow naming state.memory d other z (value_at l n row (class_position other cn))) k (s.classes d cn other e heap h)) in
-        subst (λ z. StandsClass stands flow naming new d other z (value_at l n (store_all l n flow.model flow.bases.items set the_write row) (class_position other cn))) (sym k)
-        (subst (λ z. StandsClass stands flow naming new d other (class_in kind) (value_at l n (store_all l n flow.model flow.bases.items set the_write row) (class_position other z))) (sym f) (own_class_stands d other e heap a)))
+        let a : InGammaClass gamma flow naming state.memory d other (class_in kind) (value_at l n row (class_position other (class_number (class_in kind)))) =
+        subst (λ z. InGammaClass gamma flow naming state.memory d other (class_in kind) (value_at l n row (class_position other z))) f (subst (λ z. InGammaClass gamma flow naming state.memory d other z (value_at l n row (class_position other cn))) k (s.classes d cn other e heap h)) in
+        subst (λ z. InGammaClass gamma flow naming new d other z (value_at l n (store_all l n flow.model flow.bases.items set the_write row) (class_position other cn))) (sym k)
+        (subst (λ z. InGammaClass gamma flow naming new d other (class_in kind) (value_at l n (store_all l n flow.model flow.bases.items set the_write row) (class_position other z))) (sym f) (own_class_stands d other e heap a)))
     | inr f ↦ (let ne : class_at cn ≡ class_in kind → ⊥ = λ k. f (sym (number_at cn h) ∙ ap class_number k) in
-        subst (StandsClass stands flow naming new d other (class_at cn)) (sym (same_value l n row _ (class_position other cn) (other_class_after l n flow.model flow.bases.items behind laid set the_write (class_small (class_in kind)) wide d other cn e heap h f row)))
+        subst (InGammaClass gamma flow naming new d other (class_at cn)) (sym (same_value l n row _ (class_position other cn) (other_class_after l n flow.model flow.bases.items behind laid set the_write (class_small (class_in kind)) wide d other cn e heap h f row)))
         (cell_apart o q c flow naming kind v of_kind x st u d (class_at cn) true (IsClassPlace flow.model other.shape.cells (class_at cn)) (OwnedByClass flow.model other.shape.cells (class_at cn)) (value_at l n row (class_position other cn)) (s.classes d cn other e heap h)
         (λ a k p. ne k) (λ a k z p. ne k)))
   ]

@@ -24,7 +24,7 @@ use Rattle.store.specs.Stores.{has_own_place, has_place, has_place_or, any_place
 use Rattle.memory_model.specs.Memory.Bytes.{MachinePointer, null, into}
 use Rattle.memory_model.specs.Memory.Instances.{Memory, Life, live, ended, freed, life_at}
 use Rattle.memory_model.specs.Memory.Scalars.{Scalar, integer, pointer}
-use Rattle.store_sound.specs.Concretization.ValueMeaning.{Naming, StandsInto, StandsByLife, StandsPointer, StandsScalar}
+use Rattle.store_sound.specs.Concretization.ValueMeaning.{Naming, InGammaInto, InGammaByLife, InGammaPointer, InGammaScalar}
 use Rattle.memory_model.specs.Effects.Accesses.{class_in}
 use Rattle.store_sound.specs.Operations.Scalars.{IsOfKind}
 use Rattle.store_sound.proofs.operations.Walks.{walk_meets}
@@ -81,23 +81,23 @@ nothing_false true e h = refl
 nothing_false false true h = refl
 nothing_false false false h = cc
 
-module _ {I : Type 0} {l : LatticeOf I} {n : IntegersOf I} {stands : I → ℤ → Type 0} (q : BoundLaws l n stands) (naming : Naming) (memory : Memory) where
-  into_any : (v : Pointers I) (i offset lo hi : ℕ) → StandsInto stands naming memory v i offset lo hi → (is_any v || v.ended) ≡ true
+module _ {I : Type 0} {l : LatticeOf I} {n : IntegersOf I} {gamma : I → ℤ → Type 0} (q : BoundLaws l n gamma) (naming : Naming) (memory : Memory) where
+  into_any : (v : Pointers I) (i offset lo hi : ℕ) → InGammaInto gamma naming memory v i offset lo hi → (is_any v || v.ended) ≡ true
   into_any v i offset lo hi s = rw (not_empty v.bases s.base s.among) refl
 
-  life_any : (v : Pointers I) (life : Life) (i offset lo hi : ℕ) → StandsByLife stands naming memory v life i offset lo hi → (is_any v || v.ended) ≡ true
+  life_any : (v : Pointers I) (life : Life) (i offset lo hi : ℕ) → InGammaByLife gamma naming memory v life i offset lo hi → (is_any v || v.ended) ≡ true
   life_any v live i offset lo hi s = into_any v i offset lo hi s
   life_any v freed i offset lo hi s = into_any v i offset lo hi s
   life_any v ended i offset lo hi s = or_right _ _ s
 
-  pointer_any : (v : Pointers I) (p : MachinePointer) → StandsPointer stands naming memory v p → (is_any v || v.ended) ≡ true
+  pointer_any : (v : Pointers I) (p : MachinePointer) → InGammaPointer gamma naming memory v p → (is_any v || v.ended) ≡ true
   pointer_any v null s = or_left _ _ (or_right _ _ s)
   pointer_any v (into i offset lo hi) s = life_any v (life_at memory i) i offset lo hi s
 
-  bounded : (x : I) (z : ℤ) → stands x z → is_none (n.bounds x) ≡ false
+  bounded : (x : I) (z : ℤ) → gamma x z → is_none (n.bounds x) ≡ false
   bounded x z h = let r = q.inside x z h in rw r.2 refl
 
-  pub is_something : (kind : declared.Scalar) (v : Scalar) (x : Value I) → IsOfKind kind v → StandsScalar stands naming memory x v → is_nothing n (class_in kind) x ≡ false
+  pub is_something : (kind : declared.Scalar) (v : Scalar) (x : Value I) → IsOfKind kind v → InGammaScalar gamma naming memory x v → is_nothing n (class_in kind) x ≡ false
   is_something (of.Int kind) (integer z labels) x k s = rw (integer_class kind) (bounded x.num z s.0)
   is_something (of.Int kind) (pointer p) x k s = absurd (true≢false (sym k))
   is_something of.Pointer (integer z labels) x k s = absurd (true≢false (sym k))

@@ -26,8 +26,8 @@ use Rattle.store.specs.Stores.{stored_value, store_all, reached_of, any_place, h
 use Rattle.memory_model.specs.Memory.Bytes.{Content, MachinePointer, null, into, Tag, Byte}
 use Rattle.memory_model.specs.Memory.Instances.{Memory, bytes_at, live, ended, life_at, Life, freed, bytes_of, byte_at}
 use Rattle.memory_model.specs.Memory.Scalars.{Scalar, integer, pointer}
-use Rattle.store_sound.specs.Concretization.ValueMeaning.{Naming, StandsScalar, StandsInto, StandsByLife, StandsPointer, StandsState, StandsZero}
-use Rattle.store_sound.specs.Concretization.RowMeaning.{IsLiveOf, MachineState, StandsFor, array_of, array_bytes}
+use Rattle.store_sound.specs.Concretization.ValueMeaning.{Naming, InGammaScalar, InGammaInto, InGammaByLife, InGammaPointer, InGammaState, InGammaZero}
+use Rattle.store_sound.specs.Concretization.RowMeaning.{IsLiveOf, MachineState, InGamma, array_of, array_bytes}
 use Rattle.memory_model.specs.Effects.Accesses.{class_in, store}
 use Rattle.memory_model.specs.Effects.ScalarBytes.{scalar_bytes}
 use Rattle.cc_base.specs.IntegerLaws.{SoundLaws}
@@ -75,21 +75,21 @@ named_moves naming old new f null h = h
 named_moves naming old new f (into i offset lo hi) h = λ e. h (λ g. e (f i ∙ g))
 
 -- a pointer that is stood for points into an instance that has a base or has ended
-life_named : {I : Type 0} (stands : I → ℤ → Type 0) (naming : Naming) (memory : Memory) (v : Pointers I) (life : Life) (i offset lo hi : ℕ) → StandsByLife stands naming memory v life i offset lo hi → (life ≡ ended → ⊥) → naming i ≡ None → ⊥
-life_named stands naming memory v live i offset lo hi h e f = let g : Some h.base ≡ None = sym h.named ∙ f in cc
-life_named stands naming memory v ended i offset lo hi h e f = e refl
-life_named stands naming memory v freed i offset lo hi h e f = let g : Some h.base ≡ None = sym h.named ∙ f in cc
+life_named : {I : Type 0} (gamma : I → ℤ → Type 0) (naming : Naming) (memory : Memory) (v : Pointers I) (life : Life) (i offset lo hi : ℕ) → InGammaByLife gamma naming memory v life i offset lo hi → (life ≡ ended → ⊥) → naming i ≡ None → ⊥
+life_named gamma naming memory v live i offset lo hi h e f = let g : Some h.base ≡ None = sym h.named ∙ f in cc
+life_named gamma naming memory v ended i offset lo hi h e f = e refl
+life_named gamma naming memory v freed i offset lo hi h e f = let g : Some h.base ≡ None = sym h.named ∙ f in cc
 
-pub scalar_named : {I : Type 0} (stands : I → ℤ → Type 0) (naming : Naming) (memory : Memory) (x : Value I) (v : Scalar) → StandsScalar stands naming memory x v → IsScalarNamed naming memory v
-scalar_named stands naming memory x (integer n labels) h = tt
-scalar_named stands naming memory x (pointer null) h = tt
-scalar_named stands naming memory x (pointer (into i offset lo hi)) h = life_named stands naming memory x.pointer (life_at memory i) i offset lo hi h
+pub scalar_named : {I : Type 0} (gamma : I → ℤ → Type 0) (naming : Naming) (memory : Memory) (x : Value I) (v : Scalar) → InGammaScalar gamma naming memory x v → IsScalarNamed naming memory v
+scalar_named gamma naming memory x (integer n labels) h = tt
+scalar_named gamma naming memory x (pointer null) h = tt
+scalar_named gamma naming memory x (pointer (into i offset lo hi)) h = life_named gamma naming memory x.pointer (life_at memory i) i offset lo hi h
 
 pub array_whole : (zeros : ZeroPart) (bytes : List Byte) → zeros.size ≡ None → zeros.offset ≡ 0 → array_bytes zeros bytes ≡ bytes
 array_whole zeros bytes e f = rw (e, f) refl
 
-module _ {I : Type 0} {l : LatticeOf I} {n : IntegersOf I} {stands : I → ℤ → Type 0} (o : OrderLaws l) (q : BoundLaws l n stands) (c : SoundLaws l n stands) (r : RangeLaws l n) (flow : Flow) (shaped : AreShaped flow.bases.items) (texts : (b : ℕ) (base : BaseInfo) → slice_get flow.bases.items b ≡ Some base → HasTexts flow.model base) (behind : ℕ) (laid : AreLaid flow.bases.items behind) (temporaries : behind ≤ flow.width - flow.temps) (naming : Naming) (row : List (Cell I)) (long : behind ≤ length row) (state : MachineState) (s : StandsFor l n stands flow naming row state) where
-  module _ {new : Memory} {i offset : ℕ} (kind : declared.Scalar) (wide : same_class (class_in kind) Char ≡ false) (v : Scalar) (of_kind : IsOfKind kind v) (inside : IsScalarIn state.memory v) (known : IsScalarNamed naming state.memory v) (x : Value I) (near : IsNearValue l n x) (st : StandsScalar stands naming state.memory x v) (u : IsStore state.memory new i offset (class_in kind) (class_bytes flow.model (class_in kind)) (scalar_bytes (class_bytes flow.model (class_in kind)) v))
+module _ {I : Type 0} {l : LatticeOf I} {n : IntegersOf I} {gamma : I → ℤ → Type 0} (o : OrderLaws l) (q : BoundLaws l n gamma) (c : SoundLaws l n gamma) (r : RangeLaws l n) (flow : Flow) (shaped : AreShaped flow.bases.items) (texts : (b : ℕ) (base : BaseInfo) → slice_get flow.bases.items b ≡ Some base → HasTexts flow.model base) (behind : ℕ) (laid : AreLaid flow.bases.items behind) (temporaries : behind ≤ flow.width - flow.temps) (naming : Naming) (row : List (Cell I)) (long : behind ≤ length row) (state : MachineState) (s : InGamma l n gamma flow naming row state) where
+  module _ {new : Memory} {i offset : ℕ} (kind : declared.Scalar) (wide : same_class (class_in kind) Char ≡ false) (v : Scalar) (of_kind : IsOfKind kind v) (inside : IsScalarIn state.memory v) (known : IsScalarNamed naming state.memory v) (x : Value I) (near : IsNearValue l n x) (st : InGammaScalar gamma naming state.memory x v) (u : IsStore state.memory new i offset (class_in kind) (class_bytes flow.model (class_in kind)) (scalar_bytes (class_bytes flow.model (class_in kind)) v))
       (b : ℕ) (base : BaseInfo) (at : slice_get flow.bases.items b ≡ Some base) (named : naming i ≡ Some b) (alive : life_at state.memory i ≡ live) (window : Window) (from : window.lo ≤ offset) (to : offset ≤ window.hi) (set : Bases) (has : has_base set b ≡ true) (alone : Bool) (only : alone ≡ true → IsAlone flow.bases.items set b) where
     abbrev write : Write I
     write = record { access = record { class = class_in kind; signed = signed_in kind; window = window }; value = stored_value (class_in kind) x; alone = alone }
@@ -125,15 +125,15 @@ module _ {I : Type 0} {l : LatticeOf I} {n : IntegersOf I} {stands : I → ℤ �
         let p = zero_is other z (omega arith) (omega arith) in
         omega arith
 
-    zero_stands : (heap : Bool) (d z j : ℕ) (other : BaseInfo) (zeros : ZeroPart) → other.shape.heap ≡ heap → slice_get flow.bases.items d ≡ Some other → slice_get other.shape.zeros z ≡ Some zeros → IsLiveOf naming new d j → StandsZero stands naming new (zero_at l n after (zero_position other z)) (array_bytes zeros (bytes_at new j))
+    zero_stands : (heap : Bool) (d z j : ℕ) (other : BaseInfo) (zeros : ZeroPart) → other.shape.heap ≡ heap → slice_get flow.bases.items d ≡ Some other → slice_get other.shape.zeros z ≡ Some zeros → IsLiveOf naming new d j → InGammaZero gamma naming new (zero_at l n after (zero_position other z)) (array_bytes zeros (bytes_at new j))
     unfolding byte_at
     zero_stands false d z j other zeros heap e f h =
         let g = live_moves (alike u) naming d j h in
         let a = s.zeros d z j other zeros e f g in
         let t = slice_get_within other.shape.zeros z zeros f in
         let k = same_zero l n row after (zero_position other z) (object_zero_after l n flow.model flow.bases.items behind laid set write (class_small (class_in kind)) wide d other z e heap t row) in
-        subst (λ y. StandsZero stands naming new y (array_bytes zeros (bytes_at new j))) (sym k)
-        (subst (λ y. StandsZero stands naming new (zero_at l n row (zero_position other z)) y) (sym (array_stays d z j other zeros e f g heap)) a)
+        subst (λ y. InGammaZero gamma naming new y (array_bytes zeros (bytes_at new j))) (sym k)
+        (subst (λ y. InGammaZero gamma naming new (zero_at l n row (zero_position other z)) y) (sym (array_stays d z j other zeros e f g heap)) a)
     zero_stands true d z j other zeros heap e f h =
         let g = live_moves (alike u) naming d j h in
         let p = (texts d other e).heaps heap z zeros f in
@@ -148,30 +148,30 @@ module _ {I : Type 0} {l : LatticeOf I} {n : IntegersOf I} {stands : I → ℤ �
           | inr w ↦ any_stands o q naming new _ (array_bytes zeros (bytes_at new j)) (subst (λ y. length y ≤ last_offset) (sym whole) (omega arith)) w
           | inl w ↦ (let ne : j ≡ i → ⊥ = λ y. true≢false (sym has ∙ (ap (has_base set) (same_Some b d (sym named ∙ (ap naming (sym y) ∙ h.named))) ∙ w.0)) in
               let same : bytes_at new j ≡ bytes_at state.memory j = same_slices _ _ (λ k. u.outside j k (λ y a b. ne y)) in
-              subst (λ y. StandsZero stands naming new y (array_bytes zeros (bytes_at new j))) (sym w.1)
-              (subst (λ y. StandsZero stands naming new (zero_at l n row (zero_position other z)) (array_bytes zeros y)) (sym same) (s.zeros d z j other zeros e f g)))
+              subst (λ y. InGammaZero gamma naming new y (array_bytes zeros (bytes_at new j))) (sym w.1)
+              (subst (λ y. InGammaZero gamma naming new (zero_at l n row (zero_position other z)) (array_bytes zeros y)) (sym same) (s.zeros d z j other zeros e f g)))
         ]
 
-    state_by : (y : AllocState I) (life : Life) (size : ℕ) → StandsState stands naming state.memory y life size → StandsState stands naming new y life size
+    state_by : (y : AllocState I) (life : Life) (size : ℕ) → InGammaState gamma naming state.memory y life size → InGammaState gamma naming new y life size
     state_by y live size h = h
     state_by y ended size h = h
     state_by y freed size h = h
 
-    state_stands : (d j : ℕ) (other : BaseInfo) → slice_get flow.bases.items d ≡ Some other → other.shape.heap ≡ true → naming j ≡ Some d → StandsState stands naming new (state_at l n after (state_position other)) (life_at new j) (length (bytes_at new j))
+    state_stands : (d j : ℕ) (other : BaseInfo) → slice_get flow.bases.items d ≡ Some other → other.shape.heap ≡ true → naming j ≡ Some d → InGammaState gamma naming new (state_at l n after (state_position other)) (life_at new j) (length (bytes_at new j))
     state_stands d j other e heap h =
         let k = same_state l n row after (state_position other) (state_after l n flow.model flow.bases.items behind laid set write (class_small (class_in kind)) wide d other e heap row) in
-        subst (λ y. StandsState stands naming new y (life_at new j) (length (bytes_at new j))) (sym k)
-        (subst (λ y. StandsState stands naming new (state_at l n row (state_position other)) (life_at new j) y) (sym (u.lengths j))
-        (subst (λ y. StandsState stands naming new (state_at l n row (state_position other)) y (length (bytes_at state.memory j))) (sym (u.lives j)) (state_by (state_at l n row (state_position other)) (life_at state.memory j) (length (bytes_at state.memory j)) (s.states d j other e heap h))))
+        subst (λ y. InGammaState gamma naming new y (life_at new j) (length (bytes_at new j))) (sym k)
+        (subst (λ y. InGammaState gamma naming new (state_at l n row (state_position other)) (life_at new j) y) (sym (u.lengths j))
+        (subst (λ y. InGammaState gamma naming new (state_at l n row (state_position other)) y (length (bytes_at state.memory j))) (sym (u.lives j)) (state_by (state_at l n row (state_position other)) (life_at state.memory j) (length (bytes_at state.memory j)) (s.states d j other e heap h))))
 
-    temp_stands : (t : ℕ) (scalar : Scalar) → state.temps t ≡ Some scalar → StandsScalar stands naming new (temp_value l n flow after t) scalar
+    temp_stands : (t : ℕ) (scalar : Scalar) → state.temps t ≡ Some scalar → InGammaScalar gamma naming new (temp_value l n flow after t) scalar
     temp_stands t scalar e =
         let small = laid.small in
         let p : behind ≤ temp_position flow t = omega arith in
         let k = same_value l n row after (temp_position flow t) ((behind_keeps l n flow.model flow.bases.items behind laid set write (class_small (class_in kind)) wide (temp_position flow t) p).keeps row) in
-        subst (λ y. StandsScalar stands naming new y scalar) (sym k) (scalar_moves (alike u) stands naming (temp_value l n flow row t) scalar (s.temps t scalar e))
+        subst (λ y. InGammaScalar gamma naming new y scalar) (sym k) (scalar_moves (alike u) gamma naming (temp_value l n flow row t) scalar (s.temps t scalar e))
 
-    pub all_stand : StandsFor l n stands flow naming after (record { memory = new; temps = state.temps; entered = state.entered })
+    pub all_stand : InGamma l n gamma flow naming after (record { memory = new; temps = state.temps; entered = state.entered })
     all_stand = record {
       sane = new_sane flow.model flow.bases.items shaped naming kind v of_kind inside known u s.sane;
       held = record {
@@ -188,13 +188,13 @@ module _ {I : Type 0} {l : LatticeOf I} {n : IntegersOf I} {stands : I → ℤ �
 
   -- ---- the machine's store
 
-  pub into_live : (y : Pointers I) (i offset lo hi : ℕ) → life_at state.memory i ≡ live → StandsPointer stands naming state.memory y (into i offset lo hi) → StandsInto stands naming state.memory y i offset lo hi
-  into_live y i offset lo hi e h = subst (λ z. StandsByLife stands naming state.memory y z i offset lo hi) e h
+  pub into_live : (y : Pointers I) (i offset lo hi : ℕ) → life_at state.memory i ≡ live → InGammaPointer gamma naming state.memory y (into i offset lo hi) → InGammaInto gamma naming state.memory y i offset lo hi
+  into_live y i offset lo hi e h = subst (λ z. InGammaByLife gamma naming state.memory y z i offset lo hi) e h
 
   pub live_here : (b i : ℕ) (base : BaseInfo) → slice_get flow.bases.items b ≡ Some base → naming i ≡ Some b → life_at state.memory i ≡ live → may_be_live l n base row ≡ true
   live_here b i base at named alive = live_if base.shape.heap _ (λ e.
       let y = s.states b i base at e named in
-      (subst (λ z. StandsState stands naming state.memory (state_at l n row (state_position base)) z (length (bytes_at state.memory i))) alive y).1)
+      (subst (λ z. InGammaState gamma naming state.memory (state_at l n row (state_position base)) z (length (bytes_at state.memory i))) alive y).1)
 
   -- there is a cell of the class at the place
   heap_place : (base : BaseInfo) → IsShaped base → (class : Class) (offset : ℕ) (access : Access) → access.class ≡ class → base.shape.heap ≡ true → access.window.lo ≤ offset → offset ≤ access.window.hi → (k : ℕ) → count_by (at_offset class offset) base.shape.cells ≡ k → has_own_place base access ≡ true
@@ -232,7 +232,7 @@ module _ {I : Type 0} {l : LatticeOf I} {n : IntegersOf I} {stands : I → ℤ �
         single = λ d base f g. let y = and_parts (nat_lt d most_bases) (bases_has set d) g in is_single flow.bases.items d base f (ltb-true _ _ y.0) set p.1 y.1;
       }
 
-  pub store_stands : (kind : declared.Scalar) (p : Pointers I) (at : MachinePointer) (x : Value I) (v t : Scalar) (w u : World) → w.memory ≡ state.memory → same_class (class_in kind) Char ≡ false → StandsPointer stands naming state.memory p at → IsPointerIn state.memory at → StandsScalar stands naming state.memory x v → IsScalarIn state.memory v → IsNearValue l n x → store flow.model kind (pointer at) v w ≡ goes t u → Gives (λ after. StandsFor l n stands flow naming after (record { memory = u.memory; temps = state.temps; entered = state.entered })) (abstract_store l n flow.model flow.bases.items p (class_in kind) (signed_in kind) x row)
+  pub store_stands : (kind : declared.Scalar) (p : Pointers I) (at : MachinePointer) (x : Value I) (v t : Scalar) (w u : World) → w.memory ≡ state.memory → same_class (class_in kind) Char ≡ false → InGammaPointer gamma naming state.memory p at → IsPointerIn state.memory at → InGammaScalar gamma naming state.memory x v → IsScalarIn state.memory v → IsNearValue l n x → store flow.model kind (pointer at) v w ≡ goes t u → Gives (λ after. InGamma l n gamma flow naming after (record { memory = u.memory; temps = state.temps; entered = state.entered })) (abstract_store l n flow.model flow.bases.items p (class_in kind) (signed_in kind) x row)
   unfolding abstract_store store_access can_store
   store_stands kind p at x v t w u same wide st inside stv inv near h =
       let class : Class = class_in kind in
@@ -240,12 +240,12 @@ module _ {I : Type 0} {l : LatticeOf I} {n : IntegersOf I} {stands : I → ℤ �
       let both = store_goes flow.model kind at v t w u wide (subst (λ z. IsPointerIn z at) (sym same) inside) h in
       let of_kind : IsOfKind kind v = both.0 in
       let g = both.1 in
-      let known = scalar_named stands naming state.memory x v stv in
+      let known = scalar_named gamma naming state.memory x v stv in
       let i : ℕ = g.i in
       let offset : ℕ = g.offset in
       let alive : life_at state.memory i ≡ live = subst (λ z. life_at z i ≡ live) same g.alive in
       let sto : IsStore state.memory u.memory i offset class size (scalar_bytes size v) = subst (λ z. IsStore z u.memory i offset class size (scalar_bytes size v)) same g.store in
-      let y = into_live p i offset g.lo g.hi alive (subst (StandsPointer stands naming state.memory p) g.pointer st) in
+      let y = into_live p i offset g.lo g.hi alive (subst (InGammaPointer gamma naming state.memory p) g.pointer st) in
       let ins : IsWithin state.memory i offset g.lo g.hi = subst (IsPointerIn state.memory) g.pointer inside in
       let d = ins.within in
       let m = s.sane.small i in

@@ -19,7 +19,7 @@ use Rattle.store_cells.specs.FirstZeroWrites.{zero_target, forget_target, any_ze
 use Rattle.memory_model.specs.Memory.Bytes.{Byte}
 use Rattle.memory_model.specs.Memory.Instances.{Memory}
 use Rattle.store_sound.specs.Concretization.FirstZeroBytes.{Seen, unknown, end, character, seen_as, one_more, zero_by, first_zero, zero_offset}
-use Rattle.store_sound.specs.Concretization.ValueMeaning.{Naming, StandsZero}
+use Rattle.store_sound.specs.Concretization.ValueMeaning.{Naming, InGammaZero}
 use Rattle.store_sound.proofs.operations.Slices.{get_drop}
 use Rattle.store_sound.proofs.operations.Only.{cell_put, Turned}
 use Rattle.store_sound.proofs.operations.Near.{near_number_from}
@@ -69,9 +69,9 @@ met_some part w offset e f a b c =
     let g : nat_le (max w.lo 0) (min w.hi (2 ^ 64 - 1)) ≡ true = le-leb _ _ (omega arith) in
     rw (e, f, g) refl
 
-module _ {I : Type 0} {l : LatticeOf I} {n : IntegersOf I} {stands : I → ℤ → Type 0} (o : OrderLaws l) (q : BoundLaws l n stands) where
+module _ {I : Type 0} {l : LatticeOf I} {n : IntegersOf I} {gamma : I → ℤ → Type 0} (o : OrderLaws l) (q : BoundLaws l n gamma) where
   -- a number from a to b is stood for by all of them
-  pub between_stands : (a b z : ℤ) → a ≤ℤ z → z ≤ℤ b → stands (n.between a b) z
+  pub between_stands : (a b z : ℤ) → a ≤ℤ z → z ≤ℤ b → gamma (n.between a b) z
   between_stands a b z h k = q.larger (n.one z) (n.between a b) z (q.below_between (n.one z) z z a b (q.one_bounds z) h k) (q.one_stands z)
 
   pub some_between : (a b : ℤ) → a ≤ℤ b → between_or_least l n a b ≡ n.between a b
@@ -97,7 +97,7 @@ module _ {I : Type 0} {l : LatticeOf I} {n : IntegersOf I} {stands : I → ℤ �
       let k : cell_at after p ≡ cell_at (put_zero t.before p (any_zero l n)) p = t.turn ∙ rw d refl in
       inr (same_zero l n (put_zero t.before p (any_zero l n)) after p k ∙ put_any t.before p (omega arith))
 
-  pub any_stands : (naming : Naming) (memory : Memory) (f : FirstZero I) (bytes : List Byte) → length bytes ≤ last_offset → f ≡ zero_of (n.between (pos 0) the_end) → StandsZero stands naming memory f bytes
+  pub any_stands : (naming : Naming) (memory : Memory) (f : FirstZero I) (bytes : List Byte) → length bytes ≤ last_offset → f ≡ zero_of (n.between (pos 0) the_end) → InGammaZero gamma naming memory f bytes
   any_stands naming memory f bytes h e =
       let r = offset_near (first_zero bytes) (λ k g. let w = zero_small bytes k g in omega arith) in
-      subst (λ z. stands z.at (zero_offset (first_zero bytes))) (sym e) (between_stands (pos 0) the_end (zero_offset (first_zero bytes)) r.0 r.1)
+      subst (λ z. gamma z.at (zero_offset (first_zero bytes))) (sym e) (between_stands (pos 0) the_end (zero_offset (first_zero bytes)) r.0 r.1)

@@ -29,7 +29,7 @@ use Rattle.memory_model.specs.Memory.Bytes.{Content, indeterminate, number, part
 use Rattle.memory_model.specs.Memory.Instances.{byte_at, bytes_at}
 use Rattle.store_sound.specs.Concretization.FirstZeroBytes.{one_more, first_zero, zero_offset}
 use Rattle.store_sound.specs.Concretization.ValueMeaning.{Naming}
-use Rattle.store_sound.specs.Concretization.RowMeaning.{MachineState, IsLiveOf, StandsFor, array_of, array_bytes}
+use Rattle.store_sound.specs.Concretization.RowMeaning.{MachineState, IsLiveOf, InGamma, array_of, array_bytes}
 use Rattle.store_sound.proofs.operations.Slices.{get_drop}
 use Rattle.store_sound.proofs.operations.MachineStores.{take_at}
 
@@ -136,7 +136,7 @@ offset_is (Some k) h = (k, refl)
 up_to : (p : ℤ × ℤ) (at : ℕ) → lies_up_to (Some p) at ≡ true → (pos at ≤ℤ p.0) × (p.1 ≡ the_end → ⊥)
 up_to p at h = let r = and_parts (int_le (pos at) p.0) (not (int_eq p.1 the_end)) h in (grind (arith, ints), λ (e : p.1 ≡ the_end). grind (arith, ints))
 
-module _ {I : Type 0} {l : LatticeOf I} {n : IntegersOf I} {stands : I → ℤ → Type 0} (q : BoundLaws l n stands) where
+module _ {I : Type 0} {l : LatticeOf I} {n : IntegersOf I} {gamma : I → ℤ → Type 0} (q : BoundLaws l n gamma) where
   near_bounds : (x : I) → IsNear (n.bounds (near_number l n x))
   near_bounds x = elim (cases_Bool (is_near (n.bounds x))) [
     | inl e ↦ near_if (n.bounds x) e (λ (f : near_number l n x ≡ x) (g : IsNear (n.bounds x)). subst (λ z. IsNear (n.bounds z)) (sym f) g) (rw e refl)
@@ -152,7 +152,7 @@ module _ {I : Type 0} {l : LatticeOf I} {n : IntegersOf I} {stands : I → ℤ �
   zero_near row p = near_bounds (zero_in l (cell_at row p)).at
 
   -- a first zero that lies behind the window's bytes
-  zero_behind : (x : I) (z : ℤ) (hi : ℕ) (r : Range) → n.bounds x ≡ r → IsNear r → stands x z → lies_up_to r hi ≡ true → (pos hi ≤ℤ z) × (z ≡ the_end → ⊥)
+  zero_behind : (x : I) (z : ℤ) (hi : ℕ) (r : Range) → n.bounds x ≡ r → IsNear r → gamma x z → lies_up_to r hi ≡ true → (pos hi ≤ℤ z) × (z ≡ the_end → ⊥)
   zero_behind x z hi None e h s k = let t = q.inside x z s in let f : ◌≡◌ {A = Range} None (Some (t.0, t.1)) = sym e ∙ t.2 in cc
   zero_behind x z hi (Some p) e h s k =
       let t = q.inside x z s in
@@ -167,7 +167,7 @@ module _ {I : Type 0} {l : LatticeOf I} {n : IntegersOf I} {stands : I → ℤ �
       let w = h.1 in
       (omega (arith, ints), λ (y : z ≡ the_end). u.1 (omega (arith, ints)))
 
-  module _ (flow : Flow) (naming : Naming) (row : List (Cell I)) (state : MachineState) (s : StandsFor l n stands flow naming row state) (i offset b : ℕ) (base : BaseInfo) (at : slice_get flow.bases.items b ≡ Some base) (alive : IsLiveOf naming state.memory b i) (w : Window) (from : w.lo ≤ offset) (to : offset ≤ w.hi) (byte : Byte) (here : byte_at state.memory i offset ≡ Some byte) (blank : byte.content ≡ indeterminate) where
+  module _ (flow : Flow) (naming : Naming) (row : List (Cell I)) (state : MachineState) (s : InGamma l n gamma flow naming row state) (i offset b : ℕ) (base : BaseInfo) (at : slice_get flow.bases.items b ≡ Some base) (alive : IsLiveOf naming state.memory b i) (w : Window) (from : w.lo ≤ offset) (to : offset ≤ w.hi) (byte : Byte) (here : byte_at state.memory i offset ≡ Some byte) (blank : byte.content ≡ indeterminate) where
     none_found : (r : Option (ℕ × Window)) → covering_part base w ≡ r → is_text_in l n base row r ≡ true → ⊥
     unfolding byte_at
     none_found None e h = cc

@@ -32,9 +32,9 @@ use Rattle.memory_model.specs.Memory.Scalars.{Scalar, pointer}
 use Rattle.memory_model.specs.Effects.Worlds.{World, goes, stopped_by, world_of}
 use Rattle.memory_model.specs.Effects.Touches.{Spot, touched, touched_by, touched_live, is_literal, storage_of, storage_at}
 use Rattle.memory_model.specs.Effects.Accesses.{class_in, load}
-use Rattle.store_sound.specs.Concretization.ValueMeaning.{Naming, StandsInto, StandsByLife, StandsPointer, StandsState}
+use Rattle.store_sound.specs.Concretization.ValueMeaning.{Naming, InGammaInto, InGammaByLife, InGammaPointer, InGammaState}
 use Rattle.store_sound.specs.Concretization.SoundMemory.{IsWithin, IsPointerIn, IsInstanceOf, storage_for}
-use Rattle.store_sound.specs.Concretization.RowMeaning.{StandsFor}
+use Rattle.store_sound.specs.Concretization.RowMeaning.{InGamma}
 use Rattle.store_sound.specs.Operations.Shapes.{AreShaped}
 use Rattle.store_sound.specs.Operations.Statements.{state_in}
 use Rattle.store_sound.proofs.operations.Walks.{walk_meets}
@@ -66,20 +66,20 @@ literal_kind Older h = cc
 pub or_none : (a b : Bool) → a ≡ false → b ≡ false → (a || b) ≡ false
 or_none a b e f = rw (e, f) refl
 
-module _ {I : Type 0} {l : LatticeOf I} {n : IntegersOf I} {stands : I → ℤ → Type 0} (o : OrderLaws l) (q : BoundLaws l n stands) where
-  pub range_stands : (x : Range) (z : ℤ) → RangeHas x z → stands (of_range l n x) z
+module _ {I : Type 0} {l : LatticeOf I} {n : IntegersOf I} {gamma : I → ℤ → Type 0} (o : OrderLaws l) (q : BoundLaws l n gamma) where
+  pub range_stands : (x : Range) (z : ℤ) → RangeHas x z → gamma (of_range l n x) z
   range_stands None z h = let e = h.is in cc
   range_stands (Some p) z h =
       let e : p.0 ≡ h.low = cc h.is in
       let f : p.1 ≡ h.high = cc h.is in
       let a = h.from in
       let b = h.to in
-      subst (λ y. stands y z) (sym (some_between o q p.0 p.1 (omega (arith, ints)))) (between_stands o q p.0 p.1 z (omega (arith, ints)) (omega (arith, ints)))
+      subst (λ y. gamma y z) (sym (some_between o q p.0 p.1 (omega (arith, ints)))) (between_stands o q p.0 p.1 z (omega (arith, ints)) (omega (arith, ints)))
 
-  pub bounds_have : (x : I) (z : ℤ) → stands x z → RangeHas (n.bounds x) z
+  pub bounds_have : (x : I) (z : ℤ) → gamma x z → RangeHas (n.bounds x) z
   bounds_have x z h = let r = q.inside x z h in record { low = r.0; high = r.1; is = r.2; from = r.3; to = r.4 }
 
-  pub bounded : (x : I) (z : ℤ) → stands x z → is_none (n.bounds x) ≡ false
+  pub bounded : (x : I) (z : ℤ) → gamma x z → is_none (n.bounds x) ≡ false
   bounded x z h = let r = q.inside x z h in rw r.2 refl
 
   past_bounds : (x y : Range) (size : ℕ) (z room : ℤ) → RangeHas x z → RangeHas y room → ((room +ℤ pos 1) ≤ℤ (z +ℤ pos size)) → leaves_bounds_at (range_sum x (span_of 0 size)) y ≡ true
@@ -92,10 +92,10 @@ module _ {I : Type 0} {l : LatticeOf I} {n : IntegersOf I} {stands : I → ℤ �
       let d = k.from in
       or_right _ _ (lt_true r.0 (p.1 +ℤ pos (0 + size)) (omega (arith, ints)))
 
-  pub room_above : (p : Pointers I) (room : ℤ) → stands p.len room → room ≤ℤ length_above n p
+  pub room_above : (p : Pointers I) (room : ℤ) → gamma p.len room → room ≤ℤ length_above n p
   room_above p room h = let r = q.inside p.len room h in let e = r.4 in rw r.2 e
 
-module _ {I : Type 0} {l : LatticeOf I} {n : IntegersOf I} {stands : I → ℤ → Type 0} (o : OrderLaws l) (q : BoundLaws l n stands) (flow : Flow) (shaped : AreShaped flow.bases.items) (naming : Naming) (row : List (Cell I)) (w : World) (temps : ℕ → Option Scalar) (entered : ℕ → Option ℕ) (s : StandsFor l n stands flow naming row (state_in w temps entered)) (p : Pointers I) (size : ℕ) (writes : Bool) where
+module _ {I : Type 0} {l : LatticeOf I} {n : IntegersOf I} {gamma : I → ℤ → Type 0} (o : OrderLaws l) (q : BoundLaws l n gamma) (flow : Flow) (shaped : AreShaped flow.bases.items) (naming : Naming) (row : List (Cell I)) (w : World) (temps : ℕ → Option Scalar) (entered : ℕ → Option ℕ) (s : InGamma l n gamma flow naming row (state_in w temps entered)) (p : Pointers I) (size : ℕ) (writes : Bool) where
   abbrev live_set : Bases
   live_set = live_of l n flow.bases.items row p.bases
 
@@ -114,7 +114,7 @@ module _ {I : Type 0} {l : LatticeOf I} {n : IntegersOf I} {stands : I → ℤ �
   unfolding touch touch_violations
   freed_admitted e = e
 
-  module _ (i offset lo hi : ℕ) (alive : life_at w.memory i ≡ live) (st : StandsInto stands naming w.memory p i offset lo hi) (inside : IsWithin w.memory i offset lo hi) where
+  module _ (i offset lo hi : ℕ) (alive : life_at w.memory i ≡ live) (st : InGammaInto gamma naming w.memory p i offset lo hi) (inside : IsWithin w.memory i offset lo hi) where
     -- the base is among those that may be live
     in_set : (base : BaseInfo) → slice_get flow.bases.items st.base ≡ Some base → has_base live_set st.base ≡ true
     in_set base e =
@@ -122,7 +122,7 @@ module _ {I : Type 0} {l : LatticeOf I} {n : IntegersOf I} {stands : I → ℤ �
         let top = slice_get_within flow.bases.items st.base base e in
         let may : may_be_live l n base row ≡ true = live_if base.shape.heap _ (λ h.
         let y = s.states st.base i base e h st.named in
-        (subst (λ z. StandsState stands naming w.memory (state_at l n row (state_position base)) z (length (bytes_at w.memory i))) alive y).1) in
+        (subst (λ z. InGammaState gamma naming w.memory (state_at l n row (state_position base)) z (length (bytes_at w.memory i))) alive y).1) in
         in_live l n flow.bases.items shaped.few row p.bases st.base base e (and_from _ _ (and_from _ _ (lt-ltb _ _ (omega arith)) st.among) may)
 
     some_live : bases_empty live_set ≡ false
@@ -169,17 +169,17 @@ module _ {I : Type 0} {l : LatticeOf I} {n : IntegersOf I} {stands : I → ℤ �
       ]
     ]
 
-  life_admitted : (life : Life) (i offset lo hi : ℕ) (r : Rule) → life_at w.memory i ≡ life → StandsByLife stands naming w.memory p life i offset lo hi → IsWithin w.memory i offset lo hi → touched_by w life i offset lo hi size writes ≡ stopped_by w r → Admits r
+  life_admitted : (life : Life) (i offset lo hi : ℕ) (r : Rule) → life_at w.memory i ≡ life → InGammaByLife gamma naming w.memory p life i offset lo hi → IsWithin w.memory i offset lo hi → touched_by w life i offset lo hi size writes ≡ stopped_by w r → Admits r
   life_admitted live i offset lo hi r e st inside h = live_admitted i offset lo hi e st inside r h
   life_admitted ended i offset lo hi r e st inside h = subst Admits (same_rule w rule.Nullref r h) (ended_admitted st)
   life_admitted freed i offset lo hi r e st inside h = subst Admits (same_rule w rule.Accfree r h) (freed_admitted (into_freed flow shaped naming row (state_in w temps entered) s p i offset lo hi e st))
 
-  pub touch_admitted : (at : MachinePointer) (r : Rule) → StandsPointer stands naming w.memory p at → IsPointerIn w.memory at → touched w at size writes ≡ stopped_by w r → Admits r
+  pub touch_admitted : (at : MachinePointer) (r : Rule) → InGammaPointer gamma naming w.memory p at → IsPointerIn w.memory at → touched w at size writes ≡ stopped_by w r → Admits r
   touch_admitted null r st inside h = subst Admits (same_rule w rule.Nullref r h) (null_admitted st)
   touch_admitted (into i offset lo hi) r st inside h = life_admitted (life_at w.memory i) i offset lo hi r refl st inside h
 
-module _ {I : Type 0} {l : LatticeOf I} {n : IntegersOf I} {stands : I → ℤ → Type 0} (o : OrderLaws l) (q : BoundLaws l n stands) (flow : Flow) (shaped : AreShaped flow.bases.items) (naming : Naming) (row : List (Cell I)) (w : World) (temps : ℕ → Option Scalar) (entered : ℕ → Option ℕ) (s : StandsFor l n stands flow naming row (state_in w temps entered)) where
-  pub load_admitted : (p : Pointers I) (at : MachinePointer) (kind : declared.Scalar) (r : Rule) → StandsPointer stands naming w.memory p at → IsPointerIn w.memory at → load flow.model kind (pointer at) w ≡ stopped_by w r → (violates (touch l n flow.bases.items row p 0 (class_bytes flow.model (class_in kind)) false).violations r ≡ true) ⊎ (r ≡ rule.Uninitref)
+module _ {I : Type 0} {l : LatticeOf I} {n : IntegersOf I} {gamma : I → ℤ → Type 0} (o : OrderLaws l) (q : BoundLaws l n gamma) (flow : Flow) (shaped : AreShaped flow.bases.items) (naming : Naming) (row : List (Cell I)) (w : World) (temps : ℕ → Option Scalar) (entered : ℕ → Option ℕ) (s : InGamma l n gamma flow naming row (state_in w temps entered)) where
+  pub load_admitted : (p : Pointers I) (at : MachinePointer) (kind : declared.Scalar) (r : Rule) → InGammaPointer gamma naming w.memory p at → IsPointerIn w.memory at → load flow.model kind (pointer at) w ≡ stopped_by w r → (violates (touch l n flow.bases.items row p 0 (class_bytes flow.model (class_in kind)) false).violations r ≡ true) ⊎ (r ≡ rule.Uninitref)
   load_admitted p at kind r st inside h = elim (load_stopped flow.model kind at w r h) [
     | inl e ↦ inl (touch_admitted o q flow shaped naming row w temps entered s p (class_bytes flow.model (class_in kind)) false at r st inside e)
     | inr e ↦ inr e

@@ -24,9 +24,9 @@ use Rattle.memory_model.specs.Memory.Instances.{live, bytes_at, life_at}
 use Rattle.memory_model.specs.Memory.Scalars.{Scalar}
 use Rattle.memory_model.specs.Effects.Worlds.{World, goes}
 use Rattle.memory_model.specs.Effects.Touches.{Spot, touched, is_literal, storage_of, storage_at}
-use Rattle.store_sound.specs.Concretization.ValueMeaning.{Naming, StandsInto, StandsByLife, StandsPointer, StandsState}
+use Rattle.store_sound.specs.Concretization.ValueMeaning.{Naming, InGammaInto, InGammaByLife, InGammaPointer, InGammaState}
 use Rattle.store_sound.specs.Concretization.SoundMemory.{IsWithin, IsPointerIn, IsInstanceOf, storage_for}
-use Rattle.store_sound.specs.Concretization.RowMeaning.{StandsFor}
+use Rattle.store_sound.specs.Concretization.RowMeaning.{InGamma}
 use Rattle.store_cells.specs.RowPositions.{state_at, state_position}
 use Rattle.store_sound.specs.Operations.Shapes.{AreShaped}
 use Rattle.store_sound.specs.Operations.Statements.{state_in}
@@ -49,26 +49,26 @@ second_false : (a b : Bool) → a ≡ true → (a && b) ≡ false → b ≡ fals
 second_false true b e h = h
 second_false false b e h = cc
 
-module _ {I : Type 0} {l : LatticeOf I} {n : IntegersOf I} {stands : I → ℤ → Type 0} (o : OrderLaws l) (q : BoundLaws l n stands) where
+module _ {I : Type 0} {l : LatticeOf I} {n : IntegersOf I} {gamma : I → ℤ → Type 0} (o : OrderLaws l) (q : BoundLaws l n gamma) where
   -- what is near is left
-  pub near_stands : (x : I) (z : ℤ) → neg_ℤ (pos (2 ^ 64)) ≤ℤ z → z ≤ℤ pos (2 ^ 64) → stands x z → stands (near_number l n x) z
+  pub near_stands : (x : I) (z : ℤ) → neg_ℤ (pos (2 ^ 64)) ≤ℤ z → z ≤ℤ pos (2 ^ 64) → gamma x z → gamma (near_number l n x) z
   near_stands x z a b h = elim (cases_Bool (is_near (n.bounds x))) [
     | inl e ↦ rw e h
     | inr e ↦ rw e (range_stands o q (range_met (n.bounds x) (neg_ℤ (pos (2 ^ 64))) (pos (2 ^ 64))) z (met_has (n.bounds x) (neg_ℤ (pos (2 ^ 64))) (pos (2 ^ 64)) z (bounds_have o q x z h) a b))
   ]
 
-module _ {I : Type 0} {l : LatticeOf I} {n : IntegersOf I} {stands : I → ℤ → Type 0} (o : OrderLaws l) (q : BoundLaws l n stands) (flow : Flow) (shaped : AreShaped flow.bases.items) (naming : Naming) (row : List (Cell I)) (w : World) (temps : ℕ → Option Scalar) (entered : ℕ → Option ℕ) (s : StandsFor l n stands flow naming row (state_in w temps entered)) (p : Pointers I) (size : ℕ) (writes : Bool) where
+module _ {I : Type 0} {l : LatticeOf I} {n : IntegersOf I} {gamma : I → ℤ → Type 0} (o : OrderLaws l) (q : BoundLaws l n gamma) (flow : Flow) (shaped : AreShaped flow.bases.items) (naming : Naming) (row : List (Cell I)) (w : World) (temps : ℕ → Option Scalar) (entered : ℕ → Option ℕ) (s : InGamma l n gamma flow naming row (state_in w temps entered)) (p : Pointers I) (size : ℕ) (writes : Bool) where
   abbrev live_set : Bases
   live_set = live_of l n flow.bases.items row p.bases
 
-  module _ (i offset lo hi : ℕ) (alive : life_at w.memory i ≡ live) (st : StandsInto stands naming w.memory p i offset lo hi) (inside : IsWithin w.memory i offset lo hi) (below : offset + size ≤ hi) (plain : (writes && is_literal (storage_at w.memory i)) ≡ false) where
+  module _ (i offset lo hi : ℕ) (alive : life_at w.memory i ≡ live) (st : InGammaInto gamma naming w.memory p i offset lo hi) (inside : IsWithin w.memory i offset lo hi) (below : offset + size ≤ hi) (plain : (writes && is_literal (storage_at w.memory i)) ≡ false) where
     live_there : (base : BaseInfo) → slice_get flow.bases.items st.base ≡ Some base → is_live_in l n row p.bases base st.base ≡ true
     live_there base e =
         let few = shaped.few in
         let top = slice_get_within flow.bases.items st.base base e in
         let may : may_be_live l n base row ≡ true = live_if base.shape.heap _ (λ h.
         let y = s.states st.base i base e h st.named in
-        (subst (λ z. StandsState stands naming w.memory (state_at l n row (state_position base)) z (length (bytes_at w.memory i))) alive y).1) in
+        (subst (λ z. InGammaState gamma naming w.memory (state_at l n row (state_position base)) z (length (bytes_at w.memory i))) alive y).1) in
         and_from _ _ (and_from _ _ (lt-ltb _ _ (omega arith)) st.among) may
 
     in_set : (base : BaseInfo) → slice_get flow.bases.items st.base ≡ Some base → bases_has live_set st.base ≡ true
@@ -82,7 +82,7 @@ module _ {I : Type 0} {l : LatticeOf I} {n : IntegersOf I} {stands : I → ℤ �
         let lit : is_literal (storage_for base.kind) ≡ false = ap is_literal (sym k.storage) ∙ (ap (λ a. is_literal (storage_of a)) (sym it.1) ∙ second_false writes (is_literal (storage_at w.memory i)) f plain) in
         (and_parts (nat_lt st.base most_bases) (bases_has (kept_of flow.bases.items true live_set) st.base) (in_reached l n flow.bases.items shaped.few row p.bases st.base base e (live_there base e) (not_literal base.kind lit))).1
 
-    place_stands : stands (places_within l n p 0 size) (pos offset -ℤ pos lo)
+    place_stands : gamma (places_within l n p 0 size) (pos offset -ℤ pos lo)
     place_stands =
         let z : ℤ = pos offset -ℤ pos lo in
         let a = inside.above in
@@ -92,7 +92,7 @@ module _ {I : Type 0} {l : LatticeOf I} {n : IntegersOf I} {stands : I → ℤ �
     somewhere : (set : Bases) → bases_has set st.base ≡ true → is_nowhere n set (places_within l n p 0 size) ≡ false
     somewhere set h = or_none _ _ (not_empty set st.base h) (bounded o q (places_within l n p 0 size) (pos offset -ℤ pos lo) place_stands)
 
-    rest_into : StandsInto stands naming w.memory (touch l n flow.bases.items row p 0 size writes).rest i offset lo hi
+    rest_into : InGammaInto gamma naming w.memory (touch l n flow.bases.items row p 0 size writes).rest i offset lo hi
     unfolding touch
     rest_into =
         let base = get_there flow.bases.items st.base (s.sane.few i st.base st.named) in
@@ -113,12 +113,12 @@ module _ {I : Type 0} {l : LatticeOf I} {n : IntegersOf I} {stands : I → ℤ �
           whole = st.whole;
         })
 
-  pub touch_stands : (at : MachinePointer) (spot : Spot) (u : World) → StandsPointer stands naming w.memory p at → IsPointerIn w.memory at → touched w at size writes ≡ goes spot u → StandsPointer stands naming w.memory (touch l n flow.bases.items row p 0 size writes).rest at
+  pub touch_stands : (at : MachinePointer) (spot : Spot) (u : World) → InGammaPointer gamma naming w.memory p at → IsPointerIn w.memory at → touched w at size writes ≡ goes spot u → InGammaPointer gamma naming w.memory (touch l n flow.bases.items row p 0 size writes).rest at
   touch_stands at spot u st inside h =
       let t = touched_goes w at size writes spot u h in
       let ins : IsWithin w.memory spot.instance spot.offset t.lo t.hi = subst (IsPointerIn w.memory) t.pointer inside in
-      let y : StandsByLife stands naming w.memory p (life_at w.memory spot.instance) spot.instance spot.offset t.lo t.hi = subst (StandsPointer stands naming w.memory p) t.pointer st in
-      let z : StandsInto stands naming w.memory p spot.instance spot.offset t.lo t.hi = subst (λ k. StandsByLife stands naming w.memory p k spot.instance spot.offset t.lo t.hi) t.alive y in
-      subst (StandsPointer stands naming w.memory (touch l n flow.bases.items row p 0 size writes).rest) (sym t.pointer)
-      (subst (λ k. StandsByLife stands naming w.memory (touch l n flow.bases.items row p 0 size writes).rest k spot.instance spot.offset t.lo t.hi) (sym t.alive)
+      let y : InGammaByLife gamma naming w.memory p (life_at w.memory spot.instance) spot.instance spot.offset t.lo t.hi = subst (InGammaPointer gamma naming w.memory p) t.pointer st in
+      let z : InGammaInto gamma naming w.memory p spot.instance spot.offset t.lo t.hi = subst (λ k. InGammaByLife gamma naming w.memory p k spot.instance spot.offset t.lo t.hi) t.alive y in
+      subst (InGammaPointer gamma naming w.memory (touch l n flow.bases.items row p 0 size writes).rest) (sym t.pointer)
+      (subst (λ k. InGammaByLife gamma naming w.memory (touch l n flow.bases.items row p 0 size writes).rest k spot.instance spot.offset t.lo t.hi) (sym t.alive)
       (rest_into spot.instance spot.offset t.lo t.hi t.alive z ins t.below t.plain))

@@ -85,16 +85,16 @@ within_has (Some p) offset h c =
       to = abs_above _ offset k;
     }
 
-module _ {I : Type 0} {l : LatticeOf I} {n : IntegersOf I} {stands : I → ℤ → Type 0} (q : BoundLaws l n stands) where
-  bounds_have : (x : I) (z : ℤ) → stands x z → RangeHas (n.bounds x) z
+module _ {I : Type 0} {l : LatticeOf I} {n : IntegersOf I} {gamma : I → ℤ → Type 0} (q : BoundLaws l n gamma) where
+  bounds_have : (x : I) (z : ℤ) → gamma x z → RangeHas (n.bounds x) z
   bounds_have x z h = let r = q.inside x z h in record { low = r.0; high = r.1; is = r.2; from = r.3; to = r.4 }
 
-  last_above : (p : Pointers I) (size : ℕ) (z : ℤ) (room : ℤ) → stands p.len room → (z +ℤ pos size) ≤ℤ room → z ≤ℤ pos last_offset → z ≤ℤ last_place n p size
+  last_above : (p : Pointers I) (size : ℕ) (z : ℤ) (room : ℤ) → gamma p.len room → (z +ℤ pos size) ≤ℤ room → z ≤ℤ pos last_offset → z ≤ℤ last_place n p size
   last_above p size z room h k c =
       let r = q.inside p.len room h in
       sat_above _ z (rw r.2 (omega (arith, ints))) (omega (arith, ints))
 
-  pub window_has : (p : Pointers I) (size offset lo hi : ℕ) → stands p.lo (pos lo) → stands p.rel (pos offset -ℤ pos lo) → stands p.len (pos hi -ℤ pos lo) → lo ≤ offset → offset + size ≤ hi → hi ≤ last_offset → WindowHas (window_of n p size) offset
+  pub window_has : (p : Pointers I) (size offset lo hi : ℕ) → gamma p.lo (pos lo) → gamma p.rel (pos offset -ℤ pos lo) → gamma p.len (pos hi -ℤ pos lo) → lo ≤ offset → offset + size ≤ hi → hi ≤ last_offset → WindowHas (window_of n p size) offset
   window_has p size offset lo hi a b c h k e =
       let z : ℤ = pos offset -ℤ pos lo in
       let m = met_has (n.bounds p.rel) (pos 0) (last_place n p size) z (bounds_have p.rel z b) (omega (arith, ints)) (last_above p size z (pos hi -ℤ pos lo) c (omega (arith, ints)) (omega (arith, ints))) in

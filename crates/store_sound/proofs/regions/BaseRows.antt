@@ -17,15 +17,15 @@ use Rattle.store_cells.specs.Walks.{walk}
 use Rattle.transfer_checks.specs.Temporaries.{temp_position, temp_value}
 use Rattle.memory_model.specs.Memory.Instances.{Memory, Life, live, ended, freed, bytes_at, byte_at, life_at}
 use Rattle.store_sound.specs.Concretization.SoundMemory.{IsMemoryOf}
-use Rattle.store_sound.specs.Concretization.ValueMeaning.{Naming, StandsScalar, StandsZero, StandsState}
-use Rattle.store_sound.specs.Concretization.RowMeaning.{MachineState, array_bytes, StandsLeaf, StandsClass, StandsFor}
+use Rattle.store_sound.specs.Concretization.ValueMeaning.{Naming, InGammaScalar, InGammaZero, InGammaState}
+use Rattle.store_sound.specs.Concretization.RowMeaning.{MachineState, array_bytes, InGammaLeaf, InGammaClass, InGamma}
 use Rattle.store_sound.specs.Operations.Shapes.{IsLaidOut}
 use Rattle.store_sound.proofs.operations.Frames.{live_moves, scalar_in_moves, scalar_moves}
 use Rattle.store_sound.proofs.operations.StoreRows.{Fits, leaf_is, class_is, zero_is}
 use Rattle.store_sound.proofs.operations.StoreSound.{named_moves}
 use Rattle.store_sound.proofs.operations.StoreValues.{same_value, same_zero, same_state}
 use Rattle.store_sound.proofs.operations.StoreZeros.{same_slices}
-use Rattle.store_sound.specs.Regions.RegionWrites.{IsRegion, WritesWithin, write_base_of, write_bases, StandsBase}
+use Rattle.store_sound.specs.Regions.RegionWrites.{IsRegion, WritesWithin, write_base_of, write_bases, InGammaBase}
 use Rattle.store_sound.proofs.regions.Regions.{alike_region, cell_apart}
 
 -- ---- walks
@@ -65,57 +65,57 @@ module _ {I K : Type 0} (f : K → ℕ → List (Cell I) → List (Cell I)) wher
 
 -- ---- bases
 
-module _ {I : Type 0} {l : LatticeOf I} {n : IntegersOf I} {stands : I → ℤ → Type 0} (flow : Flow) (naming : Naming) where
+module _ {I : Type 0} {l : LatticeOf I} {n : IntegersOf I} {gamma : I → ℤ → Type 0} (flow : Flow) (naming : Naming) where
   -- what stands for a base is in the cells of the base
-  pub same_base : (memory : Memory) (b : ℕ) (base : BaseInfo) (row after : List (Cell I)) → Fits base → ((at : ℕ) → base.first ≤ at → at < base.first + base_values base → cell_at after at ≡ cell_at row at) → StandsBase l n stands flow naming memory b base row → StandsBase l n stands flow naming memory b base after
+  pub same_base : (memory : Memory) (b : ℕ) (base : BaseInfo) (row after : List (Cell I)) → Fits base → ((at : ℕ) → base.first ≤ at → at < base.first + base_values base → cell_at after at ≡ cell_at row at) → InGammaBase l n gamma flow naming memory b base row → InGammaBase l n gamma flow naming memory b base after
   same_base memory b base row after f same s = record {
     leaves = λ j leaf e.
         let t = slice_get_within base.shape.cells j leaf e in
         let x = leaf_is base j f t in
-        subst (StandsLeaf stands flow naming memory b leaf) (sym (same_value l n row after (leaf_position base j) (same (leaf_position base j) (omega (arith, x)) (omega (arith, x, t))))) (s.leaves j leaf e);
+        subst (InGammaLeaf gamma flow naming memory b leaf) (sym (same_value l n row after (leaf_position base j) (same (leaf_position base j) (omega (arith, x)) (omega (arith, x, t))))) (s.leaves j leaf e);
     classes = λ c heap h.
         let six : cond {A = ℕ} base.shape.heap 6 0 ≡ 6 = rw heap refl in
         let x = class_is base c f (omega (arith, six, h)) in
-        subst (StandsClass stands flow naming memory b base (class_at c)) (sym (same_value l n row after (class_position base c) (same (class_position base c) (omega (arith, x)) (omega (arith, x, six, h))))) (s.classes c heap h);
+        subst (InGammaClass gamma flow naming memory b base (class_at c)) (sym (same_value l n row after (class_position base c) (same (class_position base c) (omega (arith, x)) (omega (arith, x, six, h))))) (s.classes c heap h);
     zeros = λ z i part e h.
         let t = slice_get_within base.shape.zeros z part e in
         let x = zero_is base z f (omega (arith, t)) in
-        subst (λ y. StandsZero stands naming memory y (array_bytes part (bytes_at memory i))) (sym (same_zero l n row after (zero_position base z) (same (zero_position base z) (omega (arith, x)) (omega (arith, x, t))))) (s.zeros z i part e h);
+        subst (λ y. InGammaZero gamma naming memory y (array_bytes part (bytes_at memory i))) (sym (same_zero l n row after (zero_position base z) (same (zero_position base z) (omega (arith, x)) (omega (arith, x, t))))) (s.zeros z i part e h);
     states = λ i heap h.
         let one : cond {A = ℕ} base.shape.heap 1 0 ≡ 1 = rw heap refl in
         let x = zero_is base (length base.shape.zeros) f (omega arith) in
-        subst (λ y. StandsState stands naming memory y (life_at memory i) (length (bytes_at memory i))) (sym (same_state l n row after (state_position base) (same (state_position base) (omega (arith, x)) (omega (arith, x, one))))) (s.states i heap h);
+        subst (λ y. InGammaState gamma naming memory y (life_at memory i) (length (bytes_at memory i))) (sym (same_state l n row after (state_position base) (same (state_position base) (omega (arith, x)) (omega (arith, x, one))))) (s.states i heap h);
   }
 
-state_moves : {I : Type 0} (stands : I → ℤ → Type 0) (naming : Naming) (old new : Memory) (y : _) (life : Life) (size : ℕ) → StandsState stands naming old y life size → StandsState stands naming new y life size
-state_moves stands naming old new y live size h = h
-state_moves stands naming old new y ended size h = h
-state_moves stands naming old new y freed size h = h
+state_moves : {I : Type 0} (gamma : I → ℤ → Type 0) (naming : Naming) (old new : Memory) (y : _) (life : Life) (size : ℕ) → InGammaState gamma naming old y life size → InGammaState gamma naming new y life size
+state_moves gamma naming old new y live size h = h
+state_moves gamma naming old new y ended size h = h
+state_moves gamma naming old new y freed size h = h
 
-module _ {I : Type 0} {l : LatticeOf I} {n : IntegersOf I} {stands : I → ℤ → Type 0} (o : OrderLaws l) (q : BoundLaws l n stands) (flow : Flow) (naming : Naming) {old new : Memory} {i offset size : ℕ} (s : IsRegion old new i offset size) where
-  pub states_move : (b : ℕ) (base : BaseInfo) (row : List (Cell I)) → ((j : ℕ) → base.shape.heap ≡ true → naming j ≡ Some b → StandsState stands naming old (state_at l n row (state_position base)) (life_at old j) (length (bytes_at old j)))
-      → (j : ℕ) → base.shape.heap ≡ true → naming j ≡ Some b → StandsState stands naming new (state_at l n row (state_position base)) (life_at new j) (length (bytes_at new j))
+module _ {I : Type 0} {l : LatticeOf I} {n : IntegersOf I} {gamma : I → ℤ → Type 0} (o : OrderLaws l) (q : BoundLaws l n gamma) (flow : Flow) (naming : Naming) {old new : Memory} {i offset size : ℕ} (s : IsRegion old new i offset size) where
+  pub states_move : (b : ℕ) (base : BaseInfo) (row : List (Cell I)) → ((j : ℕ) → base.shape.heap ≡ true → naming j ≡ Some b → InGammaState gamma naming old (state_at l n row (state_position base)) (life_at old j) (length (bytes_at old j)))
+      → (j : ℕ) → base.shape.heap ≡ true → naming j ≡ Some b → InGammaState gamma naming new (state_at l n row (state_position base)) (life_at new j) (length (bytes_at new j))
   states_move b base row h j heap named =
-      subst (λ y. StandsState stands naming new (state_at l n row (state_position base)) (life_at new j) y) (sym (s.lengths j))
-      (subst (λ y. StandsState stands naming new (state_at l n row (state_position base)) y (length (bytes_at old j))) (sym (s.lives j))
-      (state_moves stands naming old new (state_at l n row (state_position base)) (life_at old j) (length (bytes_at old j)) (h j heap named)))
+      subst (λ y. InGammaState gamma naming new (state_at l n row (state_position base)) (life_at new j) y) (sym (s.lengths j))
+      (subst (λ y. InGammaState gamma naming new (state_at l n row (state_position base)) y (length (bytes_at old j))) (sym (s.lives j))
+      (state_moves gamma naming old new (state_at l n row (state_position base)) (life_at old j) (length (bytes_at old j)) (h j heap named)))
 
   -- a base whose instances have no byte of the region
-  pub base_apart : (b : ℕ) (base : BaseInfo) (row : List (Cell I)) → (naming i ≡ Some b → 0 < size → ⊥) → StandsBase l n stands flow naming old b base row → StandsBase l n stands flow naming new b base row
+  pub base_apart : (b : ℕ) (base : BaseInfo) (row : List (Cell I)) → (naming i ≡ Some b → 0 < size → ⊥) → InGammaBase l n gamma flow naming old b base row → InGammaBase l n gamma flow naming new b base row
   unfolding byte_at
   base_apart b base row none t = record {
     leaves = λ j leaf e. cell_apart o q flow naming s b leaf.class leaf.signed _ _ _ (t.leaves j leaf e) (λ u a p z from to. none u.named z) (λ u a k w from to. none u.named (omega (arith, from, to)));
     classes = λ c heap h. cell_apart o q flow naming s b (class_at c) true _ _ _ (t.classes c heap h) (λ u a p z from to. none u.named z) (λ u a k w from to. none u.named (omega (arith, from, to)));
     zeros = λ z j part e h.
         let bytes : bytes_at new j ≡ bytes_at old j = same_slices _ _ (λ y. s.outside j y (λ d from to. none (subst (λ k. naming k ≡ Some b) d h.named) (omega (arith, from, to)))) in
-        subst (λ y. StandsZero stands naming new (zero_at l n row (zero_position base z)) (array_bytes part y)) (sym bytes) (t.zeros z j part e (live_moves (alike_region s) naming b j h));
+        subst (λ y. InGammaZero gamma naming new (zero_at l n row (zero_position base z)) (array_bytes part y)) (sym bytes) (t.zeros z j part e (live_moves (alike_region s) naming b j h));
     states = states_move b base row t.states;
   }
 
 -- ---- all bases
 
-module _ {I : Type 0} {l : LatticeOf I} {n : IntegersOf I} {stands : I → ℤ → Type 0} (o : OrderLaws l) (q : BoundLaws l n stands) (flow : Flow) (naming : Naming) (row : List (Cell I)) (state : MachineState) (k : IsLaidOut flow (length row)) (s : StandsFor l n stands flow naming row state) where
-  pub stands_base : (b : ℕ) (base : BaseInfo) → slice_get flow.bases.items b ≡ Some base → StandsBase l n stands flow naming state.memory b base row
+module _ {I : Type 0} {l : LatticeOf I} {n : IntegersOf I} {gamma : I → ℤ → Type 0} (o : OrderLaws l) (q : BoundLaws l n gamma) (flow : Flow) (naming : Naming) (row : List (Cell I)) (state : MachineState) (k : IsLaidOut flow (length row)) (s : InGamma l n gamma flow naming row state) where
+  pub stands_base : (b : ℕ) (base : BaseInfo) → slice_get flow.bases.items b ≡ Some base → InGammaBase l n gamma flow naming state.memory b base row
   stands_base b base e = record {
     leaves = λ j leaf f. s.leaves b j base leaf e f;
     classes = λ c heap h. s.classes b c base e heap h;
@@ -128,8 +128,8 @@ module _ {I : Type 0} {l : LatticeOf I} {n : IntegersOf I} {stands : I → ℤ �
 
   module _ (new : Memory) (i offset size : ℕ) (region : IsRegion state.memory new i offset size) (sane : IsMemoryOf flow.model flow.bases.items naming new) where
     -- a row that has the same temporaries, and stands for each base
-    pub bases_stand : (after : List (Cell I)) → ((at : ℕ) → k.behind ≤ at → cell_at after at ≡ cell_at row at) → ((b : ℕ) (base : BaseInfo) → slice_get flow.bases.items b ≡ Some base → StandsBase l n stands flow naming new b base after)
-        → StandsFor l n stands flow naming after (record { memory = new; temps = state.temps; entered = state.entered })
+    pub bases_stand : (after : List (Cell I)) → ((at : ℕ) → k.behind ≤ at → cell_at after at ≡ cell_at row at) → ((b : ℕ) (base : BaseInfo) → slice_get flow.bases.items b ≡ Some base → InGammaBase l n gamma flow naming new b base after)
+        → InGamma l n gamma flow naming after (record { memory = new; temps = state.temps; entered = state.entered })
     bases_stand after temps all = record {
       sane = sane;
       held = record {
@@ -145,11 +145,11 @@ module _ {I : Type 0} {l : LatticeOf I} {n : IntegersOf I} {stands : I → ℤ �
           let far = k.temporaries in
           let small = k.laid.small in
           let same = same_value l n row after (temp_position flow t) (temps (temp_position flow t) (omega (arith, far, small))) in
-          subst (λ y. StandsScalar stands naming new y scalar) (sym same) (scalar_moves (alike_region region) stands naming (temp_value l n flow row t) scalar (s.temps t scalar e));
+          subst (λ y. InGammaScalar gamma naming new y scalar) (sym same) (scalar_moves (alike_region region) gamma naming (temp_value l n flow row t) scalar (s.temps t scalar e));
     }
 
     -- nothing was written
-    pub none_stands : size ≡ 0 → StandsFor l n stands flow naming row (record { memory = new; temps = state.temps; entered = state.entered })
+    pub none_stands : size ≡ 0 → InGamma l n gamma flow naming row (record { memory = new; temps = state.temps; entered = state.entered })
     none_stands h = bases_stand row (λ at f. refl) (λ b base e. base_apart o q flow naming region b base row (λ named z. omega (arith, h, z)) (stands_base b base e))
 
     module _ (set : Bases) (f : BaseInfo → ℕ → List (Cell I) → List (Cell I)) (within : (b : ℕ) (base : BaseInfo) → slice_get flow.bases.items b ≡ Some base → WritesWithin base.first (base.first + base_values base) (f base b)) where
@@ -180,8 +180,8 @@ module _ {I : Type 0} {l : LatticeOf I} {n : IntegersOf I} {stands : I → ℤ �
           spares 0 0 a other (subst (λ z. slice_get flow.bases.items z ≡ Some other) (sym same) g) (λ at u v w x. omega (arith, v)))).long row
 
       module _ (here : (b : ℕ) → naming i ≡ Some b → 0 < size → has_base set b ≡ true)
-          (each : (b : ℕ) (base : BaseInfo) (r : List (Cell I)) → slice_get flow.bases.items b ≡ Some base → has_base set b ≡ true → length r ≡ length row → StandsBase l n stands flow naming state.memory b base r → StandsBase l n stands flow naming new b base (f base b r)) where
-        each_base : (b : ℕ) (base : BaseInfo) → slice_get flow.bases.items b ≡ Some base → StandsBase l n stands flow naming new b base (write_bases flow.bases.items set f row)
+          (each : (b : ℕ) (base : BaseInfo) (r : List (Cell I)) → slice_get flow.bases.items b ≡ Some base → has_base set b ≡ true → length r ≡ length row → InGammaBase l n gamma flow naming state.memory b base r → InGammaBase l n gamma flow naming new b base (f base b r)) where
+        each_base : (b : ℕ) (base : BaseInfo) → slice_get flow.bases.items b ≡ Some base → InGammaBase l n gamma flow naming new b base (write_bases flow.bases.items set f row)
         each_base b base e =
             let t = turned b base e in
             let old = same_base flow naming state.memory b base row t.before (base_fits b base e) t.same (stands_base b base e) in
@@ -190,5 +190,5 @@ module _ {I : Type 0} {l : LatticeOf I} {n : IntegersOf I} {stands : I → ℤ �
               | inr h ↦ rw h (base_apart o q flow naming region b base t.before (λ named z. true≢false (sym (here b named z) ∙ h)) old)
             ])
 
-        pub writes_stand : StandsFor l n stands flow naming (write_bases flow.bases.items set f row) (record { memory = new; temps = state.temps; entered = state.entered })
+        pub writes_stand : InGamma l n gamma flow naming (write_bases flow.bases.items set f row) (record { memory = new; temps = state.temps; entered = state.entered })
         writes_stand = bases_stand (write_bases flow.bases.items set f row) behind_same each_base

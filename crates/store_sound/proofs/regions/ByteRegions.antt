@@ -22,7 +22,7 @@ use Rattle.memory_model.specs.Memory.ScalarSizes.{class_bytes}
 use Rattle.memory_model.specs.Memory.Instances.{Memory}
 use Rattle.store_sound.specs.Concretization.Places.{IsPlaceOf, OwnedByLeaf, OwnedByClass, IsClassPlace, IsLeafPlace}
 use Rattle.store_sound.specs.Concretization.ValueMeaning.{Naming}
-use Rattle.store_sound.specs.Concretization.RowMeaning.{StandsLeaf, StandsClass}
+use Rattle.store_sound.specs.Concretization.RowMeaning.{InGammaLeaf, InGammaClass}
 use Rattle.store_sound.specs.Operations.Shapes.{IsShaped, at_offset}
 use Rattle.store_sound.proofs.operations.Classes.{class_above}
 use Rattle.store_sound.proofs.operations.Only.{Only, only_put, cell_put}
@@ -47,10 +47,10 @@ module _ {I : Type 0} (l : LatticeOf I) (n : IntegersOf I) (m : Model) where
   write_only p v true = only_put p (p + 1) p (λ row. Value v) (omega arith) (omega arith)
   write_only p v false = only_put p (p + 1) p (λ row. Value ((value_lattice l).join (value_at l n row p) v)) (omega arith) (omega arith)
 
-module _ {I : Type 0} {l : LatticeOf I} {n : IntegersOf I} {stands : I → ℤ → Type 0} (o : OrderLaws l) (q : BoundLaws l n stands) (flow : Flow) (naming : Naming) {old new : Memory} {i offset size : ℕ} (s : IsRegion old new i offset size) where
+module _ {I : Type 0} {l : LatticeOf I} {n : IntegersOf I} {gamma : I → ℤ → Type 0} (o : OrderLaws l) (q : BoundLaws l n gamma) (flow : Flow) (naming : Naming) {old new : Memory} {i offset size : ℕ} (s : IsRegion old new i offset size) where
   -- a leaf that a window with the region does not overlap
   pub leaf_missed : (b : ℕ) (leaf : Leaf) (window : Window) → 0 < leaf.stride → ((x : ℕ) → offset ≤ x → x < offset + size → (window.lo ≤ x) × (x ≤ window.hi)) → is_overlapped flow.model leaf window ≡ false
-      → (v : values.Value I) → StandsLeaf stands flow naming old b leaf v → StandsLeaf stands flow naming new b leaf v
+      → (v : values.Value I) → InGammaLeaf gamma flow naming old b leaf v → InGammaLeaf gamma flow naming new b leaf v
   leaf_missed b leaf window stride has miss v cell =
       let some = class_above flow.model leaf.class in
       let met : (a x : ℕ) → IsPlaceOf leaf a → a ≤ x → x < a + class_bytes flow.model leaf.class → offset ≤ x → x < offset + size → ⊥ = λ a x place from to first last.
@@ -64,7 +64,7 @@ module _ {I : Type 0} {l : LatticeOf I} {n : IntegersOf I} {stands : I → ℤ �
 
   -- the class cell of characters, where each byte of the window is a leaf's
   pub char_missed : (b : ℕ) (base : BaseInfo) (window : Window) → IsShaped base → base.shape.heap ≡ true → ((x : ℕ) → offset ≤ x → x < offset + size → (window.lo ≤ x) × (x ≤ window.hi)) → has_stray base.shape.cells Char window ≡ false
-      → (v : values.Value I) → StandsClass stands flow naming old b base Char v → StandsClass stands flow naming new b base Char v
+      → (v : values.Value I) → InGammaClass gamma flow naming old b base Char v → InGammaClass gamma flow naming new b base Char v
   char_missed b base window shape heap has miss v cell =
       let met : (x : ℕ) → offset ≤ x → x < offset + size → (IsLeafPlace base.shape.cells Char x → ⊥) → ⊥ = λ x first last none.
       let r = has x first last in

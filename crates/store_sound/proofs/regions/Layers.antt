@@ -17,12 +17,12 @@ use Rattle.store_cells.specs.ClassNumbers.{class_at}
 use Rattle.store_cells.specs.RowPositions.{leaf_position, class_position, zero_position, state_position, cell_at, value_at, zero_at, state_at}
 use Rattle.store_cells.specs.Walks.{walk, turns}
 use Rattle.memory_model.specs.Memory.Instances.{Memory, bytes_at, life_at}
-use Rattle.store_sound.specs.Concretization.ValueMeaning.{Naming, StandsZero, StandsState}
-use Rattle.store_sound.specs.Concretization.RowMeaning.{array_bytes, IsLiveOf, StandsLeaf, StandsClass}
+use Rattle.store_sound.specs.Concretization.ValueMeaning.{Naming, InGammaZero, InGammaState}
+use Rattle.store_sound.specs.Concretization.RowMeaning.{array_bytes, IsLiveOf, InGammaLeaf, InGammaClass}
 use Rattle.store_sound.proofs.operations.Only.{Leaves, Only, only_leaves, only_more, only_same, only_then, only_walk, Turned, walk_turn}
 use Rattle.store_sound.proofs.operations.StoreRows.{Fits, leaf_is, class_is, zero_is}
 use Rattle.store_sound.proofs.operations.StoreValues.{same_value, same_zero, same_state}
-use Rattle.store_sound.specs.Regions.RegionWrites.{IsRegion, WritesWithin, StandsBase}
+use Rattle.store_sound.specs.Regions.RegionWrites.{IsRegion, WritesWithin, InGammaBase}
 use Rattle.store_sound.proofs.regions.BaseRows.{states_move}
 
 pub writes_only : {I : Type 0} (lo hi : ℕ) (f : List (Cell I) → List (Cell I)) → Only lo hi f → WritesWithin lo hi f
@@ -132,17 +132,17 @@ module _ {I : Type 0} (base : BaseInfo) (f g h : List (Cell I) → List (Cell I)
       (only_then _ _ f g (only_more _ _ f (omega arith) (omega arith) of_leaves) (only_more _ _ g (omega arith) (omega arith) of_classes))
       (only_more _ _ h (omega arith) (omega arith) of_zeros))
 
-module _ {I : Type 0} {l : LatticeOf I} {n : IntegersOf I} {stands : I → ℤ → Type 0} (o : OrderLaws l) (q : BoundLaws l n stands) (flow : Flow) (naming : Naming) {old new : Memory} {i offset size : ℕ} (s : IsRegion old new i offset size) (b : ℕ) (base : BaseInfo) (fits : Fits base)
+module _ {I : Type 0} {l : LatticeOf I} {n : IntegersOf I} {gamma : I → ℤ → Type 0} (o : OrderLaws l) (q : BoundLaws l n gamma) (flow : Flow) (naming : Naming) {old new : Memory} {i offset size : ℕ} (s : IsRegion old new i offset size) (b : ℕ) (base : BaseInfo) (fits : Fits base)
     (f g h : List (Cell I) → List (Cell I)) (of_leaves : Only base.first (base.first + length base.shape.cells) f) (of_classes : Only (base.first + length base.shape.cells) (base.first + base_cells base) g) (of_zeros : Only (base.first + base_cells base) ((base.first + base_cells base) + length base.shape.zeros) h) where
-  module _ (row : List (Cell I)) (t : StandsBase l n stands flow naming old b base row)
-      (leaf_new : (j : ℕ) (leaf : Leaf) → slice_get base.shape.cells j ≡ Some leaf → StandsLeaf stands flow naming new b leaf (value_at l n (f row) (leaf_position base j)))
-      (class_new : (r : List (Cell I)) → length r ≡ length row → ((j : ℕ) → base.shape.heap ≡ true → naming j ≡ Some b → StandsState stands naming old (state_at l n r (state_position base)) (life_at old j) (length (bytes_at old j))) → (c : ℕ) → base.shape.heap ≡ true → c < 6 → StandsClass stands flow naming old b base (class_at c) (value_at l n r (class_position base c)) → StandsClass stands flow naming new b base (class_at c) (value_at l n (g r) (class_position base c)))
-      (zero_new : (r : List (Cell I)) → length r ≡ length row → (z : ℕ) (part : ZeroPart) → slice_get base.shape.zeros z ≡ Some part → ((j : ℕ) → IsLiveOf naming old b j → StandsZero stands naming old (zero_at l n r (zero_position base z)) (array_bytes part (bytes_at old j))) → (j : ℕ) → IsLiveOf naming old b j → StandsZero stands naming new (zero_at l n (h r) (zero_position base z)) (array_bytes part (bytes_at new j))) where
-    leaf_at : (j : ℕ) (leaf : Leaf) → slice_get base.shape.cells j ≡ Some leaf → StandsLeaf stands flow naming new b leaf (value_at l n (h (g (f row))) (leaf_position base j))
+  module _ (row : List (Cell I)) (t : InGammaBase l n gamma flow naming old b base row)
+      (leaf_new : (j : ℕ) (leaf : Leaf) → slice_get base.shape.cells j ≡ Some leaf → InGammaLeaf gamma flow naming new b leaf (value_at l n (f row) (leaf_position base j)))
+      (class_new : (r : List (Cell I)) → length r ≡ length row → ((j : ℕ) → base.shape.heap ≡ true → naming j ≡ Some b → InGammaState gamma naming old (state_at l n r (state_position base)) (life_at old j) (length (bytes_at old j))) → (c : ℕ) → base.shape.heap ≡ true → c < 6 → InGammaClass gamma flow naming old b base (class_at c) (value_at l n r (class_position base c)) → InGammaClass gamma flow naming new b base (class_at c) (value_at l n (g r) (class_position base c)))
+      (zero_new : (r : List (Cell I)) → length r ≡ length row → (z : ℕ) (part : ZeroPart) → slice_get base.shape.zeros z ≡ Some part → ((j : ℕ) → IsLiveOf naming old b j → InGammaZero gamma naming old (zero_at l n r (zero_position base z)) (array_bytes part (bytes_at old j))) → (j : ℕ) → IsLiveOf naming old b j → InGammaZero gamma naming new (zero_at l n (h r) (zero_position base z)) (array_bytes part (bytes_at new j))) where
+    leaf_at : (j : ℕ) (leaf : Leaf) → slice_get base.shape.cells j ≡ Some leaf → InGammaLeaf gamma flow naming new b leaf (value_at l n (h (g (f row))) (leaf_position base j))
     leaf_at j leaf e =
         let u = slice_get_within base.shape.cells j leaf e in
         let x = leaf_is base j fits u in
-        subst (StandsLeaf stands flow naming new b leaf)
+        subst (InGammaLeaf gamma flow naming new b leaf)
         (sym (same_value l n (f row) (h (g (f row))) (leaf_position base j)
         (of_zeros.keeps (g (f row)) (leaf_position base j) (λ v w. omega (arith, x, u, v)) ∙ of_classes.keeps (f row) (leaf_position base j) (λ v w. omega (arith, x, u, v)))))
         (leaf_new j leaf e)
@@ -153,36 +153,36 @@ module _ {I : Type 0} {l : LatticeOf I} {n : IntegersOf I} {stands : I → ℤ �
         let x = zero_is base (length base.shape.zeros) fits (omega arith) in
         of_leaves.keeps row (state_position base) (λ v w. omega (arith, x, w))
 
-    leaves_states : (j : ℕ) → base.shape.heap ≡ true → naming j ≡ Some b → StandsState stands naming old (state_at l n (f row) (state_position base)) (life_at old j) (length (bytes_at old j))
-    leaves_states j heap named = subst (λ y. StandsState stands naming old y (life_at old j) (length (bytes_at old j))) (sym (same_state l n row (f row) (state_position base) (state_same heap))) (t.states j heap named)
+    leaves_states : (j : ℕ) → base.shape.heap ≡ true → naming j ≡ Some b → InGammaState gamma naming old (state_at l n (f row) (state_position base)) (life_at old j) (length (bytes_at old j))
+    leaves_states j heap named = subst (λ y. InGammaState gamma naming old y (life_at old j) (length (bytes_at old j))) (sym (same_state l n row (f row) (state_position base) (state_same heap))) (t.states j heap named)
 
-    class_in : (c : ℕ) → base.shape.heap ≡ true → c < 6 → StandsClass stands flow naming new b base (class_at c) (value_at l n (h (g (f row))) (class_position base c))
+    class_in : (c : ℕ) → base.shape.heap ≡ true → c < 6 → InGammaClass gamma flow naming new b base (class_at c) (value_at l n (h (g (f row))) (class_position base c))
     class_in c heap small =
         let k : cond {A = ℕ} base.shape.heap 6 0 ≡ 6 = rw heap refl in
         let x = class_is base c fits (omega (arith, k, small)) in
-        subst (StandsClass stands flow naming new b base (class_at c))
+        subst (InGammaClass gamma flow naming new b base (class_at c))
         (sym (same_value l n (g (f row)) (h (g (f row))) (class_position base c) (of_zeros.keeps (g (f row)) (class_position base c) (λ v w. omega (arith, x, k, small, v)))))
         (class_new (f row) (of_leaves.long row) leaves_states c heap small
-        (subst (StandsClass stands flow naming old b base (class_at c)) (sym (same_value l n row (f row) (class_position base c) (of_leaves.keeps row (class_position base c) (λ v w. omega (arith, x, w))))) (t.classes c heap small)))
+        (subst (InGammaClass gamma flow naming old b base (class_at c)) (sym (same_value l n row (f row) (class_position base c) (of_leaves.keeps row (class_position base c) (λ v w. omega (arith, x, w))))) (t.classes c heap small)))
 
-    zero_in : (z j : ℕ) (part : ZeroPart) → slice_get base.shape.zeros z ≡ Some part → IsLiveOf naming old b j → StandsZero stands naming new (zero_at l n (h (g (f row))) (zero_position base z)) (array_bytes part (bytes_at new j))
+    zero_in : (z j : ℕ) (part : ZeroPart) → slice_get base.shape.zeros z ≡ Some part → IsLiveOf naming old b j → InGammaZero gamma naming new (zero_at l n (h (g (f row))) (zero_position base z)) (array_bytes part (bytes_at new j))
     zero_in z j part e alive =
         let u = slice_get_within base.shape.zeros z part e in
         let x = zero_is base z fits (omega (arith, u)) in
         zero_new (g (f row)) (of_classes.long (f row) ∙ of_leaves.long row) z part e (λ d live_d.
-        subst (λ y. StandsZero stands naming old y (array_bytes part (bytes_at old d)))
+        subst (λ y. InGammaZero gamma naming old y (array_bytes part (bytes_at old d)))
         (sym (same_zero l n row (g (f row)) (zero_position base z) (of_classes.keeps (f row) (zero_position base z) (λ v w. omega (arith, x, w)) ∙ of_leaves.keeps row (zero_position base z) (λ v w. omega (arith, x, w)))))
         (t.zeros z d part e live_d)) j alive
 
-    state_in : (j : ℕ) → base.shape.heap ≡ true → naming j ≡ Some b → StandsState stands naming old (state_at l n (h (g (f row))) (state_position base)) (life_at old j) (length (bytes_at old j))
+    state_in : (j : ℕ) → base.shape.heap ≡ true → naming j ≡ Some b → InGammaState gamma naming old (state_at l n (h (g (f row))) (state_position base)) (life_at old j) (length (bytes_at old j))
     state_in j heap named =
         let x = zero_is base (length base.shape.zeros) fits (omega arith) in
-        subst (λ y. StandsState stands naming old y (life_at old j) (length (bytes_at old j)))
+        subst (λ y. InGammaState gamma naming old y (life_at old j) (length (bytes_at old j)))
         (sym (same_state l n row (h (g (f row))) (state_position base)
         (of_zeros.keeps (g (f row)) (state_position base) (λ v w. omega (arith, x, w)) ∙ (of_classes.keeps (f row) (state_position base) (λ v w. omega (arith, x, w)) ∙ state_same heap))))
         (t.states j heap named)
 
-    pub layers_stand : StandsBase l n stands flow naming new b base (h (g (f row)))
+    pub layers_stand : InGammaBase l n gamma flow naming new b base (h (g (f row)))
     layers_stand = record {
       leaves = leaf_at;
       classes = class_in;

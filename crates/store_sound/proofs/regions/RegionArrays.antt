@@ -18,7 +18,7 @@ use Rattle.store_cells.specs.RowPositions.{zero_at, zero_in, put_zero}
 use Rattle.memory_model.specs.Memory.Bytes.{Byte}
 use Rattle.memory_model.specs.Memory.Instances.{Memory, bytes_at, byte_at}
 use Rattle.store_sound.specs.Concretization.FirstZeroBytes.{Seen, unknown, end, character, seen_as, one_more, zero_by, first_zero, zero_offset}
-use Rattle.store_sound.specs.Concretization.ValueMeaning.{Naming, StandsZero}
+use Rattle.store_sound.specs.Concretization.ValueMeaning.{Naming, InGammaZero}
 use Rattle.store_sound.specs.Concretization.RowMeaning.{array_of, array_bytes}
 use Rattle.store_sound.proofs.operations.Only.{cell_put}
 use Rattle.store_sound.proofs.operations.Slices.{get_drop}
@@ -206,18 +206,18 @@ wrote_text xs ys k t same h few short long =
 
 -- ---- first zeros in rows
 
-module _ {I : Type 0} {l : LatticeOf I} {n : IntegersOf I} {stands : I → ℤ → Type 0} (o : OrderLaws l) (q : BoundLaws l n stands) (naming : Naming) (memory : Memory) where
+module _ {I : Type 0} {l : LatticeOf I} {n : IntegersOf I} {gamma : I → ℤ → Type 0} (o : OrderLaws l) (q : BoundLaws l n gamma) (naming : Naming) (memory : Memory) where
   pub zero_is_put : (row : List (Cell I)) (p : ℕ) (f : FirstZero I) → p < length row → zero_at l n (put_zero row p f) p ≡ record { at = near_number l n f.at }
   unfolding zero_at
   zero_is_put row p f h = ap (λ c. record { at = near_number l n (zero_in l c).at }) (cell_put row p (First f) h)
 
-  pub put_zero_stands : (row : List (Cell I)) (p : ℕ) (f : FirstZero I) (bytes : List Byte) → p < length row → length bytes ≤ 2 ^ 64 - 1 → StandsZero stands naming memory f bytes → StandsZero stands naming memory (zero_at l n (put_zero row p f) p) bytes
+  pub put_zero_stands : (row : List (Cell I)) (p : ℕ) (f : FirstZero I) (bytes : List Byte) → p < length row → length bytes ≤ 2 ^ 64 - 1 → InGammaZero gamma naming memory f bytes → InGammaZero gamma naming memory (zero_at l n (put_zero row p f) p) bytes
   put_zero_stands row p f bytes there small h =
       let a = offset_near (first_zero bytes) (λ k e. let w = zero_small bytes k e in omega (arith, w, small)) in
       let a0 = a.0 in
       let a1 = a.1 in
-      subst (λ z. StandsZero stands naming memory z bytes) (sym (zero_is_put row p f there)) (near_stands o q f.at (zero_offset (first_zero bytes)) (omega (arith, ints, a0)) (omega (arith, ints, a1)) h)
+      subst (λ z. InGammaZero gamma naming memory z bytes) (sym (zero_is_put row p f there)) (near_stands o q f.at (zero_offset (first_zero bytes)) (omega (arith, ints, a0)) (omega (arith, ints, a1)) h)
 
   -- anything is known of an array of which nothing is
-  pub any_zero_stands : (bytes : List Byte) → length bytes ≤ 2 ^ 64 - 1 → StandsZero stands naming memory (any_zero l n) bytes
+  pub any_zero_stands : (bytes : List Byte) → length bytes ≤ 2 ^ 64 - 1 → InGammaZero gamma naming memory (any_zero l n) bytes
   any_zero_stands bytes small = any_stands o q naming memory (any_zero l n) bytes small (ap (λ x. record { at = x }) (some_between o q (pos 0) the_end (omega (arith, ints))))

@@ -15,17 +15,17 @@ use Rattle.memory_model.specs.Memory.Bytes.{MachinePointer}
 use Rattle.memory_model.specs.Memory.Scalars.{Scalar, pointer}
 use Rattle.memory_model.specs.Effects.Worlds.{World, goes}
 use Rattle.memory_model.specs.Effects.Accesses.{class_in, store}
-use Rattle.store_sound.specs.Concretization.ValueMeaning.{Naming, StandsPointer, StandsScalar}
+use Rattle.store_sound.specs.Concretization.ValueMeaning.{Naming, InGammaPointer, InGammaScalar}
 use Rattle.store_sound.specs.Concretization.SoundMemory.{IsPointerIn}
-use Rattle.store_sound.specs.Concretization.RowMeaning.{StandsFor}
+use Rattle.store_sound.specs.Concretization.RowMeaning.{InGamma}
 use Rattle.store_sound.specs.Operations.Gives.{Gives}
 use Rattle.store_sound.specs.Operations.Scalars.{signed_in}
 use Rattle.store_sound.specs.Operations.Shapes.{SeesPadding, IsLaidOut}
 use Rattle.store_sound.specs.Operations.Statements.{state_in}
 
-module _ {I : Type 0} (l : LatticeOf I) (n : IntegersOf I) (stands : I → ℤ → Type 0) where
+module _ {I : Type 0} (l : LatticeOf I) (n : IntegersOf I) (gamma : I → ℤ → Type 0) where
   -- a store of a character leaves a row that stands for the state behind it, where the counts of bytes see padding
   abbrev pub CharacterStoreStands : Type 0
-  CharacterStoreStands = (flow : Flow) (size : ℕ) → IsLaidOut flow size → SeesPadding flow.model flow.bases.items → (naming : Naming) (row : List (Cell I)) (w u : World) (temps : ℕ → Option Scalar) (entered : ℕ → Option ℕ) → length row ≡ size → StandsFor l n stands flow naming row (state_in w temps entered)
-      → (p : Pointers I) (at : MachinePointer) (kind : declared.Scalar) (x : Value I) (v t : Scalar) → same_class (class_in kind) Char ≡ true → StandsPointer stands naming w.memory p at → IsPointerIn w.memory at → StandsScalar stands naming w.memory x v → near_value l n x ≡ x → store flow.model kind (pointer at) v w ≡ goes t u
-      → Gives (λ after. StandsFor l n stands flow naming after (state_in u temps entered)) (stored l n flow.model flow.bases.items p (class_in kind) (signed_in kind) x row)
+  CharacterStoreStands = (flow : Flow) (size : ℕ) → IsLaidOut flow size → SeesPadding flow.model flow.bases.items → (naming : Naming) (row : List (Cell I)) (w u : World) (temps : ℕ → Option Scalar) (entered : ℕ → Option ℕ) → length row ≡ size → InGamma l n gamma flow naming row (state_in w temps entered)
+      → (p : Pointers I) (at : MachinePointer) (kind : declared.Scalar) (x : Value I) (v t : Scalar) → same_class (class_in kind) Char ≡ true → InGammaPointer gamma naming w.memory p at → IsPointerIn w.memory at → InGammaScalar gamma naming w.memory x v → near_value l n x ≡ x → store flow.model kind (pointer at) v w ≡ goes t u
+      → Gives (λ after. InGamma l n gamma flow naming after (state_in u temps entered)) (stored l n flow.model flow.bases.items p (class_in kind) (signed_in kind) x row)

@@ -14,20 +14,20 @@ use Rattle.semantics.specs.CfgMachine.FlowStates.{Standing, FlowRun, running, fo
 use Rattle.semantics.specs.CfgMachine.FlowSteps.{flow_steps}
 use Rattle.semantics.specs.CfgMachine.FlowStarts.{flow_begin}
 use Rattle.store_sound.specs.Concretization.ValueMeaning.{Naming}
-use Rattle.store_sound.specs.Concretization.RowMeaning.{MachineState, StandsFor}
+use Rattle.store_sound.specs.Concretization.RowMeaning.{MachineState, InGamma}
 
 abbrev pub state_of : Standing → MachineState
 state_of s = record { memory = s.world.memory; temps = s.temps; entered = s.bases }
 
 -- `row_before block at` is the row before an instruction, where the analysis comes to it; `Admits` says at which
 -- places it admits which rules
-module _ {I : Type 0} (l : LatticeOf I) (n : IntegersOf I) (stands : I → ℤ → Type 0) (flow : Flow) (row_before : ℕ → ℕ → Option (List (Cell I))) (Admits : Place → Rule → Type 0) where
+module _ {I : Type 0} (l : LatticeOf I) (n : IntegersOf I) (gamma : I → ℤ → Type 0) (flow : Flow) (row_before : ℕ → ℕ → Option (List (Cell I))) (Admits : Place → Rule → Type 0) where
   -- the row before the next instruction, and the names by which it stands for the state
   pub record StandsAt (s : Standing) : Type 0 where
     pub row : List (Cell I)
     pub naming : Naming
     pub before : row_before s.block s.at ≡ Some row
-    pub stands_for : StandsFor l n stands flow naming row (state_of s)
+    pub stands_for : InGamma l n gamma flow naming row (state_of s)
 
   -- where a run goes on, the row there stands for its state; what it has violated is admitted
   pub record Covers (r : FlowRun) : Type 0 where

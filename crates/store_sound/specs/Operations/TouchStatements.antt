@@ -16,25 +16,25 @@ use Rattle.memory_model.specs.Memory.Scalars.{Scalar, pointer}
 use Rattle.memory_model.specs.Effects.Worlds.{World, goes, stopped_by}
 use Rattle.memory_model.specs.Effects.Touches.{Spot, touched}
 use Rattle.memory_model.specs.Effects.Accesses.{class_in, load}
-use Rattle.store_sound.specs.Concretization.ValueMeaning.{Naming, StandsPointer}
+use Rattle.store_sound.specs.Concretization.ValueMeaning.{Naming, InGammaPointer}
 use Rattle.store_sound.specs.Concretization.SoundMemory.{IsPointerIn}
-use Rattle.store_sound.specs.Concretization.RowMeaning.{StandsFor}
+use Rattle.store_sound.specs.Concretization.RowMeaning.{InGamma}
 use Rattle.store_sound.specs.Operations.Shapes.{AreShaped}
 use Rattle.store_sound.specs.Operations.Statements.{state_in}
 
-module _ {I : Type 0} (l : LatticeOf I) (n : IntegersOf I) (stands : I → ℤ → Type 0) where
+module _ {I : Type 0} (l : LatticeOf I) (n : IntegersOf I) (gamma : I → ℤ → Type 0) where
   -- the rule at which a touch stops is admitted
   abbrev pub TouchAdmits : Type 0
-  TouchAdmits = (flow : Flow) → AreShaped flow.bases.items → (naming : Naming) (row : List (Cell I)) (w : World) (temps : ℕ → Option Scalar) (entered : ℕ → Option ℕ) → StandsFor l n stands flow naming row (state_in w temps entered)
-      → (p : Pointers I) (at : MachinePointer) (size : ℕ) (writes : Bool) (r : Rule) → StandsPointer stands naming w.memory p at → IsPointerIn w.memory at → touched w at size writes ≡ stopped_by w r → violates (touch l n flow.bases.items row p 0 size writes).violations r ≡ true
+  TouchAdmits = (flow : Flow) → AreShaped flow.bases.items → (naming : Naming) (row : List (Cell I)) (w : World) (temps : ℕ → Option Scalar) (entered : ℕ → Option ℕ) → InGamma l n gamma flow naming row (state_in w temps entered)
+      → (p : Pointers I) (at : MachinePointer) (size : ℕ) (writes : Bool) (r : Rule) → InGammaPointer gamma naming w.memory p at → IsPointerIn w.memory at → touched w at size writes ≡ stopped_by w r → violates (touch l n flow.bases.items row p 0 size writes).violations r ≡ true
 
   -- the rule at which a load stops is that of an indeterminate byte, or one that its touch admits
   abbrev pub LoadAdmits : Type 0
-  LoadAdmits = (flow : Flow) → AreShaped flow.bases.items → (naming : Naming) (row : List (Cell I)) (w : World) (temps : ℕ → Option Scalar) (entered : ℕ → Option ℕ) → StandsFor l n stands flow naming row (state_in w temps entered)
-      → (p : Pointers I) (at : MachinePointer) (kind : declared.Scalar) (r : Rule) → StandsPointer stands naming w.memory p at → IsPointerIn w.memory at → load flow.model kind (pointer at) w ≡ stopped_by w r
+  LoadAdmits = (flow : Flow) → AreShaped flow.bases.items → (naming : Naming) (row : List (Cell I)) (w : World) (temps : ℕ → Option Scalar) (entered : ℕ → Option ℕ) → InGamma l n gamma flow naming row (state_in w temps entered)
+      → (p : Pointers I) (at : MachinePointer) (kind : declared.Scalar) (r : Rule) → InGammaPointer gamma naming w.memory p at → IsPointerIn w.memory at → load flow.model kind (pointer at) w ≡ stopped_by w r
       → (violates (touch l n flow.bases.items row p 0 (class_bytes flow.model (class_in kind)) false).violations r ≡ true) ⊎ (r ≡ Uninitref)
 
   -- where a touch goes on, the pointers that go on stand for the machine's
   abbrev pub TouchStands : Type 0
-  TouchStands = (flow : Flow) → AreShaped flow.bases.items → (naming : Naming) (row : List (Cell I)) (w u : World) (temps : ℕ → Option Scalar) (entered : ℕ → Option ℕ) → StandsFor l n stands flow naming row (state_in w temps entered)
-      → (p : Pointers I) (at : MachinePointer) (size : ℕ) (writes : Bool) (spot : Spot) → StandsPointer stands naming w.memory p at → IsPointerIn w.memory at → touched w at size writes ≡ goes spot u → StandsPointer stands naming w.memory (touch l n flow.bases.items row p 0 size writes).rest at
+  TouchStands = (flow : Flow) → AreShaped flow.bases.items → (naming : Naming) (row : List (Cell I)) (w u : World) (temps : ℕ → Option Scalar) (entered : ℕ → Option ℕ) → InGamma l n gamma flow naming row (state_in w temps entered)
+      → (p : Pointers I) (at : MachinePointer) (size : ℕ) (writes : Bool) (spot : Spot) → InGammaPointer gamma naming w.memory p at → IsPointerIn w.memory at → touched w at size writes ≡ goes spot u → InGammaPointer gamma naming w.memory (touch l n flow.bases.items row p 0 size writes).rest at

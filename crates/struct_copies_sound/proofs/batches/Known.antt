@@ -25,7 +25,7 @@ use Rattle.store_sound.specs.Operations.Gives.{Gives}
 use Rattle.store_sound.proofs.operations.Classes.{class_above}
 use Rattle.store_sound.proofs.operations.Near.{near_is}
 use Rattle.store_sound.proofs.operations.Slices.{get_there}
-use Rattle.store_sound.specs.Regions.RegionWrites.{StandsBase}
+use Rattle.store_sound.specs.Regions.RegionWrites.{InGammaBase}
 use Rattle.store_struct_leaves.specs.LeafCopies.{write_all, write_leaf}
 use Rattle.store_structs.specs.StructCopies.{leaf_access, read_source, write_target, copy_read, copy_leaves, copy_all}
 use Rattle.store_structs.specs.CopyLengths.{write_leaf_keeps}
@@ -40,10 +40,10 @@ use Rattle.struct_copies_sound.proofs.batches.AwayCells.{IsAway, all_beside}
 use Rattle.struct_copies_sound.proofs.batches.Batches.{batch_gives, done, batches_give}
 use Rattle.struct_copies_sound.proofs.batches.TargetPlaces.{place_there}
 
-module _ {flow : Flow} {naming : Naming} {old new : Memory} (k : Copied flow naming old new) (few : length k.leaves ≤ 2 ^ 62) {I : Type 0} {l : LatticeOf I} {n : IntegersOf I} {stands : I → ℤ → Type 0} (o : OrderLaws l) (q : BoundLaws l n stands) (c : SoundLaws l n stands) (r : RangeLaws l n)
-    (row : List (Cell I)) (wide : k.laid.behind ≤ length row) (stand : (b : ℕ) (base : BaseInfo) → slice_get flow.bases.items b ≡ Some base → StandsBase l n stands flow naming old b base row) where
+module _ {flow : Flow} {naming : Naming} {old new : Memory} (k : Copied flow naming old new) (few : length k.leaves ≤ 2 ^ 62) {I : Type 0} {l : LatticeOf I} {n : IntegersOf I} {gamma : I → ℤ → Type 0} (o : OrderLaws l) (q : BoundLaws l n gamma) (c : SoundLaws l n gamma) (r : RangeLaws l n)
+    (row : List (Cell I)) (wide : k.laid.behind ≤ length row) (stand : (b : ℕ) (base : BaseInfo) → slice_get flow.bases.items b ≡ Some base → InGammaBase l n gamma flow naming old b base row) where
   abbrev pub Told : Fact → ℕ → List (Cell I) → Type 0
-  Told f p s = IsTold l n stands f (value_at l n s p)
+  Told f p s = IsTold l n gamma f (value_at l n s p)
 
   -- the write of a leaf replaces no cell at a position
   abbrev pub Spares : Leaf → ℕ → Type 0
@@ -76,7 +76,7 @@ module _ {flow : Flow} {naming : Naming} {old new : Memory} (k : Copied flow nam
     unfolding read_source
     near_of v is = subst (λ z. NearFound o q z) is (leaf_near o q r flow.model start (leaf_access leaf k.from) flow.bases.items k.source)
 
-    pub writes : (v : values.Value I) → Near o q v → (f : Fact) (p : ℕ) → p < length row → LeafWrites l n flow.model flow.bases.items k.target (leaf_access leaf k.to) v (alone k) (IsTold l n stands f) p (length row)
+    pub writes : (v : values.Value I) → Near o q v → (f : Fact) (p : ℕ) → p < length row → LeafWrites l n flow.model flow.bases.items k.target (leaf_access leaf k.to) v (alone k) (IsTold l n gamma f) p (length row)
     writes v near f p there = leaf_writes_stand o q flow.model flow.bases.items k.target (leaf_access leaf k.to) v (alone k) (λ signed. near_is o q _ (stored_near o q r flow.model v leaf.class signed near)) f p (length row) there
 
     -- the write is that of the value itself
@@ -153,8 +153,8 @@ module _ {flow : Flow} {naming : Naming} {old new : Memory} (k : Copied flow nam
       live_source : IsLiveOf naming old k.source_side.b k.j
       live_source = record { named = k.source_side.named; alive = k.source_side.alive }
 
-      cell : (x : CellName) → IsThere flow.model k.source_side.base x → StandsName l n stands flow naming old k.source_side.b k.source_side.base x (value_at l n row (position flow.model k.source_side.base x))
-      cell x there = name_stands l n stands flow naming old k.source_side.b k.source_side.base row (stand k.source_side.b k.source_side.base k.source_side.at) x there
+      cell : (x : CellName) → IsThere flow.model k.source_side.base x → StandsName l n gamma flow naming old k.source_side.b k.source_side.base x (value_at l n row (position flow.model k.source_side.base x))
+      cell x there = name_stands l n gamma flow naming old k.source_side.b k.source_side.base row (stand k.source_side.b k.source_side.base k.source_side.at) x there
 
       in_row : (x : CellName) → IsThere flow.model k.source_side.base x → position flow.model k.source_side.base x < length row
       in_row x there = (let a = position_in k k.source_side.b k.source_side.base k.source_side.at x there in let b = a.1 in let d = k.laid.laid.close k.source_side.b k.source_side.base k.source_side.at in omega (arith, b, d, wide))

@@ -28,7 +28,7 @@ use Rattle.memory_model.specs.Effects.Touches.{is_allocated, storage_at}
 use Rattle.store_sound.specs.Concretization.Matching.{number_in, Holds}
 use Rattle.store_sound.specs.Concretization.Places.{IsPlaceOf, OwnedByLeaf, IsLeafPlace}
 use Rattle.store_sound.specs.Concretization.SoundMemory.{IsContentIn}
-use Rattle.store_sound.specs.Concretization.ValueMeaning.{Naming, StandsContent}
+use Rattle.store_sound.specs.Concretization.ValueMeaning.{Naming, InGammaContent}
 use Rattle.store_sound.specs.Operations.Gives.{Gives}
 use Rattle.store_sound.specs.Operations.Shapes.{at_offset}
 use Rattle.store_sound.proofs.operations.Classes.{class_above, is_same_class}
@@ -36,7 +36,7 @@ use Rattle.store_sound.proofs.operations.Selected.{counted_place}
 use Rattle.store_sound.proofs.operations.Slices.{get_there}
 use Rattle.store_sound.proofs.operations.StoreLeaves.{number_at}
 use Rattle.store_sound.proofs.chars.ByteValues.{written_number, written_content}
-use Rattle.store_sound.specs.Regions.RegionWrites.{StandsBase}
+use Rattle.store_sound.specs.Regions.RegionWrites.{InGammaBase}
 use Rattle.store_struct_leaves.specs.CopyPlaces.{is_touched}
 use Rattle.store_struct_leaves.specs.LeafCopies.{reaches_class, with_flag}
 use Rattle.store_structs.specs.StructCopies.{leaf_access, read_source}
@@ -71,20 +71,20 @@ gives_more : {V : Type 0} {P Q : V → Type 0} (x : _) → ((v : V) → x ≡ So
 gives_more x f g = record { value = g.value; is = g.is; good = f g.value g.is g.good }
 
 -- a byte whose cell of a wider class takes it as one of a character
-flagged : {I : Type 0} (l : LatticeOf I) (n : IntegersOf I) (stands : I → ℤ → Type 0) (naming : Naming) (memory : Memory) (m : Model) (class : Class) (signed : Bool) (v : values.Value I) (c : Content) → IsNoPart c
-    → ((d : ℕ) (labels : _) → c ≡ number d labels → StandsContent stands naming memory (byte_written l n m class signed v.labels) class (number d labels)) → StandsContent stands naming memory v Char c
-    → StandsContent stands naming memory (with_flag (byte_written l n m class signed v.labels) v.indeterminate) class c
-flagged l n stands naming memory m class signed v indeterminate none numbers h = or_right (byte_written l n m class signed v.labels).indeterminate v.indeterminate h
-flagged l n stands naming memory m class signed v (number d labels) none numbers h = numbers d labels refl
-flagged l n stands naming memory m class signed v (part p k) none numbers h = absurd none
+flagged : {I : Type 0} (l : LatticeOf I) (n : IntegersOf I) (gamma : I → ℤ → Type 0) (naming : Naming) (memory : Memory) (m : Model) (class : Class) (signed : Bool) (v : values.Value I) (c : Content) → IsNoPart c
+    → ((d : ℕ) (labels : _) → c ≡ number d labels → InGammaContent gamma naming memory (byte_written l n m class signed v.labels) class (number d labels)) → InGammaContent gamma naming memory v Char c
+    → InGammaContent gamma naming memory (with_flag (byte_written l n m class signed v.labels) v.indeterminate) class c
+flagged l n gamma naming memory m class signed v indeterminate none numbers h = or_right (byte_written l n m class signed v.labels).indeterminate v.indeterminate h
+flagged l n gamma naming memory m class signed v (number d labels) none numbers h = numbers d labels refl
+flagged l n gamma naming memory m class signed v (part p k) none numbers h = absurd none
 
 no_part : (c : Content) → may_be_copied c (tag_of Char 0) ≡ true → IsNoPart c
 no_part indeterminate h = tt
 no_part (number n labels) h = tt
 no_part (part p k) h = absurd (true≢false (sym h))
 
-module _ {flow : Flow} {naming : Naming} {old new : Memory} (k : Copied flow naming old new) (few : length k.leaves ≤ 2 ^ 62) {I : Type 0} {l : LatticeOf I} {n : IntegersOf I} {stands : I → ℤ → Type 0} (o : OrderLaws l) (q : BoundLaws l n stands) (c : SoundLaws l n stands) (r : RangeLaws l n)
-    (row : List (Cell I)) (long : k.laid.behind ≤ length row) (stand : (b : ℕ) (base : BaseInfo) → slice_get flow.bases.items b ≡ Some base → StandsBase l n stands flow naming old b base row)
+module _ {flow : Flow} {naming : Naming} {old new : Memory} (k : Copied flow naming old new) (few : length k.leaves ≤ 2 ^ 62) {I : Type 0} {l : LatticeOf I} {n : IntegersOf I} {gamma : I → ℤ → Type 0} (o : OrderLaws l) (q : BoundLaws l n gamma) (c : SoundLaws l n gamma) (r : RangeLaws l n)
+    (row : List (Cell I)) (long : k.laid.behind ≤ length row) (stand : (b : ℕ) (base : BaseInfo) → slice_get flow.bases.items b ≡ Some base → InGammaBase l n gamma flow naming old b base row)
     (at : ℕ) (leaf : Leaf) (e : slice_get k.leaves at ≡ Some leaf) where
   abbrev base : BaseInfo
   base = k.target_side.base
@@ -116,8 +116,8 @@ module _ {flow : Flow} {naming : Naming} {old new : Memory} (k : Copied flow nam
     pub source_may : may_be_copied came.source.content (tag_at flow.model k.leaves d) ≡ true
     source_may = subst (λ z. may_be_copied came.source.content (tag_at flow.model k.leaves z) ≡ true) back came.may
 
-    pub reads_byte : (start : List (Cell I)) → Tells k o q c leaf start → Gives (λ v. StandsContent stands naming old v leaf.class y.content) (read_source l n (route k) leaf start)
-    reads_byte start tells = subst (λ z. Gives (λ v. StandsContent stands naming old v leaf.class z) (read_source l n (route k) leaf start)) (sym came.content)
+    pub reads_byte : (start : List (Cell I)) → Tells k o q c leaf start → Gives (λ v. InGammaContent gamma naming old v leaf.class y.content) (read_source l n (route k) leaf start)
+    reads_byte start tells = subst (λ z. Gives (λ v. InGammaContent gamma naming old v leaf.class z) (read_source l n (route k) leaf start)) (sym came.content)
         (reads_content k o q c at leaf e start tells d j came.source own source_byte source_fits source_may)
 
   -- ---- a cell of the class of the leaf
@@ -129,14 +129,14 @@ module _ {flow : Flow} {naming : Naming} {old new : Memory} (k : Copied flow nam
         (λ is from owned. one_leaf k other at d j j y leaf f e ne (subst (λ z. OwnedByLeaf flow.model y z j) (let b : (k.offset + d) - k.offset ≡ d = omega arith in b) owned) own)
 
     -- the write brings what holds of the value as the cell stores it
-    brings : (f : Fact) (v : values.Value I) (start : List (Cell I)) → read_source l n (route k) leaf start ≡ Some v → IsTold l n stands f (as_stored n flow.model v leaf.class (signed_of flow.model k.target_side.base x)) → (s : List (Cell I)) → length s ≡ length row → Told k few o q c r row long stand f (position flow.model k.target_side.base x) (behind k few o q c r row long stand leaf v s)
+    brings : (f : Fact) (v : values.Value I) (start : List (Cell I)) → read_source l n (route k) leaf start ≡ Some v → IsTold l n gamma f (as_stored n flow.model v leaf.class (signed_of flow.model k.target_side.base x)) → (s : List (Cell I)) → length s ≡ length row → Told k few o q c r row long stand f (position flow.model k.target_side.base x) (behind k few o q c r row long stand leaf v s)
     unfolding reaches_class
     brings f v start is good s size = by_cell x there same owns good
       where
         near : Near o q v
         near = near_of k few o q c r row long stand at leaf e start v is
 
-        by_cell : (z : CellName) → IsThere flow.model k.target_side.base z → class_of flow.model k.target_side.base z ≡ leaf.class → Owns flow.model k.target_side.base z (k.offset + d) j → IsTold l n stands f (as_stored n flow.model v leaf.class (signed_of flow.model k.target_side.base z)) → Told k few o q c r row long stand f (position flow.model k.target_side.base z) (behind k few o q c r row long stand leaf v s)
+        by_cell : (z : CellName) → IsThere flow.model k.target_side.base z → class_of flow.model k.target_side.base z ≡ leaf.class → Owns flow.model k.target_side.base z (k.offset + d) j → IsTold l n gamma f (as_stored n flow.model v leaf.class (signed_of flow.model k.target_side.base z)) → Told k few o q c r row long stand f (position flow.model k.target_side.base z) (behind k few o q c r row long stand leaf v s)
         by_cell (leaf_cell i y) h m w g =
             let a = w.there in
             let b = own.there in
@@ -167,7 +167,7 @@ module _ {flow : Flow} {naming : Naming} {old new : Memory} (k : Copied flow nam
     pub own_content : (y : Byte) → byte_at new k.i (k.offset + d) ≡ Some y → Makes k few o q c r row long stand leaf (position flow.model k.target_side.base x) (of_content naming old (class_of flow.model k.target_side.base x) y.content)
     own_content y here start tells = gives_more (read_source l n (route k) leaf start)
         (λ v is g. brings (of_content naming old (class_of flow.model k.target_side.base x) y.content) v start is
-        (content_stored stands naming old n flow.model v (class_of flow.model k.target_side.base x) leaf.class (signed_of flow.model k.target_side.base x) y.content (subst (λ z. StandsContent stands naming old v z y.content) (sym same) g)))
+        (content_stored gamma naming old n flow.model v (class_of flow.model k.target_side.base x) leaf.class (signed_of flow.model k.target_side.base x) y.content (subst (λ z. InGammaContent gamma naming old v z y.content) (sym same) g)))
         (reads_byte d j own y here start tells)
 
   -- the number at a place
@@ -246,17 +246,17 @@ module _ {flow : Flow} {naming : Naming} {old new : Memory} (k : Copied flow nam
         let a : k.offset + d ≡ k.offset + byte.start = omega (arith, b) in
         spot_touched flow.model k.target_side.base (leaf_access leaf k.to).span (k.offset + byte.start) (target_spot k at byte.start leaf e byte.place) i m own there (subst (λ z. OwnedByLeaf flow.model own z m) a owns) wide
 
-    takes : (f : Fact) → ((v : values.Value I) → StandsContent stands naming old v leaf.class y.content → IsTold l n stands f (with_flag (byte_written l n flow.model own.class own.signed v.labels) v.indeterminate)) → Makes k few o q c r row long stand leaf (leaf_position k.target_side.base i) f
+    takes : (f : Fact) → ((v : values.Value I) → InGammaContent gamma naming old v leaf.class y.content → IsTold l n gamma f (with_flag (byte_written l n flow.model own.class own.signed v.labels) v.indeterminate)) → Makes k few o q c r row long stand leaf (leaf_position k.target_side.base i) f
     takes f good start tells = gives_more (read_source l n (route k) leaf start)
         (λ v is g s size. (writes k few o q c r row long stand at leaf e start v (near_of k few o q c r row long stand at leaf e start v is) f (leaf_position k.target_side.base i) (in_row (leaf_cell i own) there)).other self_spares char_is k.target_side.b i k.target_side.base own k.target_side.at k.target_side.has there refl touched (good v g) s size)
         (reads_byte d 0 byte y here start tells)
 
     pub takes_content : Makes k few o q c r row long stand leaf (leaf_position k.target_side.base i) (of_content naming old own.class y.content)
     takes_content = takes (of_content naming old own.class y.content) (λ v g.
-        flagged l n stands naming old flow.model own.class own.signed v y.content
+        flagged l n gamma naming old flow.model own.class own.signed v y.content
         (no_part y.content (subst (λ z. may_be_copied y.content (tag_of z 0) ≡ true) char (subst (λ z. may_be_copied z (tag_of leaf.class 0) ≡ true) (sym (came d 0 byte y here).content) (subst (λ z. may_be_copied (came d 0 byte y here).source.content z ≡ true) (tag_is d 0 byte y here) (source_may d 0 byte y here)))))
-        (λ a labels z. written_content o q flow.model own.class own.signed v.labels naming old a labels (subst (StandsContent stands naming old v leaf.class) z g).0)
-        (subst (λ z. StandsContent stands naming old v z y.content) char g))
+        (λ a labels z. written_content o q flow.model own.class own.signed v.labels naming old a labels (subst (InGammaContent gamma naming old v leaf.class) z g).0)
+        (subst (λ z. InGammaContent gamma naming old v z y.content) char g))
 
     pub takes_number : (ns : List Labelled) → is_pointer own.class ≡ false → length ns ≡ class_bytes flow.model own.class → AreBytes ns → Makes k few o q c r row long stand leaf (leaf_position k.target_side.base i) (of_number (number_of own.signed ns))
     takes_number ns pointer size bytes = takes (of_number (number_of own.signed ns)) (λ v g. written_number o q flow.model own.class own.signed v.labels ns pointer size bytes)

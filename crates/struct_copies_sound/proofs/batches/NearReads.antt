@@ -23,7 +23,7 @@ use Rattle.store_struct_leaves.specs.LeafCopies.{span_meets_padding, reaches_cla
 use Rattle.store_struct_leaves.specs.declared.leaf_copies.LeafAccess.{LeafAccess}
 use Rattle.struct_copies_sound.proofs.leaves.ReadValues.{NearFound, joined_near, if_near, read_near, range_near, byte_near}
 
-module _ {I : Type 0} {l : LatticeOf I} {n : IntegersOf I} {stands : I → ℤ → Type 0} (o : OrderLaws l) (q : BoundLaws l n stands) (r : RangeLaws l n) (m : Model) (row : List (Cell I)) (access : LeafAccess) where
+module _ {I : Type 0} {l : LatticeOf I} {n : IntegersOf I} {gamma : I → ℤ → Type 0} (o : OrderLaws l) (q : BoundLaws l n gamma) (r : RangeLaws l n) (m : Model) (row : List (Cell I)) (access : LeafAccess) where
   abbrev Near : Option (Value I) → Type 0
   Near found = NearFound o q found
 

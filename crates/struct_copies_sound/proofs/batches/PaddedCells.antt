@@ -30,7 +30,7 @@ use Rattle.memory_model.specs.Memory.Instances.{Memory}
 use Rattle.memory_model.specs.Memory.Labels.{Labels}
 use Rattle.memory_model.specs.Memory.Numbers.{Labelled, number_of}
 use Rattle.store_sound.specs.Concretization.SeenLabels.{as_set}
-use Rattle.store_sound.specs.Concretization.ValueMeaning.{Naming, StandsContent}
+use Rattle.store_sound.specs.Concretization.ValueMeaning.{Naming, InGammaContent}
 use Rattle.store_sound.proofs.operations.Near.{IsNearValue, near_number_none}
 use Rattle.store_sound.proofs.operations.Only.{only_put}
 use Rattle.store_sound.proofs.operations.StoreRows.{Fits}
@@ -51,7 +51,7 @@ use Rattle.struct_copies_sound.proofs.batches.FinishWrites.{zeros_only, base_onl
 above : (labels : Labels) → labels_leq (as_set labels) all_labels ≡ true
 above labels = grind arith
 
-module _ {I : Type 0} {l : LatticeOf I} {n : IntegersOf I} {stands : I → ℤ → Type 0} (o : OrderLaws l) (q : BoundLaws l n stands) (m : Model) (class : Class) (signed : Bool) where
+module _ {I : Type 0} {l : LatticeOf I} {n : IntegersOf I} {gamma : I → ℤ → Type 0} (o : OrderLaws l) (q : BoundLaws l n gamma) (m : Model) (class : Class) (signed : Bool) where
   pub unknown_near : IsNearValue l n (unknown_value l n m class signed)
   unknown_near =
       let none : near_number l n l.least ≡ l.least = near_number_none o q l.least q.least_bounds in
@@ -61,13 +61,13 @@ module _ {I : Type 0} {l : LatticeOf I} {n : IntegersOf I} {stands : I → ℤ �
         | inr e ↦ (let u = rw e at w in rw e (record { num = u.num; lo = u.lo; rel = u.rel; len = u.len }))
       ]
 
-  pub unknown_number : (ns : List Labelled) → is_pointer class ≡ false → length ns ≡ class_bytes m class → AreBytes ns → stands (unknown_value l n m class signed).num (number_of signed ns)
+  pub unknown_number : (ns : List Labelled) → is_pointer class ≡ false → length ns ≡ class_bytes m class → AreBytes ns → gamma (unknown_value l n m class signed).num (number_of signed ns)
   unknown_number ns e size bytes =
-      let w : stands (byte_written l n m class signed all_labels).num (number_of signed ns) = written_number o q m class signed all_labels ns e size bytes in
+      let w : gamma (byte_written l n m class signed all_labels).num (number_of signed ns) = written_number o q m class signed all_labels ns e size bytes in
       let u = rw e at w in
       rw e u
 
-  pub unknown_content : (naming : Naming) (memory : Memory) (c : Content) → IsNoPart c → StandsContent stands naming memory (unknown_value l n m class signed) class c
+  pub unknown_content : (naming : Naming) (memory : Memory) (c : Content) → IsNoPart c → InGammaContent gamma naming memory (unknown_value l n m class signed) class c
   unknown_content naming memory indeterminate none = elim (cases_Bool (is_pointer class)) [ inl e ↦ rw e refl | inr e ↦ rw e refl ]
   unknown_content naming memory (number k labels) none = elim (cases_Bool (is_pointer class)) [
     | inl e ↦ rw e (above labels, λ f. refl)
@@ -77,7 +77,7 @@ module _ {I : Type 0} {l : LatticeOf I} {n : IntegersOf I} {stands : I → ℤ �
 
 -- ---- a position
 
-module _ {I : Type 0} {l : LatticeOf I} {n : IntegersOf I} {stands : I → ℤ → Type 0} (o : OrderLaws l) (q : BoundLaws l n stands) (f : Fact) (p size : ℕ) (there : p < size) where
+module _ {I : Type 0} {l : LatticeOf I} {n : IntegersOf I} {gamma : I → ℤ → Type 0} (o : OrderLaws l) (q : BoundLaws l n gamma) (f : Fact) (p size : ℕ) (there : p < size) where
   abbrev pub Good : List (Cell I) → Type 0
   Good row = Has o q (told_up o q f) p size there row
 
@@ -87,7 +87,7 @@ module _ {I : Type 0} {l : LatticeOf I} {n : IntegersOf I} {stands : I → ℤ �
   zero_keeps : (row : List (Cell I)) (at : ℕ) (z : FirstZero I) → (at ≡ p → ⊥) → Good row → Good (put_zero row at z)
   zero_keeps row at z other h = record {
     long = length-set row at (First z) ∙ h.long;
-    good = subst (IsTold l n stands f) (sym (same_value l n row (put_zero row at z) p ((only_put at (at + 1) at (λ r. First z) (omega arith) (omega arith)).keeps row p (λ a b. other (omega (arith, a, b)))))) h.good;
+    good = subst (IsTold l n gamma f) (sym (same_value l n row (put_zero row at z) p ((only_put at (at + 1) at (λ r. First z) (omega arith) (omega arith)).keeps row p (λ a b. other (omega (arith, a, b)))))) h.good;
   }
 
   -- free first zero of the base stands there
@@ -158,7 +158,7 @@ module _ {I : Type 0} {l : LatticeOf I} {n : IntegersOf I} {stands : I → ℤ �
         by_test y a true s g = join_value_keeps l n s (leaf_position base a) (unknown y.class y.signed) ∙ g
         by_test y a false s g = g
 
-    leaf_makes : (j : ℕ) (leaf : Leaf) → slice_get base.shape.cells j ≡ Some leaf → leaf_position base j ≡ p → meets_leaf m pad leaf ≡ true → IsTold l n stands f (unknown leaf.class leaf.signed) → (row : List (Cell I)) → Long row → Good (pad_leaves l n m base pad row)
+    leaf_makes : (j : ℕ) (leaf : Leaf) → slice_get base.shape.cells j ≡ Some leaf → leaf_position base j ≡ p → meets_leaf m pad leaf ≡ true → IsTold l n gamma f (unknown leaf.class leaf.signed) → (row : List (Cell I)) → Long row → Good (pad_leaves l n m base pad row)
     unfolding pad_leaves pad_leaf_at
     leaf_makes j leaf e here met good row long = one_makes Long Good (pad_leaf l n m base pad) 0 base.shape.cells j leaf e
         (λ i a y g d s t. by_test y a (meets_leaf m pad y) s t)
@@ -174,7 +174,7 @@ module _ {I : Type 0} {l : LatticeOf I} {n : IntegersOf I} {stands : I → ℤ �
         by_test y a true s h = join_value_keeps l n s (leaf_position base a) (unknown y.class y.signed) ∙ h
         by_test y a false s h = h
 
-    class_makes : (d : ℕ) → d < 6 → class_position base d ≡ p → IsTold l n stands f (unknown (class_at d) true) → (row : List (Cell I)) → Long row → Good (pad_classes l n m base row)
+    class_makes : (d : ℕ) → d < 6 → class_position base d ≡ p → IsTold l n gamma f (unknown (class_at d) true) → (row : List (Cell I)) → Long row → Good (pad_classes l n m base row)
     unfolding pad_classes pad_class
     class_makes d small here good row long = all 6 small
       where
@@ -187,12 +187,12 @@ module _ {I : Type 0} {l : LatticeOf I} {n : IntegersOf I} {stands : I → ℤ �
         all (suc count) h = elim (cases_eq d count) [
           | inr e ↦ class_keeps count (turns (pad_class l n m base) count row) (all count (omega (arith, h, e)))
           | inl e ↦ (let at : class_position base count ≡ p = ap (class_position base) (sym e) ∙ here in
-              let told : IsTold l n stands f (unknown (class_at count) true) = subst (λ z. IsTold l n stands f (unknown (class_at z) true)) e good in
+              let told : IsTold l n gamma f (unknown (class_at count) true) = subst (λ z. IsTold l n gamma f (unknown (class_at z) true)) e good in
               subst (λ z. Good (join_value l n (turns (pad_class l n m base) count row) z (unknown (class_at count) true))) (sym at)
               (join_makes o q (told_up o q f) p size there (turns (pad_class l n m base) count row) (unknown (class_at count) true) (unknown_near o q m (class_at count) true) told (sized count)))
         ]
 
-    pub padded_leaf : NoZero base → (j : ℕ) (leaf : Leaf) → slice_get base.shape.cells j ≡ Some leaf → leaf_position base j ≡ p → meets_leaf m pad leaf ≡ true → IsTold l n stands f (unknown leaf.class leaf.signed) → (row : List (Cell I)) → Long row → Good (write_padding l n m base pad row)
+    pub padded_leaf : NoZero base → (j : ℕ) (leaf : Leaf) → slice_get base.shape.cells j ≡ Some leaf → leaf_position base j ≡ p → meets_leaf m pad leaf ≡ true → IsTold l n gamma f (unknown leaf.class leaf.signed) → (row : List (Cell I)) → Long row → Good (write_padding l n m base pad row)
     unfolding write_padding pad_cells
     padded_leaf none j leaf e here met good row long = pad_zeros_keep none _ (by_heap base.shape.heap)
       where
@@ -200,7 +200,7 @@ module _ {I : Type 0} {l : LatticeOf I} {n : IntegersOf I} {stands : I → ℤ �
         by_heap true = classes_keep (pad_leaves l n m base pad row) (leaf_makes j leaf e here met good row long)
         by_heap false = leaf_makes j leaf e here met good row long
 
-    pub padded_class : NoZero base → base.shape.heap ≡ true → (d : ℕ) → d < 6 → class_position base d ≡ p → IsTold l n stands f (unknown (class_at d) true) → (row : List (Cell I)) → Long row → Good (write_padding l n m base pad row)
+    pub padded_class : NoZero base → base.shape.heap ≡ true → (d : ℕ) → d < 6 → class_position base d ≡ p → IsTold l n gamma f (unknown (class_at d) true) → (row : List (Cell I)) → Long row → Good (write_padding l n m base pad row)
     unfolding write_padding pad_cells
     padded_class none heap d small here good row long = pad_zeros_keep none _
         (subst (λ z. Good (cond z (pad_classes l n m base (pad_leaves l n m base pad row)) (pad_leaves l n m base pad row))) (sym heap)

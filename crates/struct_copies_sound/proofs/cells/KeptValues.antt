@@ -42,7 +42,7 @@ module _ {K S : Type 0} (Before After : S → Type 0) (f : K → ℕ → S → S
 
 -- ---- a position
 
-module _ {I : Type 0} {l : LatticeOf I} {n : IntegersOf I} {stands : I → ℤ → Type 0} (o : OrderLaws l) (q : BoundLaws l n stands) {P : values.Value I → Type 0} (up : (x y : values.Value I) → (value_lattice l).leq x y ≡ true → P x → P y) (p size : ℕ) (there : p < size) where
+module _ {I : Type 0} {l : LatticeOf I} {n : IntegersOf I} {gamma : I → ℤ → Type 0} (o : OrderLaws l) (q : BoundLaws l n gamma) {P : values.Value I → Type 0} (up : (x y : values.Value I) → (value_lattice l).leq x y ≡ true → P x → P y) (p size : ℕ) (there : p < size) where
   -- a row of the size, of whose value at the position it holds
   pub record Has (row : List (Cell I)) : Type 0 where
     pub long : length row ≡ size

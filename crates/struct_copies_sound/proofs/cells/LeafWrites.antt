@@ -14,12 +14,12 @@ use Rattle.struct_copies_sound.proofs.cells.LeafWritten.{BringsNear, IsHit, all_
 use Rattle.struct_copies_sound.proofs.cells.LeafMade.{own_makes, class_makes, other_makes, byte_makes}
 
 -- a larger value has each of these facts too
-pub told_up : {I : Type 0} {l : LatticeOf I} {n : IntegersOf I} {stands : I → ℤ → Type 0} (o : OrderLaws l) (q : BoundLaws l n stands) (fact : Fact) (x y : Value I) → (value_lattice l).leq x y ≡ true → IsTold l n stands fact x → IsTold l n stands fact y
+pub told_up : {I : Type 0} {l : LatticeOf I} {n : IntegersOf I} {gamma : I → ℤ → Type 0} (o : OrderLaws l) (q : BoundLaws l n gamma) (fact : Fact) (x y : Value I) → (value_lattice l).leq x y ≡ true → IsTold l n gamma fact x → IsTold l n gamma fact y
 told_up {I} {l} o q (of_number z) x y h s = q.larger x.num y.num z (value_below l x y h).num s
 told_up {I} {l} o q (of_content naming memory class content) x y h s = content_larger q naming memory x y class content (value_below l x y h) s
 
-pub leaf_writes_stand : {I : Type 0} {l : LatticeOf I} {n : IntegersOf I} {stands : I → ℤ → Type 0} (o : OrderLaws l) (q : BoundLaws l n stands) → LeafWritesStand l n stands
-leaf_writes_stand {I} {l} {n} {stands} o q m bases set access v alone near fact p size there = record {
+pub leaf_writes_stand : {I : Type 0} {l : LatticeOf I} {n : IntegersOf I} {gamma : I → ℤ → Type 0} (o : OrderLaws l) (q : BoundLaws l n gamma) → LeafWritesStand l n gamma
+leaf_writes_stand {I} {l} {n} {gamma} o q m bases set access v alone near fact p size there = record {
   keeps = λ none row long good. (all_keeps o q m bases set access v alone brings (told_up o q fact) p size there (λ b j base leaf hit. none b j base leaf (replaced b j base leaf hit)) row (record { long = long; good = good })).good;
   own = λ b j base leaf at has among here only reached good row long. (own_makes o q m bases set access v alone brings (told_up o q fact) p size there b base at has j leaf among here (λ c i other y hit. only c i other y (replaced c i other y hit)) reached good row long).good;
   class = λ none b base at has here reached good row long. (class_makes o q m bases set access v alone brings (told_up o q fact) p size there b base at has (λ c i other y hit. none c i other y (replaced c i other y hit)) here reached good row long).good;

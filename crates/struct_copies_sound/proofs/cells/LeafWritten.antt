@@ -30,7 +30,7 @@ use Rattle.struct_copies_sound.proofs.cells.KeptValues.{each_keeps, Has, join_ke
 pub record BringsNear {I : Type 0} (l : LatticeOf I) (n : IntegersOf I) (m : Model) (access : LeafAccess) (v : values.Value I) : Type 0 where
   pub own : (signed : Bool) → IsNearValue l n (as_stored n m v access.class signed)
 
-module _ {I : Type 0} {l : LatticeOf I} {n : IntegersOf I} {stands : I → ℤ → Type 0} (o : OrderLaws l) (q : BoundLaws l n stands) (m : Model) (bases : List BaseInfo) (set : Bases) (access : LeafAccess) (v : values.Value I) (alone : Bool) (brings : BringsNear l n m access v)
+module _ {I : Type 0} {l : LatticeOf I} {n : IntegersOf I} {gamma : I → ℤ → Type 0} (o : OrderLaws l) (q : BoundLaws l n gamma) (m : Model) (bases : List BaseInfo) (set : Bases) (access : LeafAccess) (v : values.Value I) (alone : Bool) (brings : BringsNear l n m access v)
     {P : values.Value I → Type 0} (up : (x y : values.Value I) → (value_lattice l).leq x y ≡ true → P x → P y) (p size : ℕ) (there : p < size) where
   abbrev pub Good : List (Cell I) → Type 0
   Good = Has o q up p size there

@@ -11,9 +11,9 @@ use Rattle.memory_model.specs.Memory.Instances.{Memory}
 use Rattle.memory_model.specs.Memory.Scalars.{Scalar}
 use Rattle.store_sound.specs.Concretization.SoundMemory.{IsMemoryOf}
 use Rattle.store_sound.specs.Concretization.ValueMeaning.{Naming}
-use Rattle.store_sound.specs.Concretization.RowMeaning.{StandsFor}
+use Rattle.store_sound.specs.Concretization.RowMeaning.{InGamma}
 use Rattle.store_sound.specs.Operations.Gives.{Gives}
-use Rattle.store_sound.specs.Regions.RegionWrites.{StandsBase}
+use Rattle.store_sound.specs.Regions.RegionWrites.{InGammaBase}
 use Rattle.store_sound.proofs.regions.BaseRows.{stands_base, bases_stand}
 use Rattle.store_structs.specs.StructCopies.{copy_all, finish, finish_reached, copy_route}
 use Rattle.struct_copies_sound.proofs.leaves.Cells.{leaf_cell, class_cell}
@@ -24,16 +24,16 @@ use Rattle.struct_copies_sound.proofs.copies.NewCells.{name_after}
 use Rattle.struct_copies_sound.proofs.batches.StructPadding.{pad}
 use Rattle.c_layout.specs.declared.shapes.BaseInfo.{BaseInfo}
 
-module _ {flow : Flow} {naming : Naming} {old new : Memory} (k : Copied flow naming old new) (few : length k.leaves ≤ 2 ^ 62) {I : Type 0} {l : LatticeOf I} {n : IntegersOf I} {stands : I → ℤ → Type 0} (o : OrderLaws l) (q : BoundLaws l n stands) (c : SoundLaws l n stands) (r : RangeLaws l n)
-    (row : List (Cell I)) (wide : k.laid.behind ≤ length row) (temps : ℕ → Option Scalar) (entered : ℕ → Option ℕ) (s : StandsFor l n stands flow naming row (record { memory = old; temps = temps; entered = entered })) (sane : IsMemoryOf flow.model flow.bases.items naming new) where
+module _ {flow : Flow} {naming : Naming} {old new : Memory} (k : Copied flow naming old new) (few : length k.leaves ≤ 2 ^ 62) {I : Type 0} {l : LatticeOf I} {n : IntegersOf I} {gamma : I → ℤ → Type 0} (o : OrderLaws l) (q : BoundLaws l n gamma) (c : SoundLaws l n gamma) (r : RangeLaws l n)
+    (row : List (Cell I)) (wide : k.laid.behind ≤ length row) (temps : ℕ → Option Scalar) (entered : ℕ → Option ℕ) (s : InGamma l n gamma flow naming row (record { memory = old; temps = temps; entered = entered })) (sane : IsMemoryOf flow.model flow.bases.items naming new) where
   -- behind the copy
   abbrev IsBehind : List (Cell I) → Type 0
-  IsBehind after = (length after ≡ length row) × StandsFor l n stands flow naming after (record { memory = new; temps = temps; entered = entered })
+  IsBehind after = (length after ≡ length row) × InGamma l n gamma flow naming after (record { memory = new; temps = temps; entered = entered })
 
-  pub route_stands : (view : StructView) → view.size ≡ k.size → view.leaves ≡ length k.leaves → Gives (λ after. (length after ≡ length row) × StandsFor l n stands flow naming after (record { memory = new; temps = temps; entered = entered })) (copy_route l n (route k) view row)
+  pub route_stands : (view : StructView) → view.size ≡ k.size → view.leaves ≡ length k.leaves → Gives (λ after. (length after ≡ length row) × InGamma l n gamma flow naming after (record { memory = new; temps = temps; entered = entered })) (copy_route l n (route k) view row)
   unfolding copy_route
   route_stands view size count =
-      let stand : (b : ℕ) (base : BaseInfo) → slice_get flow.bases.items b ≡ Some base → StandsBase l n stands flow naming old b base row =
+      let stand : (b : ℕ) (base : BaseInfo) → slice_get flow.bases.items b ≡ Some base → InGammaBase l n gamma flow naming old b base row =
       λ b base e. stands_base o q flow naming row (record { memory = old; temps = temps; entered = entered }) (record { shaped = k.laid.shaped; texts = k.laid.texts; behind = k.laid.behind; laid = k.laid.laid; temporaries = k.laid.temporaries; long = wide }) s b base e in
       let g = all_known k few o q c r row wide stand in
       record {

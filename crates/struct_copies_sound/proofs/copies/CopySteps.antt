@@ -44,9 +44,9 @@ use Rattle.memory_model.specs.Effects.Touches.{Spot, touched}
 use Rattle.memory_model.specs.Effects.Worlds.{World, Reply, goes, stops, behind, stopped_by, Left, Stuck}
 use Rattle.semantics.specs.CfgMachine.FlowStates.{Standing}
 use Rattle.semantics.specs.CfgMachine.FlowActs.{giving}
-use Rattle.store_sound.specs.Concretization.ValueMeaning.{Naming, StandsInto, StandsPointer, StandsScalar, StandsByLife}
+use Rattle.store_sound.specs.Concretization.ValueMeaning.{Naming, InGammaInto, InGammaPointer, InGammaScalar, InGammaByLife}
 use Rattle.store_sound.specs.Concretization.SoundMemory.{IsMemoryOf, IsPointerIn, IsWithin, IsNamed}
-use Rattle.store_sound.specs.Concretization.RowMeaning.{StandsFor}
+use Rattle.store_sound.specs.Concretization.RowMeaning.{InGamma}
 use Rattle.store_sound.specs.Operations.Gives.{Gives}
 use Rattle.store_sound.proofs.operations.Frames.{pointer_in_moves, pointer_moves}
 use Rattle.store_sound.proofs.operations.LoadSound.{instance_there}
@@ -101,7 +101,7 @@ apart_is to from size x h same a b c d = elim (or_cases (same_spot to from) (not
     more : (m n : ℕ) → n < m → nat_le m n ≡ false
     more m n h = lt-leb m n h
 
-module _ {I : Type 0} {l : LatticeOf I} {n : IntegersOf I} {stands : I → ℤ → Type 0} (o : OrderLaws l) (q : BoundLaws l n stands) (c : SoundLaws l n stands) (ranges : RangeLaws l n) (flow : Flow) (p : HasPremises flow) (h : HasStructs flow) (naming : Naming) (row : List (Cell I)) (s : Standing) (r : IsReached l n stands flow naming row s) where
+module _ {I : Type 0} {l : LatticeOf I} {n : IntegersOf I} {gamma : I → ℤ → Type 0} (o : OrderLaws l) (q : BoundLaws l n gamma) (c : SoundLaws l n gamma) (ranges : RangeLaws l n) (flow : Flow) (p : HasPremises flow) (h : HasStructs flow) (naming : Naming) (row : List (Cell I)) (s : Standing) (r : IsReached l n gamma flow naming row s) where
   module _ (to : ℕ) (few : to < flow.temps) (index : ℕ) (x y : Pointers I) (t : StructType) (there : slice_get flow.structs.items.items index ≡ Some t) where
     abbrev view : StructView
     view = struct_view t
@@ -135,13 +135,13 @@ module _ {I : Type 0} {l : LatticeOf I} {n : IntegersOf I} {stands : I → ℤ �
     after = kept_target l flow to target.rest (structs.copy_struct l n flow.model flow.bases.items (structs_view flow.structs) index target.rest source.rest row)
 
     abbrev Good : Reply Standing → Type 0
-    Good reply = IsStoodFor l n stands flow after told reply
+    Good reply = IsStoodFor l n gamma flow after told reply
 
     clean : AreAdmitted told s.world.violated
     clean = same_admitted told s.world.violated [] r.begun (none_admitted told)
 
     rule_good : (rule : Rule) → violates told rule ≡ true → Good (giving s to (as_pointer (stopped_by s.world rule)))
-    rule_good rule e = stop_good l n stands flow after told _ _ (both_admitted told s.world.violated _ clean (one_admitted told rule e))
+    rule_good rule e = stop_good l n gamma flow after told _ _ (both_admitted told s.world.violated _ clean (one_admitted told rule e))
 
     first_told : (rule : Rule) → violates source.violations rule ≡ true → violates told rule ≡ true
     first_told rule e = by_test (bases_empty source.rest.bases)
@@ -153,7 +153,7 @@ module _ {I : Type 0} {l : LatticeOf I} {n : IntegersOf I} {stands : I → ℤ �
     second_told : (rule : Rule) → bases_empty source.rest.bases ≡ false → violates target.violations rule ≡ true → violates told rule ≡ true
     second_told rule some e = subst (λ b. violates (cond b source.violations (violations_union source.violations target.violations)) rule ≡ true) (sym some) (union_right source.violations target.violations rule e)
 
-    module _ (d m : MachinePointer) (sd : StandsPointer stands naming s.world.memory x d) (sm : StandsPointer stands naming s.world.memory y m) (inside_d : IsPointerIn s.world.memory d) (inside_m : IsPointerIn s.world.memory m) (named_m : IsNamed naming s.world.memory m) where
+    module _ (d m : MachinePointer) (sd : InGammaPointer gamma naming s.world.memory x d) (sm : InGammaPointer gamma naming s.world.memory y m) (inside_d : IsPointerIn s.world.memory d) (inside_m : IsPointerIn s.world.memory m) (named_m : IsNamed naming s.world.memory m) where
       abbrev size : ℕ
       size = size_of_type (structs_view flow.structs) flow.model.pointer (Struct index)
 
@@ -164,11 +164,11 @@ module _ {I : Type 0} {l : LatticeOf I} {n : IntegersOf I} {stands : I → ℤ �
       same_size = machine_size ∙ sym table_size
 
       -- the pointers that went on
-      module _ (i offset lo hi : ℕ) (z : MachinePointer) (is : z ≡ into i offset lo hi) (alive : life_at s.world.memory i ≡ live) (v : Pointers I) (st : StandsPointer stands naming s.world.memory v z) where
-        into_live : StandsInto stands naming s.world.memory v i offset lo hi
-        into_live = subst (λ w. StandsByLife stands naming s.world.memory v w i offset lo hi) alive (subst (StandsPointer stands naming s.world.memory v) is st)
+      module _ (i offset lo hi : ℕ) (z : MachinePointer) (is : z ≡ into i offset lo hi) (alive : life_at s.world.memory i ≡ live) (v : Pointers I) (st : InGammaPointer gamma naming s.world.memory v z) where
+        into_live : InGammaInto gamma naming s.world.memory v i offset lo hi
+        into_live = subst (λ w. InGammaByLife gamma naming s.world.memory v w i offset lo hi) alive (subst (InGammaPointer gamma naming s.world.memory v) is st)
 
-      side : (z : MachinePointer) (spot : Spot) (writes : Bool) (v : Pointers I) → IsTouched s.world z size writes spot s.world → StandsPointer stands naming s.world.memory v z → IsPointerIn s.world.memory z → (w : WindowHas (window_of n v t.size) spot.offset) × IsSide flow naming s.world.memory v.bases w.window spot.instance spot.offset t.size
+      side : (z : MachinePointer) (spot : Spot) (writes : Bool) (v : Pointers I) → IsTouched s.world z size writes spot s.world → InGammaPointer gamma naming s.world.memory v z → IsPointerIn s.world.memory z → (w : WindowHas (window_of n v t.size) spot.offset) × IsSide flow naming s.world.memory v.bases w.window spot.instance spot.offset t.size
       side z spot writes v g st inside =
           let a = into_live spot.instance spot.offset g.lo g.hi z g.pointer g.alive v st in
           let in_bounds : IsWithin s.world.memory spot.instance spot.offset g.lo g.hi = subst (IsPointerIn s.world.memory) g.pointer inside in
@@ -182,7 +182,7 @@ module _ {I : Type 0} {l : LatticeOf I} {n : IntegersOf I} {stands : I → ℤ �
           let among = slice_get_within flow.bases.items a.base b.0 b.1 in
           (w, record { b = a.base; base = b.0; at = b.1; named = a.named; alive = g.alive; has = and_from _ _ (lt-ltb a.base _ (omega (arith, most, among))) a.among; lo = w.from; hi = w.to; fits = omega (arith, below, same, within) })
 
-      module _ (u : World) (goes_on : effect.copy_struct flow.model leaves size (pointer d) (pointer m) s.world ≡ goes (pointer d) u) (rest_d : StandsPointer stands naming s.world.memory target.rest d) (rest_m : StandsPointer stands naming s.world.memory source.rest m) where
+      module _ (u : World) (goes_on : effect.copy_struct flow.model leaves size (pointer d) (pointer m) s.world ≡ goes (pointer d) u) (rest_d : InGammaPointer gamma naming s.world.memory target.rest d) (rest_m : InGammaPointer gamma naming s.world.memory source.rest m) where
         abbrev g : CopyGoes flow.model leaves size d m s.world u
         g = copy_goes flow.model leaves size d m s.world u (pointer d) goes_on
 
@@ -261,7 +261,7 @@ module _ {I : Type 0} {l : LatticeOf I} {n : IntegersOf I} {stands : I → ℤ �
         wide = subst (λ z. p.laid.behind ≤ z) (sym r.long) p.laid.long
 
         abbrev Behind : List (Cell I) → Type 0
-        Behind row2 = (length row2 ≡ length row) × StandsFor l n stands flow naming row2 (record { memory = u.memory; temps = s.temps; entered = s.bases })
+        Behind row2 = (length row2 ≡ length row) × InGamma l n gamma flow naming row2 (record { memory = u.memory; temps = s.temps; entered = s.bases })
 
         rows : Gives Behind (copy_route l n (route k) (struct_view t) row)
         rows = route_stands k few_leaves o q c ranges row wide s.temps s.bases r.stands_for sane (struct_view t) refl listed.counted
@@ -275,7 +275,7 @@ module _ {I : Type 0} {l : LatticeOf I} {n : IntegersOf I} {stands : I → ℤ �
         now : Standing
         now = record s { world = u }
 
-        reached : IsReached l n stands flow naming rows.value (record s { world = u })
+        reached : IsReached l n gamma flow naming rows.value (record s { world = u })
         reached = record {
           long = rows.good.0 ∙ r.long;
           stands_for = rows.good.1;
@@ -284,7 +284,7 @@ module _ {I : Type 0} {l : LatticeOf I} {n : IntegersOf I} {stands : I → ℤ �
         }
 
         result : IsResult q flow p naming u.memory (pointer_value l target.rest) (pointer d)
-        result = record { stands_for = pointer_moves (alike_region came_region) stands naming target.rest d rest_d; near = tt; within = pointer_in_moves (alike_region came_region) d inside_d }
+        result = record { stands_for = pointer_moves (alike_region came_region) gamma naming target.rest d rest_d; near = tt; within = pointer_in_moves (alike_region came_region) d inside_d }
 
         gone_good : Good (giving s to reply)
         gone_good = subst (λ z. Good (giving s to z)) (sym goes_on)
@@ -299,11 +299,11 @@ module _ {I : Type 0} {l : LatticeOf I} {n : IntegersOf I} {stands : I → ℤ �
           let rest_d = touch_stands o q flow p.shaped naming row s.world s.temps s.bases r.stands_for x size true d to_spot s.world sd inside_d f in
           let rest_m = touch_stands o q flow p.shaped naming row s.world s.temps s.bases r.stands_for y size false m from_spot s.world sm inside_m e in
           gone_good (copy_made flow.model leaves size s.world to_spot from_spot) went
-          (subst (λ z. StandsPointer stands naming s.world.memory (touch l n flow.bases.items row x 0 z true).rest d) same_size rest_d)
-          (subst (λ z. StandsPointer stands naming s.world.memory (touch l n flow.bases.items row y 0 z false).rest m) same_size rest_m)
+          (subst (λ z. InGammaPointer gamma naming s.world.memory (touch l n flow.bases.items row x 0 z true).rest d) same_size rest_d)
+          (subst (λ z. InGammaPointer gamma naming s.world.memory (touch l n flow.bases.items row y 0 z false).rest m) same_size rest_m)
       both_went from_spot to_spot e f is false may =
           subst (λ z. Good (giving s to z)) (sym (is ∙ ap (λ z. as_pointer (cond z (goes d (copy_made flow.model leaves size s.world to_spot from_spot)) (stops Left s.world))) may))
-          (stop_good l n stands flow after told Left s.world clean)
+          (stop_good l n gamma flow after told Left s.world clean)
 
       source_went : (from_spot : Spot) → touched s.world m size false ≡ goes from_spot s.world → TouchEnd s.world (touched s.world d size true) → Good (giving s to reply)
       source_went from_spot e (went to_spot f) = both_went from_spot to_spot e f
@@ -311,7 +311,7 @@ module _ {I : Type 0} {l : LatticeOf I} {n : IntegersOf I} {stands : I → ℤ �
           (may_copy flow.model leaves size s.world to_spot from_spot) refl
       source_went from_spot e (stopped rule f) =
           let is : reply ≡ as_pointer (stopped_by s.world rule) = ap (λ z. as_pointer (behind z (λ from w. behind (touched w d size true) (copy_at flow.model leaves size d from)))) e ∙ ap (λ z. as_pointer (behind z (copy_at flow.model leaves size d from_spot))) f in
-          let rest_m : StandsPointer stands naming s.world.memory source.rest m = subst (λ z. StandsPointer stands naming s.world.memory (touch l n flow.bases.items row y 0 z false).rest m) same_size (touch_stands o q flow p.shaped naming row s.world s.temps s.bases r.stands_for y size false m from_spot s.world sm inside_m e) in
+          let rest_m : InGammaPointer gamma naming s.world.memory source.rest m = subst (λ z. InGammaPointer gamma naming s.world.memory (touch l n flow.bases.items row y 0 z false).rest m) same_size (touch_stands o q flow p.shaped naming row s.world s.temps s.bases r.stands_for y size false m from_spot s.world sm inside_m e) in
           let g = touched_goes s.world m size false from_spot s.world e in
           let a = into_live from_spot.instance from_spot.offset g.lo g.hi m g.pointer g.alive source.rest rest_m in
           let admitted = touch_admitted o q flow p.shaped naming row s.world s.temps s.bases r.stands_for x size true d rule sd inside_d f in
@@ -329,24 +329,24 @@ module _ {I : Type 0} {l : LatticeOf I} {n : IntegersOf I} {stands : I → ℤ �
       pointers_good = begins (touch_end s.world m size false)
 
     -- both are pointers
-    scalars_good : (a b : Scalar) → ((d : MachinePointer) → a ≡ pointer d → StandsPointer stands naming s.world.memory x d × IsPointerIn s.world.memory d) → ((m : MachinePointer) → b ≡ pointer m → StandsPointer stands naming s.world.memory y m × IsPointerIn s.world.memory m × IsNamed naming s.world.memory m)
+    scalars_good : (a b : Scalar) → ((d : MachinePointer) → a ≡ pointer d → InGammaPointer gamma naming s.world.memory x d × IsPointerIn s.world.memory d) → ((m : MachinePointer) → b ≡ pointer m → InGammaPointer gamma naming s.world.memory y m × IsPointerIn s.world.memory m × IsNamed naming s.world.memory m)
         → Good (giving s to (effect.copy_struct flow.model leaves (size_of_type (structs_view flow.structs) flow.model.pointer (Struct index)) a b s.world))
-    scalars_good (integer z la) b f g = stop_good l n stands flow after told Stuck s.world clean
-    scalars_good (pointer d) (integer z la) f g = stop_good l n stands flow after told Stuck s.world clean
+    scalars_good (integer z la) b f g = stop_good l n gamma flow after told Stuck s.world clean
+    scalars_good (pointer d) (integer z la) f g = stop_good l n gamma flow after told Stuck s.world clean
     scalars_good (pointer d) (pointer m) f g = let a = f d refl in let b = g m refl in pointers_good d m a.0 b.0 a.1 b.1 b.2
 
-  pub copy_sound : (to from index : ℕ) → fits_operation (names_of flow) (op.Copy to from index) ≡ true → StepIsSound l n stands flow row (op.Copy to from index) s
+  pub copy_sound : (to from index : ℕ) → fits_operation (names_of flow) (op.Copy to from index) ≡ true → StepIsSound l n gamma flow row (op.Copy to from index) s
   unfolding operate copy_step copy_between copy_touched operation_violations
   copy_sound to from index fits =
       let a = and_parts (has_temp (names_of flow) to) (has_temp (names_of flow) from && nat_lt index (names_of flow).structs) fits in
       let b = and_parts (has_temp (names_of flow) from) (nat_lt index (names_of flow).structs) a.1 in
       let t = get_there flow.structs.items.items index (ltb-true index (names_of flow).structs b.1) in
-      if_some_good l n stands flow _ _ s r.begun (s.temps to) _ (λ pv e.
-      if_some_good l n stands flow _ _ s r.begun (s.temps from) _ (λ v f.
+      if_some_good l n gamma flow _ _ s r.begun (s.temps to) _ (λ pv e.
+      if_some_good l n gamma flow _ _ s r.begun (s.temps from) _ (λ v f.
       scalars_good to (ltb-true to flow.temps a.0) index (temp_value l n flow row to).pointer (temp_value l n flow row from).pointer t.0 t.1 pv v
-      (λ d g. (subst (StandsScalar stands naming s.world.memory (temp_value l n flow row to)) g (r.stands_for.temps to pv e), r.stands_for.held.within to (pointer d) (e ∙ ap Some g)))
-      (λ m g. (subst (StandsScalar stands naming s.world.memory (temp_value l n flow row from)) g (r.stands_for.temps from v f), r.stands_for.held.within from (pointer m) (f ∙ ap Some g), r.stands_for.held.named from m (f ∙ ap Some g)))))
+      (λ d g. (subst (InGammaScalar gamma naming s.world.memory (temp_value l n flow row to)) g (r.stands_for.temps to pv e), r.stands_for.held.within to (pointer d) (e ∙ ap Some g)))
+      (λ m g. (subst (InGammaScalar gamma naming s.world.memory (temp_value l n flow row from)) g (r.stands_for.temps from v f), r.stands_for.held.within from (pointer m) (f ∙ ap Some g), r.stands_for.held.named from m (f ∙ ap Some g)))))
 
-  pub copy_step_sound : (i : Operation) → IsCopy i → fits_operation (names_of flow) i ≡ true → StepIsSound l n stands flow row i s
+  pub copy_step_sound : (i : Operation) → IsCopy i → fits_operation (names_of flow) i ≡ true → StepIsSound l n gamma flow row i s
   copy_step_sound (op.Copy to from index) is good = copy_sound to from index good
   copy_step_sound i is good = absurd is

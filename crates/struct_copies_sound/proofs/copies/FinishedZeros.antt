@@ -23,7 +23,7 @@ use Rattle.memory_model.specs.Memory.Bytes.{Byte}
 use Rattle.memory_model.specs.Memory.Instances.{Memory, bytes_at, byte_at, life_at}
 use Rattle.store_sound.specs.Concretization.RowMeaning.{array_bytes, IsLiveOf}
 use Rattle.store_sound.specs.Concretization.SoundMemory.{IsMemoryOf}
-use Rattle.store_sound.specs.Concretization.ValueMeaning.{Naming, StandsZero, StandsState}
+use Rattle.store_sound.specs.Concretization.ValueMeaning.{Naming, InGammaZero, InGammaState}
 use Rattle.store_cells.specs.Walks.{walk}
 use Rattle.store_sound.proofs.operations.Frames.{live_moves}
 use Rattle.store_sound.proofs.operations.OneBases.{one_base}
@@ -31,7 +31,7 @@ use Rattle.store_sound.proofs.operations.Only.{only_put}
 use Rattle.store_sound.proofs.operations.StoreRows.{zero_is}
 use Rattle.store_sound.proofs.operations.StoreValues.{same_zero, same_state}
 use Rattle.store_sound.proofs.operations.StoreZeros.{same_slices}
-use Rattle.store_sound.specs.Regions.RegionWrites.{StandsBase}
+use Rattle.store_sound.specs.Regions.RegionWrites.{InGammaBase}
 use Rattle.store_sound.proofs.regions.BaseRows.{states_move}
 use Rattle.store_sound.proofs.regions.RegionArrays.{array_short, put_zero_stands, any_zero_stands}
 use Rattle.store_sound.proofs.regions.Regions.{alike_region}
@@ -127,8 +127,8 @@ exact_is r size e h = by_count (bases_count r.source == 1) refl h
     by_count true f k = by_first (first_declared r.source 0 r.bases) (eqb-true (bases_count r.source) 1 f) refl k
     by_count false f k = cc
 
-module _ {flow : Flow} {naming : Naming} {old new : Memory} (k : Copied flow naming old new) (few : length k.leaves ≤ 2 ^ 62) {I : Type 0} {l : LatticeOf I} {n : IntegersOf I} {stands : I → ℤ → Type 0} (o : OrderLaws l) (q : BoundLaws l n stands) (c : SoundLaws l n stands) (r : RangeLaws l n)
-    (row : List (Cell I)) (wide : k.laid.behind ≤ length row) (stand : (b : ℕ) (base : BaseInfo) → slice_get flow.bases.items b ≡ Some base → StandsBase l n stands flow naming old b base row)
+module _ {flow : Flow} {naming : Naming} {old new : Memory} (k : Copied flow naming old new) (few : length k.leaves ≤ 2 ^ 62) {I : Type 0} {l : LatticeOf I} {n : IntegersOf I} {gamma : I → ℤ → Type 0} (o : OrderLaws l) (q : BoundLaws l n gamma) (c : SoundLaws l n gamma) (r : RangeLaws l n)
+    (row : List (Cell I)) (wide : k.laid.behind ≤ length row) (stand : (b : ℕ) (base : BaseInfo) → slice_get flow.bases.items b ≡ Some base → InGammaBase l n gamma flow naming old b base row)
     (sane : IsMemoryOf flow.model flow.bases.items naming new) (mid : List (Cell I)) (behind : Behind k few o q c r row wide stand row 0 (length k.leaves) mid) where
   -- ---- positions that the leaves leave
 
@@ -219,8 +219,8 @@ module _ {flow : Flow} {naming : Naming} {old new : Memory} (k : Copied flow nam
               omega (arith, p, x))
         ]) ∙ behind.away (state_position base) (beside d base at (state_position base) (omega (arith, x)) (omega (arith, x, one)))
 
-    pub states_after : (h : ℕ) → base.shape.heap ≡ true → naming h ≡ Some d → StandsState stands naming new (state_at l n (finish l n (route k) (pad k) mid) (state_position base)) (life_at new h) (length (bytes_at new h))
-    states_after h heap named = subst (λ z. StandsState stands naming new z (life_at new h) (length (bytes_at new h))) (sym (same_state l n row (finish l n (route k) (pad k) mid) (state_position base) (state_cell heap)))
+    pub states_after : (h : ℕ) → base.shape.heap ≡ true → naming h ≡ Some d → InGammaState gamma naming new (state_at l n (finish l n (route k) (pad k) mid) (state_position base)) (life_at new h) (length (bytes_at new h))
+    states_after h heap named = subst (λ z. InGammaState gamma naming new z (life_at new h) (length (bytes_at new h))) (sym (same_state l n row (finish l n (route k) (pad k) mid) (state_position base) (state_cell heap)))
         (states_move o q flow naming k.region d base row (λ j. (stand d base at).states j) h heap named)
 
     missed : has_base k.target d ≡ false → (pos : ℕ) → base.first ≤ pos → pos < base.first + base_values base → cell_at (finish l n (route k) (pad k) mid) pos ≡ cell_at mid pos
@@ -241,11 +241,11 @@ module _ {flow : Flow} {naming : Naming} {old new : Memory} (k : Copied flow nam
       zero_cell : cell_at mid (zero_position base z) ≡ cell_at row (zero_position base z)
       zero_cell = let x = spot_is in let u = slice_get_within base.shape.zeros z part among in behind.away (zero_position base z) (beside d base at (zero_position base z) (omega (arith, x)) (omega (arith, x, u)))
 
-      old_stands : (s : List (Cell I)) → cell_at s (zero_position base z) ≡ cell_at mid (zero_position base z) → (h : ℕ) → IsLiveOf naming old d h → ZeroStands l n stands naming old base s z part h
-      old_stands s same h alive = subst (λ y. StandsZero stands naming old y (array_bytes part (bytes_at old h))) (sym (same_zero l n row s (zero_position base z) (same ∙ zero_cell))) ((stand d base at).zeros z h part among alive)
+      old_stands : (s : List (Cell I)) → cell_at s (zero_position base z) ≡ cell_at mid (zero_position base z) → (h : ℕ) → IsLiveOf naming old d h → ZeroStands l n gamma naming old base s z part h
+      old_stands s same h alive = subst (λ y. InGammaZero gamma naming old y (array_bytes part (bytes_at old h))) (sym (same_zero l n row s (zero_position base z) (same ∙ zero_cell))) ((stand d base at).zeros z h part among alive)
 
       -- no instance of a base that is no target's has a byte of the region
-      zero_missed : has_base k.target d ≡ false → (h : ℕ) → IsLiveOf naming old d h → StandsZero stands naming new (zero_at l n (finish l n (route k) (pad k) mid) (zero_position base z)) (array_bytes part (bytes_at new h))
+      zero_missed : has_base k.target d ≡ false → (h : ℕ) → IsLiveOf naming old d h → InGammaZero gamma naming new (zero_at l n (finish l n (route k) (pad k) mid) (zero_position base z)) (array_bytes part (bytes_at new h))
       unfolding byte_at
       zero_missed none h alive =
           let not_there : h ≡ k.i → ⊥ = λ is. (let number : d ≡ k.target_side.b = same_Some d k.target_side.b (sym alive.named ∙ (ap naming is ∙ k.target_side.named)) in true≢false (sym k.target_side.has ∙ (ap (has_base k.target) (sym number) ∙ none))) in
@@ -253,7 +253,7 @@ module _ {flow : Flow} {naming : Naming} {old new : Memory} (k : Copied flow nam
           let x = spot_is in
           let u = slice_get_within base.shape.zeros z part among in
           let same = missed none (zero_position base z) (omega (arith, x)) (omega (arith, x, u)) in
-          subst (λ w. StandsZero stands naming new (zero_at l n (finish l n (route k) (pad k) mid) (zero_position base z)) (array_bytes part w)) (sym bytes)
+          subst (λ w. InGammaZero gamma naming new (zero_at l n (finish l n (route k) (pad k) mid) (zero_position base z)) (array_bytes part w)) (sym bytes)
           (old_stands (finish l n (route k) (pad k) mid) same h alive)
 
       -- ---- a base of the target
@@ -269,7 +269,7 @@ module _ {flow : Flow} {naming : Naming} {old new : Memory} (k : Copied flow nam
 
         record After (s : List (Cell I)) : Type 0 where
           sized : length s ≡ length row
-          stand_for : (h : ℕ) → IsLiveOf naming old d h → StandsZero stands naming new (zero_at l n s (zero_position base z)) (array_bytes part (bytes_at new h))
+          stand_for : (h : ℕ) → IsLiveOf naming old d h → InGammaZero gamma naming new (zero_at l n s (zero_position base z)) (array_bytes part (bytes_at new h))
 
         small : (part : ZeroPart) (h : ℕ) → length (array_bytes part (bytes_at new h)) ≤ 2 ^ 64 - 1
         small part h = let a = array_short part (bytes_at new h) in let b = sane.small h in omega (arith, a, b)
@@ -294,7 +294,7 @@ module _ {flow : Flow} {naming : Naming} {old new : Memory} (k : Copied flow nam
             let y = and_parts (nat_lt b most_bases) (bases_has set b) g in
             one_base set a b (ltb-true a most_bases x.0) (ltb-true b most_bases y.0) one x.1 y.1
 
-        exactly : (s : List (Cell I)) → Before s → (e : Exact) → exact_copy (route k) k.size ≡ Some e → IsExactly l n stands naming old flow.bases.items d base s k.i k.offset k.j k.at k.size e
+        exactly : (s : List (Cell I)) → Before s → (e : Exact) → exact_copy (route k) k.size ≡ Some e → IsExactly l n gamma naming old flow.bases.items d base s k.i k.offset k.j k.at k.size e
         exactly s h e is =
             let x = exact_is (route k) k.size e is in
             let t = k.target_side in
@@ -322,7 +322,7 @@ module _ {flow : Flow} {naming : Naming} {old new : Memory} (k : Copied flow nam
                   let v = slice_get_within e.source.shape.zeros y other f in
                   let w = zero_is e.source y (fits_base k u.b e.source source_at) (omega (arith, v)) in
                   let away = behind.away (zero_position e.source y) (beside u.b e.source source_at (zero_position e.source y) (omega (arith, w)) (omega (arith, w, v))) in
-                  subst (λ t. StandsZero stands naming old t (array_bytes other (bytes_at old k.j))) (sym (same_zero l n row s (zero_position e.source y) (h.all x.alone (zero_position e.source y) ∙ away)))
+                  subst (λ t. InGammaZero gamma naming old t (array_bytes other (bytes_at old k.j))) (sym (same_zero l n row s (zero_position e.source y) (h.all x.alone (zero_position e.source y) ∙ away)))
                   ((stand u.b e.source source_at).zeros y k.j other f (record { named = u.named; alive = u.alive }));
             }
 
@@ -358,7 +358,7 @@ module _ {flow : Flow} {naming : Naming} {old new : Memory} (k : Copied flow nam
             let x = spot_is in
             record {
               sized = w.long s ∙ h.sized;
-              stand_for = λ g alive. subst (λ t. StandsZero stands naming new t (array_bytes part (bytes_at new g))) (sym (same_zero l n s (pad_cells l n flow.model base (pad k) s) (zero_position base z) (w.keeps s (zero_position base z) (λ a b. omega (arith, x, b))))) (h.stand_for g alive);
+              stand_for = λ g alive. subst (λ t. InGammaZero gamma naming new t (array_bytes part (bytes_at new g))) (sym (same_zero l n s (pad_cells l n flow.model base (pad k) s) (zero_position base z) (w.keeps s (zero_position base z) (λ a b. omega (arith, x, b))))) (h.stand_for g alive);
             }
 
         one_padded : (y : ℕ) (other : ZeroPart) (s : List (Cell I)) → After s → After (pad_part l n flow.model base (pad k) other y s)
@@ -368,15 +368,15 @@ module _ {flow : Flow} {naming : Naming} {old new : Memory} (k : Copied flow nam
             sized : length (put_zero s (zero_position base y) (any_zero l n)) ≡ length row
             sized = length-set s (zero_position base y) (First (any_zero l n)) ∙ h.sized
 
-            by_place : (zero_position base y ≡ zero_position base z) ⊎ (zero_position base y ≡ zero_position base z → ⊥) → (g : ℕ) → IsLiveOf naming old d g → StandsZero stands naming new (zero_at l n (put_zero s (zero_position base y) (any_zero l n)) (zero_position base z)) (array_bytes part (bytes_at new g))
+            by_place : (zero_position base y ≡ zero_position base z) ⊎ (zero_position base y ≡ zero_position base z → ⊥) → (g : ℕ) → IsLiveOf naming old d g → InGammaZero gamma naming new (zero_at l n (put_zero s (zero_position base y) (any_zero l n)) (zero_position base z)) (array_bytes part (bytes_at new g))
             by_place (inl same) g alive =
                 let x = spot_is in
                 let u = slice_get_within base.shape.zeros z part among in
                 let a = long d base at in
                 let b = h.sized in
-                subst (λ t. StandsZero stands naming new (zero_at l n (put_zero s t (any_zero l n)) (zero_position base z)) (array_bytes part (bytes_at new g))) (sym same)
+                subst (λ t. InGammaZero gamma naming new (zero_at l n (put_zero s t (any_zero l n)) (zero_position base z)) (array_bytes part (bytes_at new g))) (sym same)
                 (put_zero_stands o q naming new s (zero_position base z) (any_zero l n) (array_bytes part (bytes_at new g)) (omega (arith, x, u, a, b)) (small part g) (any_zero_stands o q naming new (array_bytes part (bytes_at new g)) (small part g)))
-            by_place (inr other_spot) g alive = subst (λ t. StandsZero stands naming new t (array_bytes part (bytes_at new g)))
+            by_place (inr other_spot) g alive = subst (λ t. InGammaZero gamma naming new t (array_bytes part (bytes_at new g)))
                 (sym (same_zero l n s (put_zero s (zero_position base y) (any_zero l n)) (zero_position base z) ((only_put (zero_position base y) (zero_position base y + 1) (zero_position base y) (λ w. First (any_zero l n)) (omega arith) (omega arith)).keeps s (zero_position base z) (λ a b. other_spot (omega (arith, a, b))))))
                 (h.stand_for g alive)
 
@@ -423,7 +423,7 @@ module _ {flow : Flow} {naming : Naming} {old new : Memory} (k : Copied flow nam
             let u = slice_get_within base.shape.zeros z part among in
             record {
               sized = turn_long b other e s ∙ h.sized;
-              stand_for = λ g alive. subst (λ t. StandsZero stands naming new t (array_bytes part (bytes_at new g)))
+              stand_for = λ g alive. subst (λ t. InGammaZero gamma naming new t (array_bytes part (bytes_at new g)))
                   (sym (same_zero l n s (turn other b s) (zero_position base z) (turn_same b other e s (zero_position base z) (apart_from b other e ne (zero_position base z) (omega (arith, x)) (omega (arith, x, u))))))
                   (h.stand_for g alive);
             }
@@ -436,7 +436,7 @@ module _ {flow : Flow} {naming : Naming} {old new : Memory} (k : Copied flow nam
             (λ a y s h. let same : d ≡ a = omega (arith, y) in subst (λ t. After (cond t (finish_base l n (route k) (pad k) (exact_copy (route k) k.size) (has_padding flow.model (pad k)) base s) s)) (sym (ap (has_base k.target) (sym same) ∙ has)) (own_turn s h))
             mid (record { sized = behind.long; own = λ pos from to. refl; all = λ alone pos. refl })
 
-      pub zeros_after : (h : ℕ) → IsLiveOf naming new d h → StandsZero stands naming new (zero_at l n (finish l n (route k) (pad k) mid) (zero_position base z)) (array_bytes part (bytes_at new h))
+      pub zeros_after : (h : ℕ) → IsLiveOf naming new d h → InGammaZero gamma naming new (zero_at l n (finish l n (route k) (pad k) mid) (zero_position base z)) (array_bytes part (bytes_at new h))
       zeros_after h alive = elim (cases_Bool (has_base k.target d)) [
         | inl has ↦ (met has).stand_for h (live_moves (alike_region k.region) naming d h alive)
         | inr none ↦ zero_missed none h (live_moves (alike_region k.region) naming d h alive)

@@ -33,7 +33,7 @@ use Rattle.store_sound.proofs.operations.Frames.{in_or_out, live_moves, content_
 use Rattle.store_sound.proofs.operations.Slices.{get_there}
 use Rattle.store_sound.proofs.operations.StoreRows.{zero_is}
 use Rattle.store_sound.proofs.operations.TagPlaces.{is_tagged}
-use Rattle.store_sound.specs.Regions.RegionWrites.{StandsBase}
+use Rattle.store_sound.specs.Regions.RegionWrites.{InGammaBase}
 use Rattle.store_sound.proofs.regions.Regions.{alike_region}
 use Rattle.store_structs.specs.PaddingWrites.{unknown_value, write_padding}
 use Rattle.store_structs.specs.StructCopies.{finish}
@@ -65,14 +65,14 @@ tag_there : (class : Class) (m : ℕ) (tag : Option Tag) → Fits class m tag �
 tag_there class m None f some = absurd (some refl)
 tag_there class m (Some t) f some = (t, refl, f.0, f.1)
 
-module _ {flow : Flow} {naming : Naming} {old new : Memory} (k : Copied flow naming old new) (few : length k.leaves ≤ 2 ^ 62) {I : Type 0} {l : LatticeOf I} {n : IntegersOf I} {stands : I → ℤ → Type 0} (o : OrderLaws l) (q : BoundLaws l n stands) (c : SoundLaws l n stands) (r : RangeLaws l n)
-    (row : List (Cell I)) (wide : k.laid.behind ≤ length row) (stand : (b : ℕ) (base : BaseInfo) → slice_get flow.bases.items b ≡ Some base → StandsBase l n stands flow naming old b base row)
+module _ {flow : Flow} {naming : Naming} {old new : Memory} (k : Copied flow naming old new) (few : length k.leaves ≤ 2 ^ 62) {I : Type 0} {l : LatticeOf I} {n : IntegersOf I} {gamma : I → ℤ → Type 0} (o : OrderLaws l) (q : BoundLaws l n gamma) (c : SoundLaws l n gamma) (r : RangeLaws l n)
+    (row : List (Cell I)) (wide : k.laid.behind ≤ length row) (stand : (b : ℕ) (base : BaseInfo) → slice_get flow.bases.items b ≡ Some base → InGammaBase l n gamma flow naming old b base row)
     (sane : IsMemoryOf flow.model flow.bases.items naming new) (mid : List (Cell I)) (behind : Behind k few o q c r row wide stand row 0 (length k.leaves) mid) where
   abbrev pub after : List (Cell I)
   after = finish l n (route k) (pad k) mid
 
   abbrev After : Fact → ℕ → Type 0
-  After f p = IsTold l n stands f (value_at l n (finish l n (route k) (pad k) mid) p)
+  After f p = IsTold l n gamma f (value_at l n (finish l n (route k) (pad k) mid) p)
 
   -- ---- a cell of a base
 
@@ -119,14 +119,14 @@ module _ {flow : Flow} {naming : Naming} {old new : Memory} (k : Copied flow nam
 
     -- padding makes of the cell what stands for everything
     padded_after : (f : Fact) (d m : ℕ) (inside : d < k.size) (none : tag_at flow.model k.leaves d ≡ None) → Owns flow.model k.target_side.base x (k.offset + d) m
-        → IsTold l n stands f (unknown_value l n flow.model (class_of flow.model k.target_side.base x) (signed_of flow.model k.target_side.base x)) → After f (position flow.model k.target_side.base x)
+        → IsTold l n gamma f (unknown_value l n flow.model (class_of flow.model k.target_side.base x) (signed_of flow.model k.target_side.base x)) → After f (position flow.model k.target_side.base x)
     padded_after f d m inside none owns good = (finish_makes o q f (position flow.model k.target_side.base x) (length row) here (route k) (pad k) (fits_base k) (no_zero k.target_side.b k.target_side.base k.target_side.at x there f)
         k.target_side.b k.target_side.base k.target_side.at k.target_side.has (some_padding k d inside none) (λ s size. by_cell x there owns good (no_zero k.target_side.b k.target_side.base k.target_side.at x there f k.target_side.b k.target_side.base k.target_side.at) s size) mid behind.long).good
       where
         here : position flow.model k.target_side.base x < length row
         here = in_row k.target_side.b k.target_side.base k.target_side.at x there
 
-        by_cell : (y : CellName) (h : IsThere flow.model k.target_side.base y) → Owns flow.model k.target_side.base y (k.offset + d) m → IsTold l n stands f (unknown_value l n flow.model (class_of flow.model k.target_side.base y) (signed_of flow.model k.target_side.base y))
+        by_cell : (y : CellName) (h : IsThere flow.model k.target_side.base y) → Owns flow.model k.target_side.base y (k.offset + d) m → IsTold l n gamma f (unknown_value l n flow.model (class_of flow.model k.target_side.base y) (signed_of flow.model k.target_side.base y))
             → NoZero o q f (position flow.model k.target_side.base y) (length row) (in_row k.target_side.b k.target_side.base k.target_side.at y h) k.target_side.base → (s : List (Cell I)) → length s ≡ length row
             → Good o q f (position flow.model k.target_side.base y) (length row) (in_row k.target_side.b k.target_side.base k.target_side.at y h) (write_padding l n flow.model k.target_side.base (pad k) s)
         by_cell (leaf_cell j leaf) h w g free s size = padded_leaf o q f (position flow.model k.target_side.base (leaf_cell j leaf)) (length row) (in_row k.target_side.b k.target_side.base k.target_side.at (leaf_cell j leaf) h) flow.model (pad k) k.target_side.base free j leaf h refl
@@ -242,8 +242,8 @@ module _ {flow : Flow} {naming : Naming} {old new : Memory} (k : Copied flow nam
   -- ---- all cells
 
   module _ (d : ℕ) (base : BaseInfo) (at : slice_get flow.bases.items d ≡ Some base) (x : CellName) (there : IsThere flow.model base x) where
-    cell : StandsName l n stands flow naming old d base x (value_at l n row (position flow.model base x))
-    cell = name_stands l n stands flow naming old d base row (stand d base at) x there
+    cell : StandsName l n gamma flow naming old d base x (value_at l n row (position flow.model base x))
+    cell = name_stands l n gamma flow naming old d base row (stand d base at) x there
 
     -- the base of the region's instance is the target's
     same_base : (h : ℕ) → IsLiveOf naming old d h → h ≡ k.i → base ≡ k.target_side.base
@@ -327,9 +327,9 @@ module _ {flow : Flow} {naming : Naming} {old new : Memory} (k : Copied flow nam
             place_owns_at (leaf_cell j leaf) w at_place size m less pl = record { start = at_place; place = pl; there = refl; small = less }
             place_owns_at (class_cell z) w at_place size m less pl = record { small = less; no_leaf = λ s e lp. pl.no_leaf (subst (IsLeafPlace k.target_side.base.shape.cells (class_at z)) (let f : s ≡ at_place = omega (arith, e) in f) lp) }
 
-    pub name_after : StandsName l n stands flow naming new d base x (value_at l n (finish l n (route k) (pad k) mid) (position flow.model base x))
+    pub name_after : StandsName l n gamma flow naming new d base x (value_at l n (finish l n (route k) (pad k) mid) (position flow.model base x))
     name_after = record {
       whole = λ h start ns alive place pointer held. number_here h start ns (live_moves (alike_region k.region) naming d h alive) place pointer held;
-      byte = λ h y m z alive owns w. content_moves (alike_region k.region) stands naming (value_at l n (finish l n (route k) (pad k) mid) (position flow.model base x)) (class_of flow.model base x) z
+      byte = λ h y m z alive owns w. content_moves (alike_region k.region) gamma naming (value_at l n (finish l n (route k) (pad k) mid) (position flow.model base x)) (class_of flow.model base x) z
           (byte_after h y m z (live_moves (alike_region k.region) naming d h alive) owns w);
     }

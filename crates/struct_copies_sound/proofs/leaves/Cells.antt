@@ -15,9 +15,9 @@ use Rattle.store_cells.specs.RowPositions.{leaf_position, class_position, value_
 use Rattle.memory_model.specs.Memory.Instances.{Memory}
 use Rattle.store_sound.specs.Concretization.Places.{IsPlaceOf, IsLeafPlace, OwnedByLeaf, OwnedByClass, IsClassPlace}
 use Rattle.store_sound.specs.Concretization.ValueMeaning.{Naming}
-use Rattle.store_sound.specs.Concretization.RowMeaning.{StandsCell}
+use Rattle.store_sound.specs.Concretization.RowMeaning.{InGammaCell}
 use Rattle.store_sound.proofs.operations.Classes.{class_above}
-use Rattle.store_sound.specs.Regions.RegionWrites.{StandsBase}
+use Rattle.store_sound.specs.Regions.RegionWrites.{InGammaBase}
 
 -- the cell of a leaf, or a class cell
 pub data CellName : Type 0 where
@@ -54,10 +54,10 @@ pub place_owns : (m : Model) (base : BaseInfo) (c : CellName) (x size : ℕ) →
 place_owns m base (leaf_cell j leaf) x size p = record { start = x; place = p; there = omega arith; small = class_above m leaf.class }
 place_owns m base (class_cell d) x size p = record { small = class_above m (class_at d); no_leaf = λ start e h. p.no_leaf (subst (IsLeafPlace base.shape.cells (class_at d)) (let f : start ≡ x = omega (arith, e) in f) h) }
 
-module _ {I : Type 0} (l : LatticeOf I) (n : IntegersOf I) (stands : I → ℤ → Type 0) (flow : Flow) (naming : Naming) (memory : Memory) (b : ℕ) (base : BaseInfo) where
+module _ {I : Type 0} (l : LatticeOf I) (n : IntegersOf I) (gamma : I → ℤ → Type 0) (flow : Flow) (naming : Naming) (memory : Memory) (b : ℕ) (base : BaseInfo) where
   abbrev pub StandsName : CellName → Value I → Type 0
-  StandsName c v = StandsCell stands flow naming memory b (class_of flow.model base c) (signed_of flow.model base c) (Place flow.model base c) (Owns flow.model base c) v
+  StandsName c v = InGammaCell gamma flow naming memory b (class_of flow.model base c) (signed_of flow.model base c) (Place flow.model base c) (Owns flow.model base c) v
 
-  pub name_stands : (row : List (Cell I)) → StandsBase l n stands flow naming memory b base row → (c : CellName) → IsThere flow.model base c → StandsName c (value_at l n row (position flow.model base c))
+  pub name_stands : (row : List (Cell I)) → InGammaBase l n gamma flow naming memory b base row → (c : CellName) → IsThere flow.model base c → StandsName c (value_at l n row (position flow.model base c))
   name_stands row s (leaf_cell j leaf) e = s.leaves j leaf e
   name_stands row s (class_cell d) e = s.classes d e.0 e.1

@@ -28,7 +28,7 @@ use Rattle.memory_model.specs.Effects.Touches.{is_allocated, storage_at}
 use Rattle.store_sound.specs.Concretization.Matching.{Fits, Matched, number_in, Holds}
 use Rattle.store_sound.specs.Concretization.Places.{IsPlaceOf, OwnedByLeaf}
 use Rattle.store_sound.specs.Concretization.SoundMemory.{IsContentIn}
-use Rattle.store_sound.specs.Concretization.ValueMeaning.{Naming, StandsContent}
+use Rattle.store_sound.specs.Concretization.ValueMeaning.{Naming, InGammaContent}
 use Rattle.store_sound.specs.Operations.Gives.{Gives}
 use Rattle.store_sound.proofs.operations.CharValues.{byte_stands, padding_stands}
 use Rattle.store_sound.proofs.operations.Classes.{same_class_is, class_above}
@@ -55,16 +55,16 @@ single [] h = absurd (omega (arith, h))
 single (x ∷ []) h = (x, refl)
 single (x ∷ (y ∷ ns)) h = absurd (omega (arith, h))
 
-module _ {flow : Flow} {naming : Naming} {old new : Memory} (k : Copied flow naming old new) {I : Type 0} {l : LatticeOf I} {n : IntegersOf I} {stands : I → ℤ → Type 0} (o : OrderLaws l) (q : BoundLaws l n stands) (c : SoundLaws l n stands) where
+module _ {flow : Flow} {naming : Naming} {old new : Memory} (k : Copied flow naming old new) {I : Type 0} {l : LatticeOf I} {n : IntegersOf I} {gamma : I → ℤ → Type 0} (o : OrderLaws l) (q : BoundLaws l n gamma) (c : SoundLaws l n gamma) where
   abbrev Side : CellName → Type 0
   Side = IsThere flow.model k.source_side.base
 
   -- the cells of the source's base stand for the bytes of the leaf in the source
   pub record Tells (leaf : Leaf) (row : List (Cell I)) : Type 0 where
     pub number : (x : CellName) → IsThere flow.model k.source_side.base x → (st : ℕ) (ns : List Labelled) → IsPlaceOf leaf st → Place flow.model k.source_side.base x (length (bytes_at old k.j)) (k.at + st) → class_of flow.model k.source_side.base x ≡ leaf.class → is_pointer (class_of flow.model k.source_side.base x) ≡ false
-        → Holds flow.model old k.j (k.at + st) (class_of flow.model k.source_side.base x) ns → stands (value_at l n row (position flow.model k.source_side.base x)).num (number_of (signed_of flow.model k.source_side.base x) ns)
+        → Holds flow.model old k.j (k.at + st) (class_of flow.model k.source_side.base x) ns → gamma (value_at l n row (position flow.model k.source_side.base x)).num (number_of (signed_of flow.model k.source_side.base x) ns)
     pub content : (x : CellName) → IsThere flow.model k.source_side.base x → (d y m : ℕ) (content : Content) → OwnedByLeaf flow.model leaf d y → Owns flow.model k.source_side.base x (k.at + d) m → Matched old k.j (k.at + d) (class_of flow.model k.source_side.base x) m content
-        → StandsContent stands naming old (value_at l n row (position flow.model k.source_side.base x)) (class_of flow.model k.source_side.base x) content
+        → InGammaContent gamma naming old (value_at l n row (position flow.model k.source_side.base x)) (class_of flow.model k.source_side.base x) content
 
   module _ (number : ℕ) (leaf : Leaf) (e : slice_get k.leaves number ≡ Some leaf) (row : List (Cell I)) (tells : Tells leaf row) where
     abbrev access : LeafAccess
@@ -80,11 +80,11 @@ module _ {flow : Flow} {naming : Naming} {old new : Memory} (k : Copied flow nam
     matched : (x m : ℕ) (d : Class) (b : Byte) → byte_at old k.j x ≡ Some b → Fits d m b.tag → Matched old k.j x d m b.content
     matched x m d b here fits = record { tag = b.tag; here = here; fits = fits }
 
-    content_up : (z : Content) (x y : Value I) → (value_lattice l).leq x y ≡ true → StandsContent stands naming old x leaf.class z → StandsContent stands naming old y leaf.class z
+    content_up : (z : Content) (x y : Value I) → (value_lattice l).leq x y ≡ true → InGammaContent gamma naming old x leaf.class z → InGammaContent gamma naming old y leaf.class z
     content_up z x y h s = content_larger q naming old x y leaf.class z (value_below l x y h) s
 
     -- a byte of the leaf in the source
-    pub reads_content : (d y : ℕ) (b : Byte) → OwnedByLeaf flow.model leaf d y → byte_at old k.j (k.at + d) ≡ Some b → fits_leaf (is_allocated (storage_at old k.j)) (tag_at flow.model k.leaves d) b ≡ true → may_be_copied b.content (tag_at flow.model k.leaves d) ≡ true → Gives (λ v. StandsContent stands naming old v leaf.class b.content) (read_source l n (route k) leaf row)
+    pub reads_content : (d y : ℕ) (b : Byte) → OwnedByLeaf flow.model leaf d y → byte_at old k.j (k.at + d) ≡ Some b → fits_leaf (is_allocated (storage_at old k.j)) (tag_at flow.model k.leaves d) b ≡ true → may_be_copied b.content (tag_at flow.model k.leaves d) ≡ true → Gives (λ v. InGammaContent gamma naming old v leaf.class b.content) (read_source l n (route k) leaf row)
     unfolding read_source
     reads_content d y b own here seen may = elim (cases_Bool (same_class leaf.class Char)) [ inl char ↦ by_char char | inr wide ↦ by_wide wide ]
       where
@@ -104,7 +104,7 @@ module _ {flow : Flow} {naming : Naming} {old new : Memory} (k : Copied flow nam
         fits = subst (λ z. fits_leaf (is_allocated (storage_at old k.j)) z b ≡ true) tag seen
 
         Good : Value I → Type 0
-        Good v = StandsContent stands naming old v leaf.class b.content
+        Good v = InGammaContent gamma naming old v leaf.class b.content
 
         of_base : Gives Good (read_base l n flow.model k.source_side.base row (leaf_access leaf k.from)) → Gives Good (read_leaf l n flow.model flow.bases.items k.source row (leaf_access leaf k.from))
         of_base g = leaf_gives o n (content_up b.content) flow.model row (leaf_access leaf k.from) flow.bases.items k.source k.source_side.b k.source_side.base k.source_side.at k.source_side.has g
@@ -116,8 +116,8 @@ module _ {flow : Flow} {naming : Naming} {old new : Memory} (k : Copied flow nam
             let o2 = owns y small in
             let o3 : Owns flow.model k.source_side.base z (k.at + d) y = subst (λ w. Owns flow.model k.source_side.base z w y) (sym apart) o2 in
             let s = tells.content z is d y y b.content own o3 (matched (k.at + d) y (class_of flow.model k.source_side.base z) b here (subst (λ w. Fits w y b.tag) (sym same) f)) in
-            content_read stands naming old n flow.model (value_at l n row (position flow.model k.source_side.base z)) leaf.class leaf.class (signed_of flow.model k.source_side.base z) leaf.signed b.content
-            (subst (λ w. StandsContent stands naming old (value_at l n row (position flow.model k.source_side.base z)) w b.content) same s)
+            content_read gamma naming old n flow.model (value_at l n row (position flow.model k.source_side.base z)) leaf.class leaf.class (signed_of flow.model k.source_side.base z) leaf.signed b.content
+            (subst (λ w. InGammaContent gamma naming old (value_at l n row (position flow.model k.source_side.base z)) w b.content) same s)
 
         by_wide : same_class leaf.class Char ≡ false → Gives Good (read_leaf l n flow.model flow.bases.items k.source row (leaf_access leaf k.from))
         by_wide wide = of_base (wide_gives flow naming old k.sane k.padding k.source_side.b k.source_side.base k.source_side.at (k.laid.shaped.each k.source_side.b k.source_side.base k.source_side.at) k.j k.source_side.named k.source_side.alive o n (content_up b.content) row (leaf_access leaf k.from) (k.at + own.start) (source_spot k number own.start leaf e own.place) (few_cells k k.source_side.b k.source_side.base k.source_side.at) (room own.start own.place)
@@ -136,10 +136,10 @@ module _ {flow : Flow} {naming : Naming} {old new : Memory} (k : Copied flow nam
             b start_byte char
             (λ f. own_gives (char_fits f class first))
             (λ z is wide m owns f.
-            subst (λ w. StandsContent stands naming old (byte_read l n flow.model (value_at l n row (position flow.model k.source_side.base z)) (class_of flow.model k.source_side.base z) leaf.signed) w b.content) (sym class)
-            (content_byte stands naming old l n flow.model (value_at l n row (position flow.model k.source_side.base z)) (class_of flow.model k.source_side.base z) leaf.signed b.content none
+            subst (λ w. InGammaContent gamma naming old (byte_read l n flow.model (value_at l n row (position flow.model k.source_side.base z)) (class_of flow.model k.source_side.base z) leaf.signed) w b.content) (sym class)
+            (content_byte gamma naming old l n flow.model (value_at l n row (position flow.model k.source_side.base z)) (class_of flow.model k.source_side.base z) leaf.signed b.content none
             (tells.content z is d y m b.content own (subst (λ w. Owns flow.model k.source_side.base z w m) (sym at_start) owns) (matched (k.at + d) m (class_of flow.model k.source_side.base z) b here f))))
-            (subst (λ w. StandsContent stands naming old (whole_range l n (kind_of flow.model Char leaf.signed) all_labels true) w b.content) (sym class) (content_padding stands naming old l n flow.model leaf.signed b.content none)))
+            (subst (λ w. InGammaContent gamma naming old (whole_range l n (kind_of flow.model Char leaf.signed) all_labels true) w b.content) (sym class) (content_padding gamma naming old l n flow.model leaf.signed b.content none)))
           where
             char_fits : Fits Char 0 b.tag → leaf.class ≡ Char → y ≡ 0 → Fits leaf.class y b.tag
             char_fits f a z = subst (λ w. Fits w y b.tag) (sym a) (subst (λ w. Fits Char w b.tag) (sym z) f)
@@ -150,7 +150,7 @@ module _ {flow : Flow} {naming : Naming} {old new : Memory} (k : Copied flow nam
         (bytes : (m : ℕ) (y : Labelled) → slice_get ns m ≡ Some y → (b : Byte) × (byte_at old k.j ((k.at + st) + m) ≡ Some b) × (b.content ≡ number_in y))
         (seen : (m : ℕ) (b : Byte) → m < class_bytes flow.model leaf.class → byte_at old k.j ((k.at + st) + m) ≡ Some b → fits_leaf (is_allocated (storage_at old k.j)) (tag_of leaf.class m) b ≡ true) where
       abbrev GoodNumber : Value I → Type 0
-      GoodNumber v = stands v.num (number_of leaf.signed ns)
+      GoodNumber v = gamma v.num (number_of leaf.signed ns)
 
       number_up : (x y : Value I) → (value_lattice l).leq x y ≡ true → GoodNumber x → GoodNumber y
       number_up x y h s = q.larger x.num y.num (number_of leaf.signed ns) (value_below l x y h).num s
@@ -206,7 +206,7 @@ module _ {flow : Flow} {naming : Naming} {old new : Memory} (k : Copied flow nam
               let here : byte_at old k.j (k.at + st) ≡ Some b.0 = subst (λ z. byte_at old k.j z ≡ Some b.0) none b.1 in
               let low : y.0.number < 256 = are_bytes 0 y.0 get in
               let own : OwnedByLeaf flow.model leaf st 0 = record { start = st; place = place; there = omega arith; small = above } in
-              let turn : (x : Value I) → stands x.num (number_of leaf.signed (y.0 ∷ [])) → GoodNumber x = λ x s. subst (λ z. stands x.num (number_of leaf.signed z)) (sym y.1) s in
+              let turn : (x : Value I) → gamma x.num (number_of leaf.signed (y.0 ∷ [])) → GoodNumber x = λ x s. subst (λ z. gamma x.num (number_of leaf.signed z)) (sym y.1) s in
               char_gives flow naming old k.sane k.padding k.source_side.b k.source_side.base k.source_side.at (k.laid.shaped.each k.source_side.b k.source_side.base k.source_side.at) k.j k.source_side.named k.source_side.alive o n number_up row (leaf_access leaf k.from) (k.at + st) (source_spot k number st leaf e place) (few_cells k k.source_side.b k.source_side.base k.source_side.at) (room st place)
               b.0 here char
               (λ f. number_gives (λ m x small at.
@@ -214,6 +214,6 @@ module _ {flow : Flow} {naming : Naming} {old new : Memory} (k : Copied flow nam
               let same : x ≡ b.0 = same_Some x b.0 (sym at ∙ (ap (λ z. byte_at old k.j ((k.at + st) + z)) zeroth ∙ b.1)) in
               subst (λ w. Fits w m x.tag) (sym class) (subst (λ w. Fits Char w x.tag) (sym zeroth) (subst (λ (w : Byte). Fits Char 0 w.tag) (sym same) f))))
               (λ z is wide m owns f. turn (byte_read l n flow.model (value_at l n row (position flow.model k.source_side.base z)) (class_of flow.model k.source_side.base z) leaf.signed) (byte_stands o q flow.model naming old (value_at l n row (position flow.model k.source_side.base z)) (class_of flow.model k.source_side.base z) leaf.signed y.0 low
-              (subst (StandsContent stands naming old (value_at l n row (position flow.model k.source_side.base z)) (class_of flow.model k.source_side.base z)) b.2
+              (subst (InGammaContent gamma naming old (value_at l n row (position flow.model k.source_side.base z)) (class_of flow.model k.source_side.base z)) b.2
               (tells.content z is st 0 m b.0.content own owns (matched (k.at + st) m (class_of flow.model k.source_side.base z) b.0 here f)))).0)
               (turn (whole_range l n (kind_of flow.model Char leaf.signed) all_labels true) (padding_stands o q flow.model naming old leaf.signed y.0 low).0)

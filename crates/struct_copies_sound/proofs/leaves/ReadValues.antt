@@ -26,7 +26,7 @@ use Rattle.memory_model.specs.Memory.Instances.{Memory}
 use Rattle.memory_model.specs.Memory.Labels.{Labels}
 use Rattle.memory_model.specs.Memory.Numbers.{Labelled, number_of}
 use Rattle.store_sound.specs.Concretization.SeenLabels.{as_set}
-use Rattle.store_sound.specs.Concretization.ValueMeaning.{Naming, StandsContent}
+use Rattle.store_sound.specs.Concretization.ValueMeaning.{Naming, InGammaContent}
 use Rattle.store_sound.proofs.operations.Classes.{class_above, class_size}
 use Rattle.store_sound.proofs.operations.FreshValues.{type_near}
 use Rattle.store_sound.proofs.operations.Near.{IsNearValue, join_near, near_number_from, near_number_none}
@@ -56,58 +56,58 @@ not_or false q h = refl
 all_above : (labels : Labels) → labels_leq (as_set labels) all_labels ≡ true
 all_above labels = grind arith
 
-module _ {I : Type 0} {l : LatticeOf I} {n : IntegersOf I} {stands : I → ℤ → Type 0} (c : SoundLaws l n stands) (m : Model) (class : Class) (ns : List Labelled) (size : length ns ≡ class_bytes m class) (bytes : AreBytes ns) where
-  converted : (s t : Bool) (x : I) → stands x (number_of s ns) → stands (n.convert x (kind_of m class t)) (number_of t ns)
+module _ {I : Type 0} {l : LatticeOf I} {n : IntegersOf I} {gamma : I → ℤ → Type 0} (c : SoundLaws l n gamma) (m : Model) (class : Class) (ns : List Labelled) (size : length ns ≡ class_bytes m class) (bytes : AreBytes ns) where
+  converted : (s t : Bool) (x : I) → gamma x (number_of s ns) → gamma (n.convert x (kind_of m class t)) (number_of t ns)
   converted s t x h =
       let a = class_above m class in
-      subst (stands (n.convert x (kind_of m class t))) (reread s t ns (kind_of m class t) refl (sym size) (omega (arith, a, size)) bytes)
+      subst (gamma (n.convert x (kind_of m class t))) (reread s t ns (kind_of m class t) refl (sym size) (omega (arith, a, size)) bytes)
       (c.convert_stands (kind_of m class t) x (number_of s ns) (class_size m class) h)
 
-  pub number_read : (s t : Bool) (v : Value I) → is_pointer class ≡ false → stands v.num (number_of s ns) → stands (as_read n m v class s t).num (number_of t ns)
+  pub number_read : (s t : Bool) (v : Value I) → is_pointer class ≡ false → gamma v.num (number_of s ns) → gamma (as_read n m v class s t).num (number_of t ns)
   number_read s t v p h = elim (cases_Bool (same_sign s t)) [
-    | inl e ↦ rw (p, e) (subst (λ u. stands v.num (number_of u ns)) (same_signs s t e) h)
+    | inl e ↦ rw (p, e) (subst (λ u. gamma v.num (number_of u ns)) (same_signs s t e) h)
     | inr e ↦ rw (p, e) (converted s t v.num h)
   ]
 
-  pub number_stored : (s t : Bool) (v : Value I) → is_pointer class ≡ false → stands v.num (number_of s ns) → stands (as_stored n m v class t).num (number_of t ns)
+  pub number_stored : (s t : Bool) (v : Value I) → is_pointer class ≡ false → gamma v.num (number_of s ns) → gamma (as_stored n m v class t).num (number_of t ns)
   number_stored s t v p h = rw p (converted s t v.num h)
 
-module _ {I : Type 0} (stands : I → ℤ → Type 0) (naming : Naming) (memory : Memory) where
+module _ {I : Type 0} (gamma : I → ℤ → Type 0) (naming : Naming) (memory : Memory) where
   -- another number leaves what is known of bytes
-  with_number : (v : Value I) (x : I) (d : Class) (c : Content) → StandsContent stands naming memory v d c → StandsContent stands naming memory (record v { num = x }) d c
+  with_number : (v : Value I) (x : I) (d : Class) (c : Content) → InGammaContent gamma naming memory v d c → InGammaContent gamma naming memory (record v { num = x }) d c
   with_number v x d indeterminate h = h
   with_number v x d (number k labels) h = h
   with_number v x d (part p k) h = h
 
-  pub content_read : (n : IntegersOf I) (m : Model) (v : Value I) (d class : Class) (s t : Bool) (c : Content) → StandsContent stands naming memory v d c → StandsContent stands naming memory (as_read n m v class s t) d c
+  pub content_read : (n : IntegersOf I) (m : Model) (v : Value I) (d class : Class) (s t : Bool) (c : Content) → InGammaContent gamma naming memory v d c → InGammaContent gamma naming memory (as_read n m v class s t) d c
   content_read n m v d class s t c h = by_test (is_pointer class || same_sign s t)
     where
-      by_test : (b : Bool) → StandsContent stands naming memory (cond b v (record v { num = n.convert v.num (kind_of m class t) })) d c
+      by_test : (b : Bool) → InGammaContent gamma naming memory (cond b v (record v { num = n.convert v.num (kind_of m class t) })) d c
       by_test true = h
       by_test false = with_number v (n.convert v.num (kind_of m class t)) d c h
 
-  pub content_stored : (n : IntegersOf I) (m : Model) (v : Value I) (d class : Class) (t : Bool) (c : Content) → StandsContent stands naming memory v d c → StandsContent stands naming memory (as_stored n m v class t) d c
+  pub content_stored : (n : IntegersOf I) (m : Model) (v : Value I) (d class : Class) (t : Bool) (c : Content) → InGammaContent gamma naming memory v d c → InGammaContent gamma naming memory (as_stored n m v class t) d c
   content_stored n m v d class t c h = by_test (is_pointer class)
     where
-      by_test : (b : Bool) → StandsContent stands naming memory (cond b v (record v { num = n.convert v.num (kind_of m class t) })) d c
+      by_test : (b : Bool) → InGammaContent gamma naming memory (cond b v (record v { num = n.convert v.num (kind_of m class t) })) d c
       by_test true = h
       by_test false = with_number v (n.convert v.num (kind_of m class t)) d c h
 
   -- a character of a cell of another class
-  pub content_byte : (l : LatticeOf I) (n : IntegersOf I) (m : Model) (v : Value I) (d : Class) (t : Bool) (c : Content) → IsNoPart c → StandsContent stands naming memory v d c → StandsContent stands naming memory (byte_read l n m v d t) Char c
+  pub content_byte : (l : LatticeOf I) (n : IntegersOf I) (m : Model) (v : Value I) (d : Class) (t : Bool) (c : Content) → IsNoPart c → InGammaContent gamma naming memory v d c → InGammaContent gamma naming memory (byte_read l n m v d t) Char c
   content_byte l n m v d t indeterminate none h = byte_flag l n m v d t h
   content_byte l n m v d t (number k labels) none h = let e : (not (is_pointer d) || v.pointer.null) ≡ true = not_or (is_pointer d) v.pointer.null h.1 in rw e (h.0, λ (f : false ≡ true). absurd (true≢false (sym f)))
   content_byte l n m v d t (part p k) none h = absurd none
 
   -- a byte of no leaf
-  pub content_padding : (l : LatticeOf I) (n : IntegersOf I) (m : Model) (t : Bool) (c : Content) → IsNoPart c → StandsContent stands naming memory (whole_range l n (kind_of m Char t) all_labels true) Char c
+  pub content_padding : (l : LatticeOf I) (n : IntegersOf I) (m : Model) (t : Bool) (c : Content) → IsNoPart c → InGammaContent gamma naming memory (whole_range l n (kind_of m Char t) all_labels true) Char c
   content_padding l n m t indeterminate none = refl
   content_padding l n m t (number k labels) none = (all_above labels, λ (f : false ≡ true). absurd (true≢false (sym f)))
   content_padding l n m t (part p k) none = absurd none
 
 -- ---- bounds
 
-module _ {I : Type 0} {l : LatticeOf I} {n : IntegersOf I} {stands : I → ℤ → Type 0} (o : OrderLaws l) (q : BoundLaws l n stands) where
+module _ {I : Type 0} {l : LatticeOf I} {n : IntegersOf I} {gamma : I → ℤ → Type 0} (o : OrderLaws l) (q : BoundLaws l n gamma) where
   abbrev pub Near : Value I → Type 0
   Near v = IsNearValue l n v
 

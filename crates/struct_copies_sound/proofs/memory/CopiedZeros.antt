@@ -16,7 +16,7 @@ use Rattle.store_cells.specs.FirstZeroWrites.{last_of, has_no_bytes, zero_target
 use Rattle.store_cells.specs.RowPositions.{capped, zero_position, zero_at, put_zero}
 use Rattle.memory_model.specs.Memory.Instances.{Memory, bytes_at, byte_at}
 use Rattle.store_sound.specs.Concretization.RowMeaning.{array_of, array_bytes, IsLiveOf}
-use Rattle.store_sound.specs.Concretization.ValueMeaning.{Naming, StandsZero}
+use Rattle.store_sound.specs.Concretization.ValueMeaning.{Naming, InGammaZero}
 use Rattle.store_sound.specs.Operations.Shapes.{AreLaid}
 use Rattle.store_sound.proofs.operations.Only.{only_put}
 use Rattle.store_sound.proofs.operations.StoreRows.{Fits, zero_is}
@@ -85,7 +85,7 @@ not_before : (b : Bool) (r : Option ℕ) (k : ℕ) → cond b None r ≡ Some k 
 not_before true r k h = cc
 not_before false r k h = h
 
-module _ {I : Type 0} {l : LatticeOf I} {n : IntegersOf I} {stands : I → ℤ → Type 0} (o : OrderLaws l) (q : BoundLaws l n stands) (naming : Naming) (bases : List BaseInfo) (behind : ℕ) (laid : AreLaid bases behind) {old new : Memory} {i to j from size : ℕ} (c : ComesFrom old new i to j from size) (small : (h : ℕ) → length (bytes_at old h) ≤ 2 ^ 63)
+module _ {I : Type 0} {l : LatticeOf I} {n : IntegersOf I} {gamma : I → ℤ → Type 0} (o : OrderLaws l) (q : BoundLaws l n gamma) (naming : Naming) (bases : List BaseInfo) (behind : ℕ) (laid : AreLaid bases behind) {old new : Memory} {i to j from size : ℕ} (c : ComesFrom old new i to j from size) (small : (h : ℕ) → length (bytes_at old h) ≤ 2 ^ 63)
     (b : ℕ) (base : BaseInfo) (at : slice_get bases b ≡ Some base) (w : Window) (window : (x : ℕ) → to ≤ x → x < to + size → (w.lo ≤ x) × (x ≤ w.hi)) (row : List (Cell I)) (long : base.first + base_values base ≤ length row) where
   fits : Fits base
   fits = let d = laid.close b base at in let s = laid.small in omega (arith, d, s)
@@ -150,10 +150,10 @@ module _ {I : Type 0} {l : LatticeOf I} {n : IntegersOf I} {stands : I → ℤ �
       unfolding copy_zeros
       all_missed = each_keeps IsSame turn 0 base.shape.zeros (λ y a other e d r h. let same : a ≡ y = omega (arith, d) in subst (λ x. IsSame (turn other x r)) (sym same) (missed y other e r h)) row (record { sized = refl; zero = refl })
 
-      pub apart_stands : ((h : ℕ) → IsLiveOf naming old b h → ZeroStands l n stands naming old base row z part h) → (h : ℕ) → IsLiveOf naming old b h → ZeroStands l n stands naming new base (copy_zeros l n base w exact row) z part h
+      pub apart_stands : ((h : ℕ) → IsLiveOf naming old b h → ZeroStands l n gamma naming old base row z part h) → (h : ℕ) → IsLiveOf naming old b h → ZeroStands l n gamma naming new base (copy_zeros l n base w exact row) z part h
       apart_stands zeros h alive =
-          subst (λ x. StandsZero stands naming new x (array_bytes part (bytes_at new h))) (sym all_missed.zero)
-          (subst (StandsZero stands naming new (zero_at l n row (zero_position base z)))
+          subst (λ x. InGammaZero gamma naming new x (array_bytes part (bytes_at new h))) (sym all_missed.zero)
+          (subst (InGammaZero gamma naming new (zero_at l n row (zero_position base z)))
           (sym (array_apart c.region part h (λ d x inside above below.
           let y = window x above below in
           let f = c.region.fits in
@@ -166,7 +166,7 @@ module _ {I : Type 0} {l : LatticeOf I} {n : IntegersOf I} {stands : I → ℤ �
     module _ (target : ZeroTarget) (met : zero_target part w ≡ Some target) where
       -- where the copy is exact, the array of the source has its first zero yet
       abbrev Source : List (Cell I) → Type 0
-      Source r = (e : Exact) → exact ≡ Some e → (k : ℕ) (other : ZeroPart) → lies_inside e part ≡ true → source_part e part ≡ Some k → slice_get e.source.shape.zeros k ≡ Some other → StandsZero stands naming old (zero_at l n r (zero_position e.source k)) (array_bytes other (bytes_at old j))
+      Source r = (e : Exact) → exact ≡ Some e → (k : ℕ) (other : ZeroPart) → lies_inside e part ≡ true → source_part e part ≡ Some k → slice_get e.source.shape.zeros k ≡ Some other → InGammaZero gamma naming old (zero_at l n r (zero_position e.source k)) (array_bytes other (bytes_at old j))
 
       record Before (r : List (Cell I)) : Type 0 where
         sized : length r ≡ length row
@@ -174,9 +174,9 @@ module _ {I : Type 0} {l : LatticeOf I} {n : IntegersOf I} {stands : I → ℤ �
 
       pub record After (r : List (Cell I)) : Type 0 where
         pub sized : length r ≡ length row
-        pub stands_for : (h : ℕ) → IsLiveOf naming old b h → StandsZero stands naming new (zero_at l n r (zero_position base z)) (array_bytes part (bytes_at new h))
+        pub stands_for : (h : ℕ) → IsLiveOf naming old b h → InGammaZero gamma naming new (zero_at l n r (zero_position base z)) (array_bytes part (bytes_at new h))
 
-      module _ (exactly : (e : Exact) → exact ≡ Some e → IsExactly l n stands naming old bases b base row i to j from size e) (inside : (e : Exact) → exact ≡ Some e → 0 < size → (x : ℕ) → w.lo ≤ x → x ≤ w.hi → (to ≤ x) × (x < to + size)) where
+      module _ (exactly : (e : Exact) → exact ≡ Some e → IsExactly l n gamma naming old bases b base row i to j from size e) (inside : (e : Exact) → exact ≡ Some e → 0 < size → (x : ℕ) → w.lo ≤ x → x ≤ w.hi → (to ≤ x) × (x < to + size)) where
         -- ---- the array of the source
 
         record IsSource (e : Exact) (k : ℕ) (other : ZeroPart) : Type 0 where
@@ -251,27 +251,27 @@ module _ {I : Type 0} {l : LatticeOf I} {n : IntegersOf I} {stands : I → ℤ �
             c.same ((part.offset - to) + g) left right (omega (arith, a, end_in, few, y)) (sym (ap (λ z. slice_get (bytes_at new i) z) m) ∙ here) (sym (ap (λ z. slice_get (bytes_at old j) z) w) ∙ from_there))
             ∙ sym (ap first_zero f))
 
-        any_new : (h : ℕ) → StandsZero stands naming new (any_zero l n) (array_bytes part (bytes_at new h))
+        any_new : (h : ℕ) → InGammaZero gamma naming new (any_zero l n) (array_bytes part (bytes_at new h))
         any_new h = any_zero_stands o q naming new (array_bytes part (bytes_at new h)) (new_small part h)
 
         -- what the turn of the array puts there
-        put_is : (r : List (Cell I)) → Source r → (h : ℕ) → IsLiveOf naming old b h → StandsZero stands naming new (zero_copied l n exact part r) (array_bytes part (bytes_at new h))
+        put_is : (r : List (Cell I)) → Source r → (h : ℕ) → IsLiveOf naming old b h → InGammaZero gamma naming new (zero_copied l n exact part r) (array_bytes part (bytes_at new h))
         put_is r source h alive = by_exact exact refl
           where
-            by_part : (e : Exact) → exact ≡ Some e → lies_inside e part ≡ true → (k : Option ℕ) → source_part e part ≡ k → StandsZero stands naming new (zero_from l n e.source r k) (array_bytes part (bytes_at new h))
+            by_part : (e : Exact) → exact ≡ Some e → lies_inside e part ≡ true → (k : Option ℕ) → source_part e part ≡ k → InGammaZero gamma naming new (zero_from l n e.source r k) (array_bytes part (bytes_at new h))
             by_part e is within None found = any_new h
             by_part e is within (Some k) found =
                 let f = array_found_in e k found in
                 let s = is_source e is k f.0 within found f.1 in
                 let sole : h ≡ i = (exactly e is).sole h alive in
-                subst (λ y. StandsZero stands naming new (zero_at l n r (zero_position e.source k)) (array_bytes part (bytes_at new y))) (sym sole)
-                (subst (λ y. stands (zero_at l n r (zero_position e.source k)).at (zero_offset y)) (sym (same_array e k f.0 s)) (source e is k f.0 within found f.1))
+                subst (λ y. InGammaZero gamma naming new (zero_at l n r (zero_position e.source k)) (array_bytes part (bytes_at new y))) (sym sole)
+                (subst (λ y. gamma (zero_at l n r (zero_position e.source k)).at (zero_offset y)) (sym (same_array e k f.0 s)) (source e is k f.0 within found f.1))
 
-            by_inside : (e : Exact) → exact ≡ Some e → (d : Bool) → lies_inside e part ≡ d → StandsZero stands naming new (cond d (zero_from l n e.source r (source_part e part)) (any_zero l n)) (array_bytes part (bytes_at new h))
+            by_inside : (e : Exact) → exact ≡ Some e → (d : Bool) → lies_inside e part ≡ d → InGammaZero gamma naming new (cond d (zero_from l n e.source r (source_part e part)) (any_zero l n)) (array_bytes part (bytes_at new h))
             by_inside e is true within = by_part e is within (source_part e part) refl
             by_inside e is false within = any_new h
 
-            by_exact : (x : Option Exact) → exact ≡ x → StandsZero stands naming new (zero_copied l n x part r) (array_bytes part (bytes_at new h))
+            by_exact : (x : Option Exact) → exact ≡ x → InGammaZero gamma naming new (zero_copied l n x part r) (array_bytes part (bytes_at new h))
             by_exact None is = any_new h
             by_exact (Some e) is = by_inside e is (lies_inside e part) refl
 
@@ -298,7 +298,7 @@ module _ {I : Type 0} {l : LatticeOf I} {n : IntegersOf I} {stands : I → ℤ �
             by_target false = h
             by_target true = record {
               sized = put_long r (zero_position base y) (zero_copied l n exact other r) ∙ h.sized;
-              stands_for = λ g alive. subst (λ x. StandsZero stands naming new x (array_bytes part (bytes_at new g))) (sym (put_apart r (zero_position base y) (zero_position base z) (zero_copied l n exact other r) apart)) (h.stands_for g alive);
+              stands_for = λ g alive. subst (λ x. InGammaZero gamma naming new x (array_bytes part (bytes_at new g))) (sym (put_apart r (zero_position base y) (zero_position base z) (zero_copied l n exact other r) apart)) (h.stands_for g alive);
             }
 
         -- ---- the turns before it: what is put at the array of the source is what was there
@@ -307,7 +307,7 @@ module _ {I : Type 0} {l : LatticeOf I} {n : IntegersOf I} {stands : I → ℤ �
         same_part : (e : Exact) (is : exact ≡ Some e) (k y : ℕ) (own other : ZeroPart) → slice_get e.source.shape.zeros k ≡ Some own → slice_get base.shape.zeros y ≡ Some other → zero_position e.source k ≡ zero_position base y → (own ≡ other) × (k ≡ y) × (j ≡ i)
         same_part e is k y own other f g same = by_base (cases_eq x.number b)
           where
-            x : IsExactly l n stands naming old bases b base row i to j from size e
+            x : IsExactly l n gamma naming old bases b base row i to j from size e
             x = exactly e is
 
             k_is : zero_position e.source k ≡ (e.source.first + base_cells e.source) + k
@@ -356,24 +356,24 @@ module _ {I : Type 0} {l : LatticeOf I} {n : IntegersOf I} {stands : I → ℤ �
         unfolding copy_part_at
         before_keeps y other among_y r h = by_target (zero_target other w) refl
           where
-            put_there : (e : Exact) → exact ≡ Some e → (k : ℕ) (own : ZeroPart) → lies_inside e part ≡ true → source_part e part ≡ Some k → slice_get e.source.shape.zeros k ≡ Some own → other ≡ part → StandsZero stands naming old (zero_copied l n exact other r) (array_bytes own (bytes_at old j))
+            put_there : (e : Exact) → exact ≡ Some e → (k : ℕ) (own : ZeroPart) → lies_inside e part ≡ true → source_part e part ≡ Some k → slice_get e.source.shape.zeros k ≡ Some own → other ≡ part → InGammaZero gamma naming old (zero_copied l n exact other r) (array_bytes own (bytes_at old j))
             put_there e is k own within found there same =
-                subst (λ u. StandsZero stands naming old (zero_copied l n exact u r) (array_bytes own (bytes_at old j))) (sym same)
-                (subst (λ u. StandsZero stands naming old (zero_copied l n u part r) (array_bytes own (bytes_at old j))) (sym is)
-                (subst (λ u. StandsZero stands naming old (cond u (zero_from l n e.source r (source_part e part)) (any_zero l n)) (array_bytes own (bytes_at old j))) (sym within)
-                (subst (λ u. StandsZero stands naming old (zero_from l n e.source r u) (array_bytes own (bytes_at old j))) (sym found)
+                subst (λ u. InGammaZero gamma naming old (zero_copied l n exact u r) (array_bytes own (bytes_at old j))) (sym same)
+                (subst (λ u. InGammaZero gamma naming old (zero_copied l n u part r) (array_bytes own (bytes_at old j))) (sym is)
+                (subst (λ u. InGammaZero gamma naming old (cond u (zero_from l n e.source r (source_part e part)) (any_zero l n)) (array_bytes own (bytes_at old j))) (sym within)
+                (subst (λ u. InGammaZero gamma naming old (zero_from l n e.source r u) (array_bytes own (bytes_at old j))) (sym found)
                 (h.source e is k own within found there))))
 
             put_source : (found : ZeroTarget) → zero_target other w ≡ Some found → Source (put_zero r (zero_position base y) (zero_copied l n exact other r))
             put_source hit_at hit e is k own within found there = by_place (cases_eq (zero_position e.source k) (zero_position base y))
               where
-                by_place : (zero_position e.source k ≡ zero_position base y) ⊎ (zero_position e.source k ≡ zero_position base y → ⊥) → StandsZero stands naming old (zero_at l n (put_zero r (zero_position base y) (zero_copied l n exact other r)) (zero_position e.source k)) (array_bytes own (bytes_at old j))
-                by_place (inr apart) = subst (λ x. StandsZero stands naming old x (array_bytes own (bytes_at old j))) (sym (put_apart r (zero_position base y) (zero_position e.source k) (zero_copied l n exact other r) apart)) (h.source e is k own within found there)
+                by_place : (zero_position e.source k ≡ zero_position base y) ⊎ (zero_position e.source k ≡ zero_position base y → ⊥) → InGammaZero gamma naming old (zero_at l n (put_zero r (zero_position base y) (zero_copied l n exact other r)) (zero_position e.source k)) (array_bytes own (bytes_at old j))
+                by_place (inr apart) = subst (λ x. InGammaZero gamma naming old x (array_bytes own (bytes_at old j))) (sym (put_apart r (zero_position base y) (zero_position e.source k) (zero_copied l n exact other r) apart)) (h.source e is k own within found there)
                 by_place (inl same) =
                     let t = same_part e is k y own other there among_y same in
                     let s = is_source e is k own within found there in
                     let own_is = same_as_own e is k y own other s t.0 t.2 hit_at hit in
-                    subst (λ x. StandsZero stands naming old (zero_at l n (put_zero r (zero_position base y) (zero_copied l n exact other r)) x) (array_bytes own (bytes_at old j))) (sym same)
+                    subst (λ x. InGammaZero gamma naming old (zero_at l n (put_zero r (zero_position base y) (zero_copied l n exact other r)) x) (array_bytes own (bytes_at old j))) (sym same)
                     (put_zero_stands o q naming old r (zero_position base y) (zero_copied l n exact other r) (array_bytes own (bytes_at old j)) (here_too y other r among_y h.sized) (old_small own j) (put_there e is k own within found there own_is))
 
             by_target : (found : Option ZeroTarget) → zero_target other w ≡ found → Before (cond (is_some (zero_target other w)) (put_zero r (zero_position base y) (zero_copied l n exact other r)) r)
@@ -391,9 +391,9 @@ module _ {I : Type 0} {l : LatticeOf I} {n : IntegersOf I} {stands : I → ℤ �
             (λ a d r h. let same : a ≡ z = omega (arith, d) in subst (λ x. After (turn part x r)) (sym same) (makes r h))
             row (record { sized = refl; source = λ e is k own within found there. (exactly e is).zeros k own there })
 
-pub copied_zeros_stand : {I : Type 0} {l : LatticeOf I} {n : IntegersOf I} {stands : I → ℤ → Type 0} (o : OrderLaws l) (q : BoundLaws l n stands) → CopiedZerosStand l n stands
-copied_zeros_stand {I} {l} {n} {stands} o q naming bases behind laid old new i to j from size c small b base at w window row long exact exactly z part among zeros h alive = by_target (zero_target part w) refl
+pub copied_zeros_stand : {I : Type 0} {l : LatticeOf I} {n : IntegersOf I} {gamma : I → ℤ → Type 0} (o : OrderLaws l) (q : BoundLaws l n gamma) → CopiedZerosStand l n gamma
+copied_zeros_stand {I} {l} {n} {gamma} o q naming bases behind laid old new i to j from size c small b base at w window row long exact exactly z part among zeros h alive = by_target (zero_target part w) refl
   where
-    by_target : (target : Option ZeroTarget) → zero_target part w ≡ target → ZeroStands l n stands naming new base (copy_zeros l n base w exact row) z part h
+    by_target : (target : Option ZeroTarget) → zero_target part w ≡ target → ZeroStands l n gamma naming new base (copy_zeros l n base w exact row) z part h
     by_target None none = apart_stands o q naming bases behind laid c small b base at w window row long exact z part among none zeros h alive
     by_target (Some target) met = (met_stands o q naming bases behind laid c small b base at w window row long exact z part among target met (λ e is. (exactly e is).0) (λ e is. (exactly e is).1)).stands_for h alive

@@ -18,7 +18,7 @@ use Rattle.store_cells.specs.NearValues.{near_value}
 use Rattle.store_cells.specs.RowPositions.{leaf_position, class_position, value_at}
 use Rattle.memory_model.specs.Memory.Bytes.{Content}
 use Rattle.memory_model.specs.Memory.Instances.{Memory}
-use Rattle.store_sound.specs.Concretization.ValueMeaning.{Naming, StandsContent}
+use Rattle.store_sound.specs.Concretization.ValueMeaning.{Naming, InGammaContent}
 use Rattle.store_struct_leaves.specs.CopyPlaces.{is_reached, is_touched}
 use Rattle.store_struct_leaves.specs.LeafCopies.{reaches_class, is_strong, with_flag, write_all}
 use Rattle.store_struct_leaves.specs.declared.leaf_copies.LeafAccess.{LeafAccess}
@@ -60,10 +60,10 @@ pub data Fact : Type 0 where
   of_number : ℤ → Fact
   of_content : Naming → Memory → Class → Content → Fact
 
-module _ {I : Type 0} (l : LatticeOf I) (n : IntegersOf I) (stands : I → ℤ → Type 0) where
+module _ {I : Type 0} (l : LatticeOf I) (n : IntegersOf I) (gamma : I → ℤ → Type 0) where
   abbrev pub IsTold : Fact → Value I → Type 0
-  IsTold (of_number z) v = stands v.num z
-  IsTold (of_content naming memory class content) v = StandsContent stands naming memory v class content
+  IsTold (of_number z) v = gamma v.num z
+  IsTold (of_content naming memory class content) v = InGammaContent gamma naming memory v class content
 
   -- for values of near bounds
   abbrev pub LeafWritesStand : Type 0

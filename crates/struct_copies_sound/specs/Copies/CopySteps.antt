@@ -13,6 +13,6 @@ abbrev pub IsCopy : Operation → Type 0
 IsCopy (op.Copy to from index) = Unit {0}
 IsCopy _ = ⊥
 
-module _ {I : Type 0} (l : LatticeOf I) (n : IntegersOf I) (stands : I → ℤ → Type 0) (flow : Flow) where
+module _ {I : Type 0} (l : LatticeOf I) (n : IntegersOf I) (gamma : I → ℤ → Type 0) (flow : Flow) where
   abbrev pub CopiesAreSound : Type 0
-  CopiesAreSound = HasPremises flow → HasStructs flow → AreSound l n stands flow IsCopy
+  CopiesAreSound = HasPremises flow → HasStructs flow → AreSound l n gamma flow IsCopy

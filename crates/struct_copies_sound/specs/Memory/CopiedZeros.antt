@@ -11,7 +11,7 @@ use Rattle.store_cells.specs.declared.access_windows.Window.{Window}
 use Rattle.memory_model.specs.Memory.Bytes.{Byte}
 use Rattle.memory_model.specs.Memory.Instances.{Memory, bytes_at, byte_at}
 use Rattle.store_sound.specs.Concretization.RowMeaning.{array_bytes, IsLiveOf}
-use Rattle.store_sound.specs.Concretization.ValueMeaning.{Naming, StandsZero}
+use Rattle.store_sound.specs.Concretization.ValueMeaning.{Naming, InGammaZero}
 use Rattle.store_sound.specs.Operations.Shapes.{AreLaid}
 use Rattle.store_sound.specs.Regions.RegionWrites.{IsRegion}
 use Rattle.store_structs.specs.CopyZeros.{Exact, copy_zeros}
@@ -24,9 +24,9 @@ pub record ComesFrom (old new : Memory) (i to j from size : ℕ) : Type 0 where
   -- both sides are the same bytes, or have none in common
   pub apart : (x : ℕ) → j ≡ i → to ≤ x → x < to + size → from ≤ x → x < from + size → to ≡ from
 
-module _ {I : Type 0} (l : LatticeOf I) (n : IntegersOf I) (stands : I → ℤ → Type 0) where
+module _ {I : Type 0} (l : LatticeOf I) (n : IntegersOf I) (gamma : I → ℤ → Type 0) where
   abbrev pub ZeroStands : Naming → Memory → BaseInfo → List (Cell I) → ℕ → ZeroPart → ℕ → Type 0
-  ZeroStands naming memory base row z part i = StandsZero stands naming memory (zero_at l n row (zero_position base z)) (array_bytes part (bytes_at memory i))
+  ZeroStands naming memory base row z part i = InGammaZero gamma naming memory (zero_at l n row (zero_position base z)) (array_bytes part (bytes_at memory i))
 
   -- the copy is exact: between these offsets of the only instance of the base and of an instance of the source
   pub record IsExactly (naming : Naming) (old : Memory) (bases : List BaseInfo) (b : ℕ) (base : BaseInfo) (row : List (Cell I)) (i to j from size : ℕ) (e : Exact) : Type 0 where

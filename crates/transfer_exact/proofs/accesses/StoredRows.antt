@@ -56,7 +56,7 @@ abbrev pub FitsLeaf : Leaf → Scalar → Type 0
 FitsLeaf leaf (integer z labels) = is_pointer leaf.class ≡ false
 FitsLeaf leaf (pointer p) = is_pointer leaf.class ≡ true
 
-module _ {I : Type 0} {l : LatticeOf I} {n : IntegersOf I} {stands : I → ℤ → Type 0} (q : BoundLaws l n stands) (ranges : RangeLaws l n) (x : ExactLaws n) (flow : Flow) (p : HasPremises flow) (row : List (Cell I)) (long : length row ≡ flow.width) (state : MachineState) (new : Memory) (small : (k : ℕ) → length (bytes_at new k) ≤ last_offset) (b i : ℕ) (base : BaseInfo) (at : slice_get flow.bases.items b ≡ Some base)
+module _ {I : Type 0} {l : LatticeOf I} {n : IntegersOf I} {gamma : I → ℤ → Type 0} (q : BoundLaws l n gamma) (ranges : RangeLaws l n) (x : ExactLaws n) (flow : Flow) (p : HasPremises flow) (row : List (Cell I)) (long : length row ≡ flow.width) (state : MachineState) (new : Memory) (small : (k : ℕ) → length (bytes_at new k) ≤ last_offset) (b i : ℕ) (base : BaseInfo) (at : slice_get flow.bases.items b ≡ Some base)
     (h : IsStruct flow.model base.shape.cells base.size) (single : (j : ℕ) (leaf : Leaf) → slice_get base.shape.cells j ≡ Some leaf → leaf.count ≡ 1)
     (j : ℕ) (leaf : Leaf) (among : slice_get base.shape.cells j ≡ Some leaf) (v : Scalar) (fit : FitsLeaf leaf v) (in_new : IsScalarIn new v)
     (w : IsWritten state.memory new i leaf.offset leaf.class (class_bytes flow.model leaf.class) (scalar_bytes (class_bytes flow.model leaf.class) v))

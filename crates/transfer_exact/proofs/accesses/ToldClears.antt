@@ -131,7 +131,7 @@ module _ (flow : Flow) (p : HasPremises flow) (b : ℕ) (info : BaseInfo) (at : 
       only_more _ _ (clear_leaf l n info leaf a) (omega (arith, here)) (omega (arith, here, w, d, cells)) (one_leaf leaf a))).keeps row x h
 
 -- a leaf of zero bytes
-module _ {I : Type 0} {l : LatticeOf I} {n : IntegersOf I} {stands : I → ℤ → Type 0} (q : BoundLaws l n stands) (flow : Flow) (state : MachineState) (i : ℕ) (leaf : Leaf) (bytes : (k : ℕ) → k < class_bytes flow.model leaf.class → Matched state.memory i (leaf.offset + k) leaf.class k (number 0 no_labels)) where
+module _ {I : Type 0} {l : LatticeOf I} {n : IntegersOf I} {gamma : I → ℤ → Type 0} (q : BoundLaws l n gamma) (flow : Flow) (state : MachineState) (i : ℕ) (leaf : Leaf) (bytes : (k : ℕ) → k < class_bytes flow.model leaf.class → Matched state.memory i (leaf.offset + k) leaf.class k (number 0 no_labels)) where
   pub zero_leaf : (c : _) → is_pointer leaf.class ≡ c → TellsLeaf l n flow state (near_value l n (zero_value l n leaf.class)) i leaf.offset leaf
   zero_leaf true c = record {
     held = Some (pointer null);
@@ -156,7 +156,7 @@ module _ {I : Type 0} {l : LatticeOf I} {n : IntegersOf I} {stands : I → ℤ �
     tells = rw c (record { number = near_one q (n.one (pos 0)) (pos 0) (record { from = omega (arith, ints); to = omega (arith, ints) }) (q.one_bounds (pos 0)); labels_are = refl; apart = record { bases = refl; null = refl; ended = refl }; determinate = refl });
   }
 
-module _ {I : Type 0} {l : LatticeOf I} {n : IntegersOf I} {stands : I → ℤ → Type 0} (q : BoundLaws l n stands) (flow : Flow) (p : HasPremises flow) (objects : HasObjects flow) (plain : IsPlainProgram flow) (naming : Naming) (row : List (Cell I)) (s : Standing) (r : IsReached l n stands flow naming row s) (t : TellsState l n flow row (state_of s)) where
+module _ {I : Type 0} {l : LatticeOf I} {n : IntegersOf I} {gamma : I → ℤ → Type 0} (q : BoundLaws l n gamma) (flow : Flow) (p : HasPremises flow) (objects : HasObjects flow) (plain : IsPlainProgram flow) (naming : Naming) (row : List (Cell I)) (s : Standing) (r : IsReached l n gamma flow naming row s) (t : TellsState l n flow row (state_of s)) where
   module _ (b i : ℕ) (info : BaseInfo) (at : slice_get flow.bases.items b ≡ Some info) (entered : s.bases b ≡ Some i) (declared : info.shape.heap ≡ false) (kind : info.kind ≡ Older → ⊥) where
     single : (j : ℕ) (leaf : Leaf) → slice_get info.shape.cells j ≡ Some leaf → leaf.count ≡ 1
     single j leaf e = plain.apart b j info leaf at e

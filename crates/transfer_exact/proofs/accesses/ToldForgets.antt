@@ -51,7 +51,7 @@ use Rattle.transfer_exact.proofs.places.HeldReads.{inside}
 use Rattle.transfer_exact.proofs.accesses.Moves.{change_tells}
 use Rattle.transfer_exact.proofs.places.OneLeaf.{owned, place_is}
 
-module _ {I : Type 0} {l : LatticeOf I} {n : IntegersOf I} {stands : I → ℤ → Type 0} (q : BoundLaws l n stands) (flow : Flow) (p : HasPremises flow) (objects : HasObjects flow) (plain : IsPlainProgram flow) (naming : Naming) (row : List (Cell I)) (s : Standing) (r : IsReached l n stands flow naming row s) (t : TellsState l n flow row (state_of s)) where
+module _ {I : Type 0} {l : LatticeOf I} {n : IntegersOf I} {gamma : I → ℤ → Type 0} (q : BoundLaws l n gamma) (flow : Flow) (p : HasPremises flow) (objects : HasObjects flow) (plain : IsPlainProgram flow) (naming : Naming) (row : List (Cell I)) (s : Standing) (r : IsReached l n gamma flow naming row s) (t : TellsState l n flow row (state_of s)) where
   module _ (b i : ℕ) (info : BaseInfo) (at : slice_get flow.bases.items b ≡ Some info) (entered : s.bases b ≡ Some i) (declared : info.shape.heap ≡ false) (kind : info.kind ≡ Older → ⊥) where
     single : (j : ℕ) (leaf : Leaf) → slice_get info.shape.cells j ≡ Some leaf → leaf.count ≡ 1
     single j leaf e = plain.apart b j info leaf at e

@@ -51,7 +51,7 @@ use Rattle.semantics.specs.CfgMachine.FlowActs.{giving}
 use Rattle.semantics.specs.CfgMachine.FlowSteps.{act_step}
 use Rattle.store_sound.specs.Concretization.Coverage.{state_of}
 use Rattle.store_sound.specs.Concretization.SoundMemory.{IsPointerIn, IsWithin, IsScalarIn}
-use Rattle.store_sound.specs.Concretization.ValueMeaning.{Naming, StandsPointer}
+use Rattle.store_sound.specs.Concretization.ValueMeaning.{Naming, InGammaPointer}
 use Rattle.store_sound.specs.Operations.Scalars.{IsOfKind, signed_in}
 use Rattle.store_sound.proofs.operations.LoadSound.{base_there}
 use Rattle.store_sound.proofs.operations.MemorySound.{loads_keep}
@@ -89,7 +89,7 @@ unminded : (kind : declared.Scalar) → (same_class (class_in kind) Char && is_u
 unminded (of.Int k) h m = both (same_class (class_in (of.Int k)) Char) k.signed h m
 unminded of.Pointer h m = cc
 
-module _ {I : Type 0} {l : LatticeOf I} {n : IntegersOf I} {stands : I → ℤ → Type 0} (q : BoundLaws l n stands) (flow : Flow) (p : HasPremises flow) (objects : HasObjects flow) (plain : IsPlainProgram flow) (naming : Naming) (row : List (Cell I)) (s : Standing) (r : IsReached l n stands flow naming row s) (t : TellsState l n flow row (state_of s)) (to : ℕ) (few : to < flow.temps) where
+module _ {I : Type 0} {l : LatticeOf I} {n : IntegersOf I} {gamma : I → ℤ → Type 0} (q : BoundLaws l n gamma) (flow : Flow) (p : HasPremises flow) (objects : HasObjects flow) (plain : IsPlainProgram flow) (naming : Naming) (row : List (Cell I)) (s : Standing) (r : IsReached l n gamma flow naming row s) (t : TellsState l n flow row (state_of s)) (to : ℕ) (few : to < flow.temps) where
   module _ (kind : declared.Scalar) (x : Pointers I) where
     abbrev touched_at : Class × Bool → Touched I
     touched_at cl = touch l n flow.bases.items row x 0 (table.class_bytes flow.model cl.0) false
@@ -226,8 +226,8 @@ module _ {I : Type 0} {l : LatticeOf I} {n : IntegersOf I} {stands : I → ℤ �
 
           known_within : (v : Scalar) → effect.load flow.model kind (pointer at) s.world ≡ goes v (behind_read v) → IsScalarIn s.world.memory v
           known_within v f =
-              let st : StandsPointer stands naming s.world.memory x at = subst (λ z. StandsPointer stands naming s.world.memory z at) (sym e.2) (r.stands_for.temps e.0 (pointer at) e.1) in
-              (loads_keep flow.model flow.bases.items naming s.world (behind_read v) at kind v r.stands_for.sane (r.stands_for.held.within e.0 (pointer at) e.1) (scalar_named stands naming s.world.memory (pointer_value l x) (pointer at) st) f).within
+              let st : InGammaPointer gamma naming s.world.memory x at = subst (λ z. InGammaPointer gamma naming s.world.memory z at) (sym e.2) (r.stands_for.temps e.0 (pointer at) e.1) in
+              (loads_keep flow.model flow.bases.items naming s.world (behind_read v) at kind v r.stands_for.sane (r.stands_for.held.within e.0 (pointer at) e.1) (scalar_named gamma naming s.world.memory (pointer_value l x) (pointer at) st) f).within
 
           scalar_by : (c : declared.Scalar) (v : Scalar) → c ≡ kind → IsOfKind c v → IsNearScalar v → IsScalarIn s.world.memory v → HoldsScalar flow s.world.memory i place.leaf.offset place.leaf (Some v) → TellsScalar n s.bases s.world.memory cell v → IsTold l n flow (put_read l n flow row to c found) (told_at pair) (giving s to (given s.world (Some v)))
           unfolding put_read
@@ -282,7 +282,7 @@ module _ {I : Type 0} {l : LatticeOf I} {n : IntegersOf I} {stands : I → ℤ �
       subst (λ cl. ToldAt kind (temp_value l n flow row from).pointer cl (giving s to (effect.load flow.model kind (pointer at) s.world))) (sym (class_pair kind))
       (by_pointer kind (temp_value l n flow row from).pointer at (from, e, refl) (typed at e) at refl (t.temps from (pointer at) e).points)
 
-module _ {I : Type 0} {l : LatticeOf I} {n : IntegersOf I} {stands : I → ℤ → Type 0} (q : BoundLaws l n stands) (flow : Flow) (p : HasPremises flow) (objects : HasObjects flow) (plain : IsPlainProgram flow) (naming : Naming) (row : List (Cell I)) (s : Standing) (r : IsReached l n stands flow naming row s) (t : TellsState l n flow row (state_of s)) where
+module _ {I : Type 0} {l : LatticeOf I} {n : IntegersOf I} {gamma : I → ℤ → Type 0} (q : BoundLaws l n gamma) (flow : Flow) (p : HasPremises flow) (objects : HasObjects flow) (plain : IsPlainProgram flow) (naming : Naming) (row : List (Cell I)) (s : Standing) (r : IsReached l n gamma flow naming row s) (t : TellsState l n flow row (state_of s)) where
   pub load_told : (to from : ℕ) (kind : declared.Scalar) → fits_operation (names_of flow) (op.Load to from kind) ≡ true → IsTyped flow s from kind → IsDefined (act_step (flow_view flow) (act (op.Load to from kind)) s) → StepIsTold l n flow row (op.Load to from kind) s
   unfolding operate load_step operation_violations
   load_told to from kind fits typed d =

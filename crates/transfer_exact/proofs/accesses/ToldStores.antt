@@ -59,8 +59,8 @@ use Rattle.semantics.specs.CfgMachine.FlowStates.{Standing, if_some, next}
 use Rattle.semantics.specs.CfgMachine.FlowActs.{keeping, storing}
 use Rattle.store_sound.specs.Concretization.Coverage.{state_of}
 use Rattle.store_sound.specs.Concretization.SoundMemory.{IsPointerIn, IsWithin, IsInstanceOf, storage_for}
-use Rattle.store_sound.specs.Concretization.RowMeaning.{StandsFor}
-use Rattle.store_sound.specs.Concretization.ValueMeaning.{Naming, StandsScalar}
+use Rattle.store_sound.specs.Concretization.RowMeaning.{InGamma}
+use Rattle.store_sound.specs.Concretization.ValueMeaning.{Naming, InGammaScalar}
 use Rattle.store_sound.specs.Operations.Scalars.{signed_in}
 use Rattle.store_cells.specs.RowPositions.{value_at}
 use Rattle.store_sound.proofs.operations.Classes.{class_above, same_class_is, integer_class}
@@ -69,7 +69,7 @@ use Rattle.store_sound.proofs.operations.StoreRows.{Fits}
 use Rattle.store_sound.proofs.chars.ByteStores.{byte_of, byte_goes}
 use Rattle.store_sound.proofs.operations.LoadSound.{base_there, instance_there}
 use Rattle.store_sound.specs.Programs.Premises.{HasPremises}
-use Rattle.transfer_sound.specs.Values.SoundSteps.{IsReached, StandsBehind}
+use Rattle.transfer_sound.specs.Values.SoundSteps.{IsReached, InGammaAfter}
 use Rattle.transfer_sound.proofs.values.MoveSteps.{near_has}
 use Rattle.transfer_sound.proofs.values.NearScalars.{IsNearScalar}
 use Rattle.transfer_instructions.specs.Values.Scalars.{class_of}
@@ -132,13 +132,13 @@ base_fits flow p b base at = let k = p.laid.laid.close b base at in let s = p.la
 
 -- ---- the value that is kept
 
-module _ {I : Type 0} {l : LatticeOf I} {n : IntegersOf I} {stands : I → ℤ → Type 0} (q : BoundLaws l n stands) (flow : Flow) (p : HasPremises flow) where
-  temp_near : (row : List (Cell I)) (naming : Naming) (memory : Memory) (t : ℕ) (v : Scalar) → StandsScalar stands naming memory (temp_value l n flow row t) v → IsNearScalar v
+module _ {I : Type 0} {l : LatticeOf I} {n : IntegersOf I} {gamma : I → ℤ → Type 0} (q : BoundLaws l n gamma) (flow : Flow) (p : HasPremises flow) where
+  temp_near : (row : List (Cell I)) (naming : Naming) (memory : Memory) (t : ℕ) (v : Scalar) → InGammaScalar gamma naming memory (temp_value l n flow row t) v → IsNearScalar v
   unfolding value_at
   temp_near row naming memory t (integer z la) h = near_has q _ z h.0
   temp_near row naming memory t (pointer at) h = tt
 
-  module _ (naming : Naming) (row : List (Cell I)) (s : Standing) (r : IsReached l n stands flow naming row s) (t : TellsState l n flow row (state_of s)) (told : Violations) (clean : AreViolated told s.world.violated) where
+  module _ (naming : Naming) (row : List (Cell I)) (s : Standing) (r : IsReached l n gamma flow naming row s) (t : TellsState l n flow row (state_of s)) (told : Violations) (clean : AreViolated told s.world.violated) where
     keeps_told : (kept : Option (ℕ × ℕ)) → has_kept (names_of flow) kept ≡ true → IsDefined (keeping s kept) → IsTold l n flow (Some (move_temp l n flow kept row)) told (keeping s kept)
     unfolding move_temp
     keeps_told None fits d = record {
@@ -157,7 +157,7 @@ module _ {I : Type 0} {l : LatticeOf I} {n : IntegersOf I} {stands : I → ℤ �
         if_some_told l n flow _ told s (s.temps k.1) _ d (λ v e d.
         result_told q flow p naming row s r t k.0 few (temp_value l n flow row k.1) v s.world (record { tells = t.temps k.1 v e; near = temp_near row naming s.world.memory k.1 v (r.stands_for.temps k.1 v e); within = r.stands_for.held.within k.1 v e }) refl _ told refl clean)
 
-module _ {I : Type 0} {l : LatticeOf I} {n : IntegersOf I} {stands : I → ℤ → Type 0} (o : OrderLaws l) (q : BoundLaws l n stands) (c : SoundLaws l n stands) (ranges : RangeLaws l n) (exact : ExactLaws n) (flow : Flow) (p : HasPremises flow) (objects : HasObjects flow) (plain : IsPlainProgram flow) (naming : Naming) (row : List (Cell I)) (s : Standing) (r : IsReached l n stands flow naming row s) (t : TellsState l n flow row (state_of s)) where
+module _ {I : Type 0} {l : LatticeOf I} {n : IntegersOf I} {gamma : I → ℤ → Type 0} (o : OrderLaws l) (q : BoundLaws l n gamma) (c : SoundLaws l n gamma) (ranges : RangeLaws l n) (exact : ExactLaws n) (flow : Flow) (p : HasPremises flow) (objects : HasObjects flow) (plain : IsPlainProgram flow) (naming : Naming) (row : List (Cell I)) (s : Standing) (r : IsReached l n gamma flow naming row s) (t : TellsState l n flow row (state_of s)) where
   module _ (kind : declared.Scalar) (kept : Option (ℕ × ℕ)) (to from : ℕ) (v : Scalar) (has : s.temps from ≡ Some v) (fits : fits_operation (names_of flow) (op.Store to from kind None) ≡ true) (keepable : has_kept (names_of flow) kept ≡ true) (of_kind : is_of_kind kind v ≡ true) where
     abbrev x : Pointers I
     x = (temp_value l n flow row to).pointer
@@ -272,7 +272,7 @@ module _ {I : Type 0} {l : LatticeOf I} {n : IntegersOf I} {stands : I → ℤ �
                 ap (λ z. if_some s z (λ pv. if_some s (s.temps from) (λ w. storing s None (effect.store flow.model kind pv w s.world)))) e
                 ∙ (ap (λ z. if_some s z (λ w. storing s None (effect.store flow.model kind (pointer at) w s.world))) has ∙ ap (storing s None) whole)
 
-            sound : StandsBehind l n stands flow (operate l n flow row (op.Store to from kind None)) (record now { at = suc s.at })
+            sound : InGammaAfter l n gamma flow (operate l n flow row (op.Store to from kind None)) (record now { at = suc s.at })
             sound = (store_sound o q c ranges flow p naming row s r to from kind None fits).goes_on (record now { at = suc s.at }) after_store act_is
 
             -- ---- the bytes of the leaf are those of the scalar
@@ -359,10 +359,10 @@ module _ {I : Type 0} {l : LatticeOf I} {n : IntegersOf I} {stands : I → ℤ �
                 let b : moved_behind l n flow None (after_at pair) ≡ Some sound.row = subst (λ cl. moved_behind l n flow None (after_at cl) ≡ Some sound.row) (class_pair kind) sound.is in
                 same_Some setting.after sound.row (sym a ∙ b)
 
-            reached : IsReached l n stands flow sound.naming setting.after now
+            reached : IsReached l n gamma flow sound.naming setting.after now
             reached = record {
               long = ap length row_is ∙ sound.long;
-              stands_for = subst (λ z. StandsFor l n stands flow sound.naming z (state_of now)) (sym row_is) sound.stands_for;
+              stands_for = subst (λ z. InGamma l n gamma flow sound.naming z (state_of now)) (sym row_is) sound.stands_for;
               short = sound.short;
               begun = r.begun;
             }

@@ -126,7 +126,7 @@ character_violated b rules h = let e = none_at_all rules in each_violated (recor
   xfree = e.xfree;
 })
 
-module _ {I : Type 0} {l : LatticeOf I} {n : IntegersOf I} {stands : I → ℤ → Type 0} (q : BoundLaws l n stands) where
+module _ {I : Type 0} {l : LatticeOf I} {n : IntegersOf I} {gamma : I → ℤ → Type 0} (q : BoundLaws l n gamma) where
   one_between : (a z : ℤ) → a ≡ z → IsOne n (between_or_least l n a a) z
   one_between a z e = let f : int_le a a ≡ true = grind (arith, ints) in rw f (q.between_bounds a a (omega (arith, ints)) ∙ ap (λ y. Some (y, y)) e)
 
@@ -155,7 +155,7 @@ truth_near : (b : Bool) → IsNearNumber (cond b (pos 1) (pos 0))
 truth_near true = record { from = omega (arith, ints); to = omega (arith, ints) }
 truth_near false = record { from = omega (arith, ints); to = omega (arith, ints) }
 
-module _ {I : Type 0} {l : LatticeOf I} {n : IntegersOf I} {stands : I → ℤ → Type 0} (q : BoundLaws l n stands) (x : ExactLaws n) (flow : Flow) (p : HasPremises flow) (naming : Naming) (row : List (Cell I)) (s : Standing) (r : IsReached l n stands flow naming row s) (t : TellsState l n flow row (state_of s)) where
+module _ {I : Type 0} {l : LatticeOf I} {n : IntegersOf I} {gamma : I → ℤ → Type 0} (q : BoundLaws l n gamma) (x : ExactLaws n) (flow : Flow) (p : HasPremises flow) (naming : Naming) (row : List (Cell I)) (s : Standing) (r : IsReached l n gamma flow naming row s) (t : TellsState l n flow row (state_of s)) where
   module _ (to : Option ℕ) (has : has_result (names_of flow) to ≡ true) (newest : Option ℕ) where
     -- what a plan makes of the row is told
     abbrev GoodPlan : Plan I → Reply (Option Scalar) → Type 0

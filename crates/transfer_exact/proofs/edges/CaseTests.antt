@@ -56,7 +56,7 @@ le_own z = grind (arith, ints)
 range_own : (z : ℤ) → range_met (Some (z, z)) z z ≡ Some (z, z)
 range_own z = rw (max_own z, le_own z) refl
 
-module _ {I : Type 0} {l : LatticeOf I} {n : IntegersOf I} {stands : I → ℤ → Type 0} (q : BoundLaws l n stands) where
+module _ {I : Type 0} {l : LatticeOf I} {n : IntegersOf I} {gamma : I → ℤ → Type 0} (q : BoundLaws l n gamma) where
   of_own : (z : ℤ) → n.bounds (of_range l n (Some (z, z))) ≡ Some (z, z)
   of_own z = rw (le_own z) (q.between_bounds z z (omega (arith, ints)))
 
@@ -70,7 +70,7 @@ case_scalar value (Some (pointer p)) h = absurd (true≢false (sym h))
 
 -- ---- the object
 
-module _ {I : Type 0} {l : LatticeOf I} {n : IntegersOf I} {stands : I → ℤ → Type 0} (o : OrderLaws l) (q : BoundLaws l n stands) (flow : Flow) (p : HasPremises flow) (naming : Naming) (row : List (Cell I)) (s : Standing) (r : IsReached l n stands flow naming row s) (st : TellsState l n flow row (state_of s)) where
+module _ {I : Type 0} {l : LatticeOf I} {n : IntegersOf I} {gamma : I → ℤ → Type 0} (o : OrderLaws l) (q : BoundLaws l n gamma) (flow : Flow) (p : HasPremises flow) (naming : Naming) (row : List (Cell I)) (s : Standing) (r : IsReached l n gamma flow naming row s) (st : TellsState l n flow row (state_of s)) where
   module _ (b i : ℕ) (kind : IntType) (t : IsScalarObject flow b (of.Int kind)) (en : s.bases b ≡ Some i) (value : ℤ) where
     abbrev memory : Memory
     memory = s.world.memory
@@ -110,7 +110,7 @@ module _ {I : Type 0} {l : LatticeOf I} {n : IntegersOf I} {stands : I → ℤ �
       held =
           let has = object_has o q flow p naming s.temps s.bases row r.long memory r.stands_for b i (of.Int kind) t en value la scalar in
           let is : side_value l n flow row (side.Object b (of.Int kind)) ≡ v = ap (λ z. value_of_object l n row (position_of z)) t.is in
-          number_held q flow p naming row r.long (state_of s) r.stands_for.lives.named st b i (of.Int kind) t en value (subst (λ z. stands z.num value) is has.number)
+          number_held q flow p naming row r.long (state_of s) r.stands_for.lives.named st b i (of.Int kind) t en value (subst (λ z. gamma z.num value) is has.number)
 
       one : IsOne n x value
       one = met_one q v.num value held.tells.number

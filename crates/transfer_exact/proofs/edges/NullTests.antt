@@ -83,7 +83,7 @@ head_part y j cs x h = cond_gives (are_parts y 0 (part y j ∷ cs)) y x h
 
 -- ---- what the value is refined to
 
-module _ {I : Type 0} {l : LatticeOf I} {n : IntegersOf I} {stands : I → ℤ → Type 0} (q : BoundLaws l n stands) where
+module _ {I : Type 0} {l : LatticeOf I} {n : IntegersOf I} {gamma : I → ℤ → Type 0} (q : BoundLaws l n gamma) where
   -- a number that is one alone in what is near is near itself
   pub near_of : (x : I) (z : ℤ) → IsOne n (near_number l n x) z → IsNearNumber z
   near_of x z h = elim (cases_Bool (is_near (n.bounds x))) [
@@ -145,7 +145,7 @@ module _ {I : Type 0} {l : LatticeOf I} {n : IntegersOf I} {stands : I → ℤ �
 
 -- ---- the object
 
-module _ {I : Type 0} {l : LatticeOf I} {n : IntegersOf I} {stands : I → ℤ → Type 0} (q : BoundLaws l n stands) (flow : Flow) (p : HasPremises flow) (naming : Naming) (row : List (Cell I)) (s : Standing) (r : IsReached l n stands flow naming row s) (st : TellsState l n flow row (state_of s))
+module _ {I : Type 0} {l : LatticeOf I} {n : IntegersOf I} {gamma : I → ℤ → Type 0} (q : BoundLaws l n gamma) (flow : Flow) (p : HasPremises flow) (naming : Naming) (row : List (Cell I)) (s : Standing) (r : IsReached l n gamma flow naming row s) (st : TellsState l n flow row (state_of s))
     (b i : ℕ) (t : IsScalarObject flow b of.Pointer) (en : s.bases b ≡ Some i) (rel : Rel) where
   abbrev memory : Memory
   memory = s.world.memory
@@ -284,7 +284,7 @@ module _ {I : Type 0} {l : LatticeOf I} {n : IntegersOf I} {stands : I → ℤ �
         violated = none_violated s.world.violated;
       }
 
-module _ {I : Type 0} {l : LatticeOf I} {n : IntegersOf I} {stands : I → ℤ → Type 0} (q : BoundLaws l n stands) (flow : Flow) (p : HasPremises flow) (naming : Naming) (row : List (Cell I)) (s : Standing) (r : IsReached l n stands flow naming row s) (st : TellsState l n flow row (state_of s)) where
+module _ {I : Type 0} {l : LatticeOf I} {n : IntegersOf I} {gamma : I → ℤ → Type 0} (q : BoundLaws l n gamma) (flow : Flow) (p : HasPremises flow) (naming : Naming) (row : List (Cell I)) (s : Standing) (r : IsReached l n gamma flow naming row s) (st : TellsState l n flow row (state_of s)) where
   pub null_test_told : (test : Test) → IsNullTest flow test → IsDefined (testing (flow_view flow) s (Some test)) → IsTold l n flow (refine l n flow test row) no_violations (testing (flow_view flow) s (Some test))
   unfolding refine refine_named refine_pointer
   null_test_told test t =

@@ -85,7 +85,7 @@ module _ {old new : Memory} {i : ℕ} {g : Labels → Labels} (w : IsRelabelling
 
 -- ---- the object
 
-module _ {I : Type 0} {l : LatticeOf I} {n : IntegersOf I} {stands : I → ℤ → Type 0} (q : BoundLaws l n stands) (flow : Flow) (p : HasPremises flow) (naming : Naming) (row : List (Cell I)) (long : length row ≡ flow.width) (state : MachineState) (names : (d j : ℕ) → state.entered d ≡ Some j → naming j ≡ Some d) (st : TellsState l n flow row state)
+module _ {I : Type 0} {l : LatticeOf I} {n : IntegersOf I} {gamma : I → ℤ → Type 0} (q : BoundLaws l n gamma) (flow : Flow) (p : HasPremises flow) (naming : Naming) (row : List (Cell I)) (long : length row ≡ flow.width) (state : MachineState) (names : (d j : ℕ) → state.entered d ≡ Some j → naming j ≡ Some d) (st : TellsState l n flow row state)
     (b i : ℕ) (kind : _) (t : IsScalarObject flow b kind) (en : state.entered b ≡ Some i) where
   abbrev place : ℕ
   place = leaf_position t.info 0
@@ -124,7 +124,7 @@ module _ {I : Type 0} {l : LatticeOf I} {n : IntegersOf I} {stands : I → ℤ �
     pub holds : HoldsNumber flow state.memory i 0 t.leaf a la
     pub tells : TellsNumber n state.entered state.memory v a la
 
-  pub number_held : (a : ℤ) → stands v.num a → IsNumberHeld a
+  pub number_held : (a : ℤ) → gamma v.num a → IsNumberHeld a
   number_held a h = let was = st.leaves b 0 i 0 t.info t.leaf t.is leaf_there en place_here in by_held was.held was.holds was.tells
     where
       has : RangeHas (n.bounds v.num) a

@@ -40,7 +40,7 @@ use Rattle.store_sound.specs.Concretization.ValueMeaning.{Naming}
 use Rattle.store_sound.specs.Concretization.Coverage.{state_of}
 use Rattle.store_sound.specs.Programs.Premises.{HasPremises}
 use Rattle.store_sound.proofs.programs.ShapedBases.{all_at}
-use Rattle.transfer_sound.specs.Values.SoundSteps.{IsReached, StandsBehind, IsStoodFor}
+use Rattle.transfer_sound.specs.Values.SoundSteps.{IsReached, InGammaAfter, IsStoodFor}
 use Rattle.transfer_sound.proofs.values.Admitted.{none_admitted, same_admitted}
 use Rattle.transfer_sound.proofs.induction.Blocks.{IsBlock, block_facts}
 use Rattle.transfer_sound.specs.Edges.EdgeSteps.{TestIsSound, KindIsSound, TestsAreSound}
@@ -114,7 +114,7 @@ jump_off kind.Line fit v h o = absurd fit
 defined_first : {A B : Type 0} (reply : Reply A) (f : A → World → Reply B) → IsDefined (behind reply f) → IsDefined reply
 defined_first reply f d = λ w e. d w (ap (λ z. behind z f) e)
 
-module _ {I : Type 0} {l : LatticeOf I} {n : IntegersOf I} {stands : I → ℤ → Type 0} (q : BoundLaws l n stands) (c : SoundLaws l n stands) (x : ExactLaws n) (flow : Flow) (p : HasPremises flow) where
+module _ {I : Type 0} {l : LatticeOf I} {n : IntegersOf I} {gamma : I → ℤ → Type 0} (q : BoundLaws l n gamma) (c : SoundLaws l n gamma) (x : ExactLaws n) (flow : Flow) (p : HasPremises flow) where
   abbrev f : FlowView
   f = flow_view flow
 
@@ -123,7 +123,7 @@ module _ {I : Type 0} {l : LatticeOf I} {n : IntegersOf I} {stands : I → ℤ �
   same_row : (a b : List (Cell I)) (after : Option (List (Cell I))) → after ≡ Some a → after ≡ Some b → a ≡ b
   same_row a b after e g = let h : Some a ≡ Some b = sym e ∙ g in cc
 
-  put_behind : (kept : Option (ℕ × ℤ)) → fits_taken (names_of flow) kept ≡ true → (after : Option (List (Cell I))) (t : Standing) (w : World) → StandsBehind l n stands flow after (record t { world = w }) → TellsBehind l n flow after (record t { world = w }) → TellsBehind l n flow (kept_behind l n flow kept after) (record (with_put kept t) { world = w })
+  put_behind : (kept : Option (ℕ × ℤ)) → fits_taken (names_of flow) kept ≡ true → (after : Option (List (Cell I))) (t : Standing) (w : World) → InGammaAfter l n gamma flow after (record t { world = w }) → TellsBehind l n flow after (record t { world = w }) → TellsBehind l n flow (kept_behind l n flow kept after) (record (with_put kept t) { world = w })
   unfolding put_kept
   put_behind None fits after t w sb h = record { row = h.row; is = ap (kept_behind l n flow None) h.is; tells = h.tells }
   put_behind (Some k) fits after t w sb h =
@@ -138,7 +138,7 @@ module _ {I : Type 0} {l : LatticeOf I} {n : IntegersOf I} {stands : I → ℤ �
             (record { tells = tells_number l n t.bases w.memory (n.one k.1) set.no_labels k.1 no_labels (q.one_bounds k.1) refl; near = is_near k.1 a.1; within = tt });
       }
 
-  kept_told : (kept : Option (ℕ × ℤ)) → fits_taken (names_of flow) kept ≡ true → (after : Option (List (Cell I))) (reply : Reply Standing) → IsStoodFor l n stands flow after no_violations reply → IsTold l n flow after no_violations reply → IsTold l n flow (kept_behind l n flow kept after) no_violations (behind reply (λ t w. goes (with_put kept t) w))
+  kept_told : (kept : Option (ℕ × ℤ)) → fits_taken (names_of flow) kept ≡ true → (after : Option (List (Cell I))) (reply : Reply Standing) → IsStoodFor l n gamma flow after no_violations reply → IsTold l n flow after no_violations reply → IsTold l n flow (kept_behind l n flow kept after) no_violations (behind reply (λ t w. goes (with_put kept t) w))
   kept_told kept fits after (goes t w) st h = record {
     goes_on = λ s u e.
         let a : with_put kept t ≡ s = cc in
@@ -154,7 +154,7 @@ module _ {I : Type 0} {l : LatticeOf I} {n : IntegersOf I} {stands : I → ℤ �
     violated = none_violated w.violated;
   }
 
-  module _ (naming : Naming) (row : List (Cell I)) (s : Standing) (r : IsReached l n stands flow naming row s) (t : TellsState l n flow row (state_of s)) where
+  module _ (naming : Naming) (row : List (Cell I)) (s : Standing) (r : IsReached l n gamma flow naming row s) (t : TellsState l n flow row (state_of s)) where
     here_told : IsTold l n flow (Some row) no_violations (goes s s.world)
     here_told = record {
       goes_on = λ y u e.
@@ -166,24 +166,24 @@ module _ {I : Type 0} {l : LatticeOf I} {n : IntegersOf I} {stands : I → ℤ �
       violated = none_violated s.world.violated;
     }
 
-    here_good : IsStoodFor l n stands flow (Some row) no_violations (goes s s.world)
+    here_good : IsStoodFor l n gamma flow (Some row) no_violations (goes s s.world)
     here_good = record {
       goes_on = λ t u e.
           let a : s ≡ t = cc in
           let b : s.world ≡ u = cc in
-          let here : StandsBehind l n stands flow (Some row) (record s { world = s.world }) = record { row = row; is = refl; long = r.long; naming = naming; stands_for = r.stands_for; short = r.short } in
-          subst (λ z. StandsBehind l n stands flow (Some row) (record z { world = u })) a (subst (λ z. StandsBehind l n stands flow (Some row) (record s { world = z })) b here);
+          let here : InGammaAfter l n gamma flow (Some row) (record s { world = s.world }) = record { row = row; is = refl; long = r.long; naming = naming; stands_for = r.stands_for; short = r.short } in
+          subst (λ z. InGammaAfter l n gamma flow (Some row) (record z { world = u })) a (subst (λ z. InGammaAfter l n gamma flow (Some row) (record s { world = z })) b here);
       admits = same_admitted no_violations s.world.violated [] r.begun (none_admitted no_violations);
     }
 
     -- ---- branches
 
-    test_good : (test : Option Test) → TestIsSound l n stands flow test → IsStoodFor l n stands flow (refine_if l n flow test row) no_violations (testing f s test)
+    test_good : (test : Option Test) → TestIsSound l n gamma flow test → IsStoodFor l n gamma flow (refine_if l n flow test row) no_violations (testing f s test)
     unfolding refine_if
     test_good None h = here_good
     test_good (Some test) h = h naming row s r
 
-    test_told : (test : Option Test) → TestIsTold l n stands flow test → IsDefined (testing f s test) → IsTold l n flow (refine_if l n flow test row) no_violations (testing f s test)
+    test_told : (test : Option Test) → TestIsTold l n gamma flow test → IsDefined (testing f s test) → IsTold l n flow (refine_if l n flow test row) no_violations (testing f s test)
     unfolding refine_if
     test_told None h d = here_told
     test_told (Some test) h d = h naming row s r t d
@@ -191,7 +191,7 @@ module _ {I : Type 0} {l : LatticeOf I} {n : IntegersOf I} {stands : I → ℤ �
     can_is : (from u : ℕ) (v : Scalar) → s.temps u ≡ Some v → deciding_temp flow from ≡ Some u → (truth : Bool) → can_be l n flow row (deciding_temp flow from) truth ≡ same_truth truth (not (is_false v))
     can_is from u v e d truth = ap (λ z. can_be l n flow row z truth) d ∙ (ap (λ z. truth_can_be z truth) (truth_told q c x s.bases s.world.memory (temp_value l n flow row u) v (t.temps u v e)) ∙ truth_taken (not (is_false v)) truth)
 
-    branch_way : (from u : ℕ) (v : Scalar) → s.temps u ≡ Some v → deciding_temp flow from ≡ Some u → (scalar : _) (k : EdgeKind) → FitsWay (op.Branch u scalar) k → KindIsSound l n stands flow k → KindIsTold l n stands flow k → fits_edge (names_of flow) k ≡ true → is_taken v (way k) ≡ true → IsDefined (on_way f s (way k)) → IsTold l n flow (follow l n flow row from k) no_violations (on_way f s (way k))
+    branch_way : (from u : ℕ) (v : Scalar) → s.temps u ≡ Some v → deciding_temp flow from ≡ Some u → (scalar : _) (k : EdgeKind) → FitsWay (op.Branch u scalar) k → KindIsSound l n gamma flow k → KindIsTold l n gamma flow k → fits_edge (names_of flow) k ≡ true → is_taken v (way k) ≡ true → IsDefined (on_way f s (way k)) → IsTold l n flow (follow l n flow row from k) no_violations (on_way f s (way k))
     unfolding follow branch_edge behind_test
     branch_way from u v e d scalar (kind.When truth test kept) fit sound told fits taken def =
         let a = and_parts (fits_test (names_of flow) test) (fits_taken (names_of flow) kept) fits in
@@ -214,11 +214,11 @@ module _ {I : Type 0} {l : LatticeOf I} {n : IntegersOf I} {stands : I → ℤ �
 
     -- ---- switches
 
-    object_told : (test : CaseTest) → CaseIsTold l n stands flow test.value test.object → IsDefined (matching f s test.value test.object) → IsTold l n flow (refine_object l n flow test row) no_violations (matching f s test.value test.object)
+    object_told : (test : CaseTest) → CaseIsTold l n gamma flow test.value test.object → IsDefined (matching f s test.value test.object) → IsTold l n flow (refine_object l n flow test row) no_violations (matching f s test.value test.object)
     unfolding refine_object
     object_told test h d = by_object test.object h d
       where
-        by_object : (o : Option ℕ) → CaseIsTold l n stands flow test.value o → IsDefined (matching f s test.value o) → IsTold l n flow (refine_named_case l n flow o test.value row) no_violations (matching f s test.value o)
+        by_object : (o : Option ℕ) → CaseIsTold l n gamma flow test.value o → IsDefined (matching f s test.value o) → IsTold l n flow (refine_named_case l n flow o test.value row) no_violations (matching f s test.value o)
         by_object None h d = here_told
         by_object (Some base) h d = h naming row s r t d
 
@@ -231,7 +231,7 @@ module _ {I : Type 0} {l : LatticeOf I} {n : IntegersOf I} {stands : I → ℤ �
     others_is : (from u : ℕ) (z : ℤ) (la : Labels) → s.temps u ≡ Some (integer z la) → deciding_temp flow from ≡ Some u → (labels : List ℤ) → is_other_than (switched l n flow row (deciding_temp flow from)) labels ≡ not (is_among (integer z la) labels)
     others_is from u z la e d labels = ap (λ y. is_other_than y labels) (range_is from u z la e d) ∙ other_is z la labels
 
-    switch_way : (from u : ℕ) (z : ℤ) (la : Labels) → s.temps u ≡ Some (integer z la) → deciding_temp flow from ≡ Some u → (type : _) (k : EdgeKind) → FitsWay (op.Switch u type) k → KindIsTold l n stands flow k → is_taken (integer z la) (way k) ≡ true → IsDefined (on_way f s (way k)) → IsTold l n flow (follow l n flow row from k) no_violations (on_way f s (way k))
+    switch_way : (from u : ℕ) (z : ℤ) (la : Labels) → s.temps u ≡ Some (integer z la) → deciding_temp flow from ≡ Some u → (type : _) (k : EdgeKind) → FitsWay (op.Switch u type) k → KindIsTold l n gamma flow k → is_taken (integer z la) (way k) ≡ true → IsDefined (on_way f s (way k)) → IsTold l n flow (follow l n flow row from k) no_violations (on_way f s (way k))
     unfolding follow case_edge
     switch_way from u z la e d type (kind.Case test) fit told taken def = let there = case_is from u z la e d test.value ∙ taken in rw there (object_told test told def)
     switch_way from u z la e d type (kind.Other values) fit told taken def = let there = others_is from u z la e d values.items ∙ taken in rw there here_told
@@ -260,7 +260,7 @@ module _ {I : Type 0} {l : LatticeOf I} {n : IntegersOf I} {stands : I → ℤ �
 
     -- ---- the edge that is taken, and the others
 
-    module _ (limits : Limits) (good : is_well_formed limits flow ≡ true) (apart : WaysAreApart flow) (sound : TestsAreSound l n stands flow) (tests : TestsAreTold l n stands flow) (i : Instruction) (last : last_instruction flow s.block ≡ Some i) where
+    module _ (limits : Limits) (good : is_well_formed limits flow ≡ true) (apart : WaysAreApart flow) (sound : TestsAreSound l n gamma flow) (tests : TestsAreTold l n gamma flow) (i : Instruction) (last : last_instruction flow s.block ≡ Some i) where
       holder : HasLast flow s.block i
       holder = has_last flow s.block i (slice_get flow.blocks.items s.block) refl last
 
@@ -287,14 +287,14 @@ module _ {I : Type 0} {l : LatticeOf I} {n : IntegersOf I} {stands : I → ℤ �
           | inl g ↦ absurd (apart.apart number other it e v is at (leaves ∙ sym from) ne taken g)
         ]
 
-        by_reply : (e : EdgeView) (y : IsTakenEdge flow s.block v e (leads o)) (reply : Reply Standing) → IsTold l n flow (follow l n flow row y.it.from y.it.kind) no_violations reply → (u : Standing) (w : World) → behind reply (λ t w. goes (at_block y.it.to t) w) ≡ goes u w → EdgeTells l n stands flow row o s.block (record u { world = w })
+        by_reply : (e : EdgeView) (y : IsTakenEdge flow s.block v e (leads o)) (reply : Reply Standing) → IsTold l n flow (follow l n flow row y.it.from y.it.kind) no_violations reply → (u : Standing) (w : World) → behind reply (λ t w. goes (at_block y.it.to t) w) ≡ goes u w → EdgeTells l n gamma flow row o s.block (record u { world = w })
         unfolding edge
         by_reply e y (stops why w) h u z k = cc
         by_reply e y (goes t w) h u z k =
             let a : at_block y.it.to t ≡ u = cc in
             let b : w ≡ z = cc in
             let tb = h.goes_on t w refl in
-            let now : EdgeTells l n stands flow row o s.block (record (at_block y.it.to t) { world = w }) = record {
+            let now : EdgeTells l n gamma flow row o s.block (record (at_block y.it.to t) { world = w }) = record {
               number = y.number;
               taken = y.it;
               is = y.is;
@@ -303,9 +303,9 @@ module _ {I : Type 0} {l : LatticeOf I} {n : IntegersOf I} {stands : I → ℤ �
               behind = record { row = tb.row; is = ap (follow_if l n flow row) y.is ∙ tb.is; tells = tb.tells };
               others = λ other e at from fit ne. others y.number other y.it e y.is y.leaves (subst (λ z. is_taken v z.taken ≡ true) (sym y.same) y.taken) at from fit ne;
             } in
-            subst (λ y. EdgeTells l n stands flow row o s.block (record y { world = z })) a (subst (λ z. EdgeTells l n stands flow row o s.block (record (at_block y.it.to t) { world = z })) b now)
+            subst (λ y. EdgeTells l n gamma flow row o s.block (record y { world = z })) a (subst (λ z. EdgeTells l n gamma flow row o s.block (record (at_block y.it.to t) { world = z })) b now)
 
-        by_edge : (e : Option EdgeView) → edge_taken v (edges_of f (block_of f s.block)) ≡ e → IsDefined (along f s e) → (u : Standing) (w : World) → along f s e ≡ goes u w → EdgeTells l n stands flow row o s.block (record u { world = w })
+        by_edge : (e : Option EdgeView) → edge_taken v (edges_of f (block_of f s.block)) ≡ e → IsDefined (along f s e) → (u : Standing) (w : World) → along f s e ≡ goes u w → EdgeTells l n gamma flow row o s.block (record u { world = w })
         by_edge None k d u w g = cc
         by_edge (Some e) k d u w g =
             let own : List Edge = take holder.holder.edges (drop holder.holder.first_edge flow.edges.items) in
@@ -315,15 +315,15 @@ module _ {I : Type 0} {l : LatticeOf I} {n : IntegersOf I} {stands : I → ℤ �
             let def : IsDefined (along f s (Some (edge_view y.it))) = subst (λ z. IsDefined (along f s (Some z))) (sym y.same) d in
             by_reply e y (on_way f s (way y.it.kind)) (way_on y.number y.it y.is y.leaves (to_way y.it.kind y.fits) taken (defined_first (on_way f s (way y.it.kind)) _ def)) u w (ap (λ z. along f s (Some z)) y.same ∙ g)
 
-        edge_tells : IsDefined (on_edge f s v) → (u : Standing) (w : World) → on_edge f s v ≡ goes u w → EdgeTells l n stands flow row o s.block (record u { world = w })
+        edge_tells : IsDefined (on_edge f s v) → (u : Standing) (w : World) → on_edge f s v ≡ goes u w → EdgeTells l n gamma flow row o s.block (record u { world = w })
         edge_tells d u w g = by_edge (edge_taken v (edges_of f (block_of f s.block))) refl d u w g
 
       -- ---- the instructions
 
-      branch_told : (u : ℕ) (scalar : _) → i.operation ≡ op.Branch u scalar → IsDefined (act_step f (act (op.Branch u scalar)) s) → WayIsTold l n stands flow row (op.Branch u scalar) s
+      branch_told : (u : ℕ) (scalar : _) → i.operation ≡ op.Branch u scalar → IsDefined (act_step f (act (op.Branch u scalar)) s) → WayIsTold l n gamma flow row (op.Branch u scalar) s
       branch_told u scalar same d = record { goes_on = λ y w g. by_temp (s.temps u) refl y w g }
         where
-          by_temp : (v : Option Scalar) → s.temps u ≡ v → (y : Standing) (w : World) → if_some s (s.temps u) (on_edge f s) ≡ goes y w → EdgeTells l n stands flow row (op.Branch u scalar) s.block (record y { world = w })
+          by_temp : (v : Option Scalar) → s.temps u ≡ v → (y : Standing) (w : World) → if_some s (s.temps u) (on_edge f s) ≡ goes y w → EdgeTells l n gamma flow row (op.Branch u scalar) s.block (record y { world = w })
           by_temp None e y w g = let h : stuck_at s ≡ goes y w = ap (λ z. if_some s z (on_edge f s)) (sym e) ∙ g in cc
           by_temp (Some v) e y w g =
               edge_tells (op.Branch u scalar) same (λ z. cc) (lead_branch u scalar) v
@@ -331,10 +331,10 @@ module _ {I : Type 0} {l : LatticeOf I} {n : IntegersOf I} {stands : I → ℤ �
               (λ it from fit taken. branch_off it.from u v e (decides (op.Branch u scalar) same it.from from) scalar it.kind fit taken)
               (subst (λ z. IsDefined (if_some s z (on_edge f s))) e d) y w (ap (λ z. if_some s z (on_edge f s)) (sym e) ∙ g)
 
-      switch_told : (u : ℕ) (type : _) → i.operation ≡ op.Switch u type → IsDefined (act_step f (act (op.Switch u type)) s) → WayIsTold l n stands flow row (op.Switch u type) s
+      switch_told : (u : ℕ) (type : _) → i.operation ≡ op.Switch u type → IsDefined (act_step f (act (op.Switch u type)) s) → WayIsTold l n gamma flow row (op.Switch u type) s
       switch_told u type same d = record { goes_on = λ y w g. by_temp (s.temps u) refl y w g }
         where
-          by_temp : (v : Option Scalar) → s.temps u ≡ v → (y : Standing) (w : World) → if_some s (s.temps u) (switching f s) ≡ goes y w → EdgeTells l n stands flow row (op.Switch u type) s.block (record y { world = w })
+          by_temp : (v : Option Scalar) → s.temps u ≡ v → (y : Standing) (w : World) → if_some s (s.temps u) (switching f s) ≡ goes y w → EdgeTells l n gamma flow row (op.Switch u type) s.block (record y { world = w })
           by_temp None e y w g = let h : stuck_at s ≡ goes y w = ap (λ z. if_some s z (switching f s)) (sym e) ∙ g in cc
           by_temp (Some (pointer at)) e y w g = let h : stuck_at s ≡ goes y w = ap (λ z. if_some s z (switching f s)) (sym e) ∙ g in cc
           by_temp (Some (integer z la)) e y w g =
@@ -343,18 +343,18 @@ module _ {I : Type 0} {l : LatticeOf I} {n : IntegersOf I} {stands : I → ℤ �
               (λ it from fit taken. switch_off it.from u z la e (decides (op.Switch u type) same it.from from) type it.kind fit taken)
               (subst (λ y. IsDefined (if_some s y (switching f s))) e d) y w (ap (λ y. if_some s y (switching f s)) (sym e) ∙ g)
 
-      jump_told : i.operation ≡ op.Jump → IsDefined (act_step f (act op.Jump) s) → WayIsTold l n stands flow row op.Jump s
+      jump_told : i.operation ≡ op.Jump → IsDefined (act_step f (act op.Jump) s) → WayIsTold l n gamma flow row op.Jump s
       jump_told same d = record {
         goes_on = edge_tells op.Jump same (λ z. cc) lead_jump (integer (pos 0) no_labels)
             (λ number it at from fit taken def. jump_way it.from it.kind fit)
             (λ it from fit taken. jump_off it.kind fit (integer (pos 0) no_labels) taken (follow l n flow row it.from it.kind)) d;
       }
 
-      by_operation : (o : Operation) → i.operation ≡ o → IsWay o → IsDefined (act_step f (act o) s) → WayIsTold l n stands flow row o s
+      by_operation : (o : Operation) → i.operation ≡ o → IsWay o → IsDefined (act_step f (act o) s) → WayIsTold l n gamma flow row o s
       by_operation op.Jump e h d = jump_told e d
       by_operation (op.Branch u scalar) e h d = branch_told u scalar e d
       by_operation (op.Switch u type) e h d = switch_told u type e d
       by_operation o e h d = absurd h
 
-      pub way_told : IsWay i.operation → IsDefined (act_step f (act i.operation) s) → WayIsTold l n stands flow row i.operation s
+      pub way_told : IsWay i.operation → IsDefined (act_step f (act i.operation) s) → WayIsTold l n gamma flow row i.operation s
       way_told h d = by_operation i.operation refl h d

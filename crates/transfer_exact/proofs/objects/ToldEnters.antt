@@ -117,7 +117,7 @@ module _ {I : Type 0} (n : IntegersOf I) (old : Memory) (it : Instance) (names :
 
 -- ---- the state
 
-module _ {I : Type 0} {l : LatticeOf I} {n : IntegersOf I} {stands : I → ℤ → Type 0} (q : BoundLaws l n stands) (flow : Flow) (p : HasPremises flow) (objects : HasObjects flow) (plain : IsPlainProgram flow) (naming : Naming) (row : List (Cell I)) (s : Standing) (r : IsReached l n stands flow naming row s) (t : TellsState l n flow row (state_of s)) where
+module _ {I : Type 0} {l : LatticeOf I} {n : IntegersOf I} {gamma : I → ℤ → Type 0} (q : BoundLaws l n gamma) (flow : Flow) (p : HasPremises flow) (objects : HasObjects flow) (plain : IsPlainProgram flow) (naming : Naming) (row : List (Cell I)) (s : Standing) (r : IsReached l n gamma flow naming row s) (t : TellsState l n flow row (state_of s)) where
   module _ (b : ℕ) (info : BaseInfo) (at : slice_get flow.bases.items b ≡ Some info) (free : s.bases b ≡ None) (declared : info.shape.heap ≡ false) where
     abbrev memory : Memory
     memory = s.world.memory

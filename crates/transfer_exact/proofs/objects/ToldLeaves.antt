@@ -49,7 +49,7 @@ use Rattle.transfer_exact.proofs.objects.LeftRows.{small, value_left}
 clear_other : {A : Type 0} (f : ℕ → Option A) (b d : ℕ) (x : A) → clear_at f b d ≡ Some x → (d ≡ b → ⊥) × (f d ≡ Some x)
 clear_other f b d x e = grind arith
 
-module _ {I : Type 0} {l : LatticeOf I} {n : IntegersOf I} {stands : I → ℤ → Type 0} (flow : Flow) (p : HasPremises flow) (plain : IsPlainProgram flow) (naming : Naming) (row : List (Cell I)) (s : Standing) (r : IsReached l n stands flow naming row s) (t : TellsState l n flow row (state_of s)) where
+module _ {I : Type 0} {l : LatticeOf I} {n : IntegersOf I} {gamma : I → ℤ → Type 0} (flow : Flow) (p : HasPremises flow) (plain : IsPlainProgram flow) (naming : Naming) (row : List (Cell I)) (s : Standing) (r : IsReached l n gamma flow naming row s) (t : TellsState l n flow row (state_of s)) where
   module _ (b i : ℕ) (info : BaseInfo) (at : slice_get flow.bases.items b ≡ Some info) (entered : s.bases b ≡ Some i) (declared : info.shape.heap ≡ false) where
     abbrev memory : Memory
     memory = s.world.memory

@@ -45,7 +45,7 @@ met_none z most a = elim (cases_Bool (int_le (int_max z (pos 0)) (int_min z most
     past : (x y : ℤ) → int_le x y ≡ true → (y +ℤ pos 1) ≤ℤ x → ⊥
     past x y h k = grind (arith, ints)
 
-module _ {I : Type 0} {l : LatticeOf I} {n : IntegersOf I} {stands : I → ℤ → Type 0} (q : BoundLaws l n stands) where
+module _ {I : Type 0} {l : LatticeOf I} {n : IntegersOf I} {gamma : I → ℤ → Type 0} (q : BoundLaws l n gamma) where
   near_of : (x : I) (z : ℤ) → is_near (Some (z, z)) ≡ true → IsOne n x z → near_number l n x ≡ x
   near_of x z e h = rw (h, e) refl
 
@@ -77,7 +77,7 @@ module _ {I : Type 0} {l : LatticeOf I} {n : IntegersOf I} {stands : I → ℤ �
 abbrev pub touching : Bool → Bool → Bool → Violations
 touching nullref invptr strmod = record no_violations { nullref = nullref; invptr = invptr; strmod = strmod }
 
-module _ {I : Type 0} {l : LatticeOf I} {n : IntegersOf I} {stands : I → ℤ → Type 0} (q : BoundLaws l n stands) (bases : List BaseInfo) (objects : AreObjects bases) (row : List (Cell I)) (p : Pointers I) (size : ℕ) (write : Bool) where
+module _ {I : Type 0} {l : LatticeOf I} {n : IntegersOf I} {gamma : I → ℤ → Type 0} (q : BoundLaws l n gamma) (bases : List BaseInfo) (objects : AreObjects bases) (row : List (Cell I)) (p : Pointers I) (size : ℕ) (write : Bool) where
   abbrev pub done : Touched I
   done = touch l n bases row p 0 size write
 

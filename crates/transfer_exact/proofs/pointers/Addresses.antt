@@ -54,11 +54,11 @@ live_tells entered x live i offset lo hi e h = h
 live_tells entered x ended i offset lo hi e h = cc
 live_tells entered x freed i offset lo hi e h = cc
 
-module _ {I : Type 0} {l : LatticeOf I} {n : IntegersOf I} {stands : I → ℤ → Type 0} (q : BoundLaws l n stands) where
+module _ {I : Type 0} {l : LatticeOf I} {n : IntegersOf I} {gamma : I → ℤ → Type 0} (q : BoundLaws l n gamma) where
   pub one_is : (a z : ℤ) → a ≡ z → IsOne n (n.one a) z
   one_is a z e = subst (IsOne n (n.one a)) e (q.one_bounds a)
 
-  module _ (flow : Flow) (p : HasPremises flow) (naming : Naming) (row : List (Cell I)) (s : Standing) (r : IsReached l n stands flow naming row s) (t : TellsState l n flow row (state_of s)) where
+  module _ (flow : Flow) (p : HasPremises flow) (naming : Naming) (row : List (Cell I)) (s : Standing) (r : IsReached l n gamma flow naming row s) (t : TellsState l n flow row (state_of s)) where
     address_into : (b i offset : ℕ) (info : BaseInfo) → slice_get flow.bases.items b ≡ Some info → s.bases b ≡ Some i → IsIntoOne n s.bases (address_of n b offset info.size) i offset 0 info.size
     address_into b i offset info e k = record {
       base = b;

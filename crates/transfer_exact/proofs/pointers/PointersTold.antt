@@ -38,7 +38,7 @@ module _ {I : Type 0} (l : LatticeOf I) (n : IntegersOf I) (flow : Flow) (s : St
   unfolding put_pointer
   nothing_there row x e f g = rw (e, f, g) refl
 
-module _ {I : Type 0} {l : LatticeOf I} {n : IntegersOf I} {stands : I → ℤ → Type 0} (q : BoundLaws l n stands) (flow : Flow) (p : HasPremises flow) (naming : Naming) (row : List (Cell I)) (s : Standing) (r : IsReached l n stands flow naming row s) (t : TellsState l n flow row (state_of s)) (to : ℕ) (few : to < flow.temps) where
+module _ {I : Type 0} {l : LatticeOf I} {n : IntegersOf I} {gamma : I → ℤ → Type 0} (q : BoundLaws l n gamma) (flow : Flow) (p : HasPremises flow) (naming : Naming) (row : List (Cell I)) (s : Standing) (r : IsReached l n gamma flow naming row s) (t : TellsState l n flow row (state_of s)) (to : ℕ) (few : to < flow.temps) where
   -- a pointer in a temporary, in a world with the memory of the step's
   pub pointer_given : (x : Pointers I) (at : MachinePointer) (w : World) (v : Violations) (after : Option (List (Cell I))) → TellsPointer n s.bases s.world.memory x at → IsPointerIn s.world.memory at → w.memory ≡ s.world.memory → after ≡ put_pointer l flow row to x → AreViolated v w.violated → IsTold l n flow after v (giving s to (goes (pointer at) w))
   pointer_given x at w v after h within same is told =

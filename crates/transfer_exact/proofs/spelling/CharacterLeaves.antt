@@ -32,7 +32,7 @@ tag_of_character class k e =
     let f = same_Some (record { class = class; at = k }) (record { class = Char; at = 0 }) e in
     (ap (λ z. z.class) f, ap (λ z. z.at) f)
 
-module _ {I : Type 0} {l : LatticeOf I} {n : IntegersOf I} {stands : I → ℤ → Type 0} (q : BoundLaws l n stands) (flow : Flow) (state : MachineState) (i : ℕ) (leaf : Leaf) (offset : ℕ) (text : List ℕ) (small : AreBytes text) (class : leaf.class ≡ Char)
+module _ {I : Type 0} {l : LatticeOf I} {n : IntegersOf I} {gamma : I → ℤ → Type 0} (q : BoundLaws l n gamma) (flow : Flow) (state : MachineState) (i : ℕ) (leaf : Leaf) (offset : ℕ) (text : List ℕ) (small : AreBytes text) (class : leaf.class ≡ Char)
     (own : Matched state.memory i leaf.offset leaf.class 0 (number (character text (leaf.offset - offset)) no_labels)) where
   abbrev byte : ℕ
   byte = character text (leaf.offset - offset)

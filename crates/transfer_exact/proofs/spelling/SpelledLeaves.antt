@@ -52,7 +52,7 @@ some_of (suc k) h = omega arith
 not_zero : (k : ℕ) → 0 < k → not (k == 0) ≡ true
 not_zero k h = ap not (ne_eqb k 0 (λ (e : k ≡ 0). omega (arith, h, e)))
 
-module _ {I : Type 0} {l : LatticeOf I} {n : IntegersOf I} {stands : I → ℤ → Type 0} (q : BoundLaws l n stands) (flow : Flow) (p : HasPremises flow) (objects : HasObjects flow) (plain : IsPlainProgram flow) (row : List (Cell I)) (long : length row ≡ flow.width) (state : MachineState)
+module _ {I : Type 0} {l : LatticeOf I} {n : IntegersOf I} {gamma : I → ℤ → Type 0} (q : BoundLaws l n gamma) (flow : Flow) (p : HasPremises flow) (objects : HasObjects flow) (plain : IsPlainProgram flow) (row : List (Cell I)) (long : length row ≡ flow.width) (state : MachineState)
     (b i offset room : ℕ) (text : List ℕ) (info : BaseInfo) (at : slice_get flow.bases.items b ≡ Some info) (fitting : has_room offset room (Some info) ≡ true) (h : SpellsBytes flow b offset room text) (it : Instance) (there : slice_get state.memory i ≡ Some it) (known : IsInstanceOf flow.model info it) where
   abbrev old : Memory
   old = state.memory

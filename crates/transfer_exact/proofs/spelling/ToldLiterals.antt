@@ -43,7 +43,7 @@ use Rattle.transfer_exact.specs.Accesses.TypedAccesses.{HasObjects}
 use Rattle.transfer_exact.proofs.spelling.CharacterLeaves.{tag_of_character, character_leaf}
 use Rattle.transfer_exact.proofs.spelling.SpelledRows.{spelled_value}
 
-module _ {I : Type 0} {l : LatticeOf I} {n : IntegersOf I} {stands : I → ℤ → Type 0} (q : BoundLaws l n stands) (flow : Flow) (p : HasPremises flow) (objects : HasObjects flow) (plain : IsPlainProgram flow) (naming : Naming) (state : MachineState) (sane : IsMemoryOf flow.model flow.bases.items naming state.memory)
+module _ {I : Type 0} {l : LatticeOf I} {n : IntegersOf I} {gamma : I → ℤ → Type 0} (q : BoundLaws l n gamma) (flow : Flow) (p : HasPremises flow) (objects : HasObjects flow) (plain : IsPlainProgram flow) (naming : Naming) (state : MachineState) (sane : IsMemoryOf flow.model flow.bases.items naming state.memory)
     (b i : ℕ) (info : BaseInfo) (text : List ℕ) (object : IsLiteralObject flow naming state.memory b i info text) (row : List (Cell I)) (long : length row ≡ flow.width) where
   abbrev after : List (Cell I)
   after = spell l n flow.bases.items b 0 info.size text row

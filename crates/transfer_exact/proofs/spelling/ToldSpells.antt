@@ -51,7 +51,7 @@ use Rattle.transfer_exact.specs.Spelling.CopyLaws.{IsSpelled}
 use Rattle.transfer_exact.proofs.spelling.SpelledRows.{spelled_within}
 use Rattle.transfer_exact.proofs.spelling.SpelledLeaves.{written, spelled_leaves}
 
-module _ {I : Type 0} {l : LatticeOf I} {n : IntegersOf I} {stands : I → ℤ → Type 0} (q : BoundLaws l n stands) (flow : Flow) (p : HasPremises flow) (objects : HasObjects flow) (plain : IsPlainProgram flow) (naming : Naming) (row : List (Cell I)) (s : Standing) (r : IsReached l n stands flow naming row s) (t : TellsState l n flow row (state_of s)) where
+module _ {I : Type 0} {l : LatticeOf I} {n : IntegersOf I} {gamma : I → ℤ → Type 0} (q : BoundLaws l n gamma) (flow : Flow) (p : HasPremises flow) (objects : HasObjects flow) (plain : IsPlainProgram flow) (naming : Naming) (row : List (Cell I)) (s : Standing) (r : IsReached l n gamma flow naming row s) (t : TellsState l n flow row (state_of s)) where
   module _ (b i offset room : ℕ) (text : List ℕ) (info : BaseInfo) (at : slice_get flow.bases.items b ≡ Some info) (entered : s.bases b ≡ Some i) (declared : info.shape.heap ≡ false) (fitting : has_room offset room (Some info) ≡ true) (h : SpellsBytes flow b offset room text) where
     named : naming i ≡ Some b
     named = r.stands_for.lives.named b i entered

@@ -91,14 +91,14 @@ bounded_constant m rel k z other memory = elim (cases_Bool (is_unlabelled other)
 
 -- ---- numbers
 
-module _ {I : Type 0} {l : LatticeOf I} {n : IntegersOf I} {stands : I → ℤ → Type 0} (q : BoundLaws l n stands) (c : SoundLaws l n stands) (e : ExactLaws n) (rel : Rel) (k : IntType) (size : is_size k.bytes ≡ true) where
+module _ {I : Type 0} {l : LatticeOf I} {n : IntegersOf I} {gamma : I → ℤ → Type 0} (q : BoundLaws l n gamma) (c : SoundLaws l n gamma) (e : ExactLaws n) (rel : Rel) (k : IntType) (size : is_size k.bytes ≡ true) where
   own_number : (z : ℤ) → in_type k z ≡ true → wrap_into k z ≡ z
   own_number z h =
       let t = and_parts (int_le (least_of k) z) (int_le z (greatest_of k)) h in
       wrap_own k z size (le_from (least_of k) z t.0) (le_from z (greatest_of k) t.1)
 
   -- what is known of a side is its number, where the relation holds
-  pub refined_one : (x y : values.Value I) (a b : ℤ) → stands x.num a → stands y.num b → IsOne n x.num a → IsOne n y.num b → holds rel (wrap_into k a) (wrap_into k b) ≡ true → IsOne n (refined n x rel y k).num a
+  pub refined_one : (x y : values.Value I) (a b : ℤ) → gamma x.num a → gamma y.num b → IsOne n x.num a → IsOne n y.num b → holds rel (wrap_into k a) (wrap_into k b) ≡ true → IsOne n (refined n x rel y k).num a
   refined_one x y a b f g u w h = elim (cases_Bool (fits n k x.num && fits n k y.num)) [
     | inr d ↦ rw d u
     | inl d ↦ (let p = and_parts (fits n k x.num) (fits n k y.num) d in
@@ -110,7 +110,7 @@ module _ {I : Type 0} {l : LatticeOf I} {n : IntegersOf I} {stands : I → ℤ �
 
 -- ---- sides
 
-module _ {I : Type 0} {l : LatticeOf I} {n : IntegersOf I} {stands : I → ℤ → Type 0} (q : BoundLaws l n stands) (flow : Flow) (p : HasPremises flow) (naming : Naming) (temps : ℕ → Option Scalar) (entered : ℕ → Option ℕ) (names : (d j : ℕ) → entered d ≡ Some j → naming j ≡ Some d) where
+module _ {I : Type 0} {l : LatticeOf I} {n : IntegersOf I} {gamma : I → ℤ → Type 0} (q : BoundLaws l n gamma) (flow : Flow) (p : HasPremises flow) (naming : Naming) (temps : ℕ → Option Scalar) (entered : ℕ → Option ℕ) (names : (d j : ℕ) → entered d ≡ Some j → naming j ≡ Some d) where
   -- a value is the number of a side, and has its labels alone
   pub record TellsSide (memory : Memory) (v : values.Value I) (ts : TestedSide) (a : ℤ) : Type 0 where
     pub number : IsOne n v.num a
@@ -124,8 +124,8 @@ module _ {I : Type 0} {l : LatticeOf I} {n : IntegersOf I} {stands : I → ℤ �
       value_is : side_value l n flow row (side.Object b kind) ≡ value_at l n row (leaf_position t.info 0)
       value_is = ap (λ z. value_of_object l n row (position_of z)) t.is
 
-      held : (a : ℤ) → stands (side_value l n flow row (side.Object b kind)).num a → IsNumberHeld q flow p naming row long state names st b i kind t en a
-      held a h = number_held q flow p naming row long state names st b i kind t en a (subst (λ z. stands z.num a) value_is h)
+      held : (a : ℤ) → gamma (side_value l n flow row (side.Object b kind)).num a → IsNumberHeld q flow p naming row long state names st b i kind t en a
+      held a h = number_held q flow p naming row long state names st b i kind t en a (subst (λ z. gamma z.num a) value_is h)
 
       labels_all : (z : ℤ) (la : Labels) → HoldsNumber flow memory i 0 t.leaf z la → side_labels flow.model memory (object i kind) ≡ la
       unfolding byte_at
@@ -155,7 +155,7 @@ module _ {I : Type 0} {l : LatticeOf I} {n : IntegersOf I} {stands : I → ℤ �
               same_byte : (x y : Byte) → Some x ≡ Some y → x ≡ y
               same_byte x y e = cc
 
-      pub object_tells : (a : ℤ) → stands (side_value l n flow row (side.Object b kind)).num a → TellsSide memory (side_value l n flow row (side.Object b kind)) (object i kind) a
+      pub object_tells : (a : ℤ) → gamma (side_value l n flow row (side.Object b kind)).num a → TellsSide memory (side_value l n flow row (side.Object b kind)) (object i kind) a
       object_tells a h =
           let k = held a h in
           subst (λ z. TellsSide memory z (object i kind) a) (sym value_is) (record { number = k.tells.number; labels = k.tells.labels_are ∙ ap as_set (sym (labels_all a k.la k.holds)) })

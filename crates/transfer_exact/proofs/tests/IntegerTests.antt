@@ -98,7 +98,7 @@ own_exact rel k la = labels_exact rel k la la ∙ ap as_set (own_change rel k la
 one_some : {I : Type 0} (n : IntegersOf I) (x : I) (a : ℤ) → IsOne n x a → is_some (n.bounds x) ≡ true
 one_some n x a e = ap is_some e
 
-module _ {I : Type 0} {l : LatticeOf I} {n : IntegersOf I} {stands : I → ℤ → Type 0} (o : OrderLaws l) (q : BoundLaws l n stands) (c : SoundLaws l n stands) (exact : ExactLaws n) (flow : Flow) (p : HasPremises flow) (naming : Naming) (row : List (Cell I)) (s : Standing) (r : IsReached l n stands flow naming row s) (st : TellsState l n flow row (state_of s)) where
+module _ {I : Type 0} {l : LatticeOf I} {n : IntegersOf I} {gamma : I → ℤ → Type 0} (o : OrderLaws l) (q : BoundLaws l n gamma) (c : SoundLaws l n gamma) (exact : ExactLaws n) (flow : Flow) (p : HasPremises flow) (naming : Naming) (row : List (Cell I)) (s : Standing) (r : IsReached l n gamma flow naming row s) (st : TellsState l n flow row (state_of s)) where
   abbrev memory : Memory
   memory = s.world.memory
 
@@ -136,7 +136,7 @@ module _ {I : Type 0} {l : LatticeOf I} {n : IntegersOf I} {stands : I → ℤ �
   }
 
   record IsKnown (x : Side) (i : ℕ) (a : ℤ) : Type 0 where
-    has : stands (side_value l n flow row x).num a
+    has : gamma (side_value l n flow row x).num a
     one : IsOne n (side_value l n flow row x).num a
     labels : (side_value l n flow row x).labels ≡ as_set (side_labels flow.model memory (tested x i))
 
@@ -197,7 +197,7 @@ module _ {I : Type 0} {l : LatticeOf I} {n : IntegersOf I} {stands : I → ℤ �
           let first = side_turn q flow p naming s.temps s.bases names row memory ready test.left i left test.rel k (side_labels flow.model memory (tested test.right j)) w y.labels b.a x.has one in
           let same : side_value l n flow middle test.right ≡ w = first.value test.right j right apart in
           let second = side_turn q flow p naming s.temps s.bases names middle between first.ready test.right j right (mirrored test.rel) k (side_labels flow.model memory (tested test.left i)) v x.labels b.b
-          (subst (λ z. stands z.num b.b) (sym same) y.has) (subst (λ z. IsOne n (refined n z (mirrored test.rel) v k).num b.b) (sym same) two) in
+          (subst (λ z. gamma z.num b.b) (sym same) y.has) (subst (λ z. IsOne n (refined n z (mirrored test.rel) v k).num b.b) (sym same) two) in
           let memories : bounded flow.model (mirrored test.rel) k (tested test.right j) (side_labels flow.model memory (tested test.left i)) between ≡ after = ap (λ z. bounded flow.model z k (tested test.right j) (side_labels flow.model memory (tested test.left i)) between) (sym (turned_is test.rel)) in
           let rows : put_side flow test.right (refined n (side_value l n flow middle test.right) (mirrored test.rel) v k) middle ≡ behind_row = ap (λ z. put_side flow test.right (refined n z (mirrored test.rel) v k) middle) same in
           let numbers : (has_number n new_left && has_number n new_right) ≡ true = and_from (has_number n new_left) (has_number n new_right) (one_some n new_left.num b.a one) (one_some n new_right.num b.b two) in

@@ -45,7 +45,7 @@ bounded_nothing m rel k other memory = by_labels (is_unlabelled other) refl
     by_labels true e = rw e refl
     by_labels false e = rw e refl
 
-module _ {I : Type 0} {l : LatticeOf I} {n : IntegersOf I} {stands : I → ℤ → Type 0} (q : BoundLaws l n stands) (flow : Flow) (p : HasPremises flow) (naming : Naming) (temps : ℕ → Option Scalar) (entered : ℕ → Option ℕ) (names : (d j : ℕ) → entered d ≡ Some j → naming j ≡ Some d) where
+module _ {I : Type 0} {l : LatticeOf I} {n : IntegersOf I} {gamma : I → ℤ → Type 0} (q : BoundLaws l n gamma) (flow : Flow) (p : HasPremises flow) (naming : Naming) (temps : ℕ → Option Scalar) (entered : ℕ → Option ℕ) (names : (d j : ℕ) → entered d ≡ Some j → naming j ≡ Some d) where
   -- a row and memory that a side can be refined in
   pub record IsReady (row : List (Cell I)) (memory : Memory) : Type 0 where
     pub long : length row ≡ flow.width
@@ -71,8 +71,8 @@ module _ {I : Type 0} {l : LatticeOf I} {n : IntegersOf I} {stands : I → ℤ �
       pub value_is : side_value l n flow row (side.Object b kind) ≡ value_at l n row place
       value_is = ap (λ z. value_of_object l n row (position_of z)) t.is
 
-      pub held_there : (a : ℤ) → stands (side_value l n flow row (side.Object b kind)).num a → IsNumberHeld q flow p naming row y.long state names y.tells b i kind t en a
-      held_there a h = number_held q flow p naming row y.long state names y.tells b i kind t en a (subst (λ z. stands z.num a) value_is h)
+      pub held_there : (a : ℤ) → gamma (side_value l n flow row (side.Object b kind)).num a → IsNumberHeld q flow p naming row y.long state names y.tells b i kind t en a
+      held_there a h = number_held q flow p naming row y.long state names y.tells b i kind t en a (subst (λ z. gamma z.num a) value_is h)
 
       -- what a test makes of its bytes
       pub bounded_there : (rel : Rel) (k : IntType) (other : Labels) → IsRelabelling memory (bounded flow.model rel k (object i kind) other memory) i (side_change (is_unlabelled other) rel k)
@@ -104,7 +104,7 @@ module _ {I : Type 0} {l : LatticeOf I} {n : IntegersOf I} {stands : I → ℤ �
         others_stay (side.Number z) j seen ne = refl
         others_stay side.Null j seen ne = refl
 
-      object_turn : (rel : Rel) (k : IntType) (other : Labels) (w : values.Value I) → w.labels ≡ as_set other → (a : ℤ) → stands (side_value l n flow row (side.Object b kind)).num a → IsOne n (refined n (side_value l n flow row (side.Object b kind)) rel w k).num a →
+      object_turn : (rel : Rel) (k : IntType) (other : Labels) (w : values.Value I) → w.labels ≡ as_set other → (a : ℤ) → gamma (side_value l n flow row (side.Object b kind)).num a → IsOne n (refined n (side_value l n flow row (side.Object b kind)) rel w k).num a →
           IsTurn row (side.Object b kind) (put_side flow (side.Object b kind) (refined n (side_value l n flow row (side.Object b kind)) rel w k) row) (bounded flow.model rel k (object i kind) other memory)
       unfolding put_side put_at
       object_turn rel k other w labels a has one =
@@ -130,7 +130,7 @@ module _ {I : Type 0} {l : LatticeOf I} {n : IntegersOf I} {stands : I → ℤ �
 
     -- ---- any side
 
-    pub side_turn : (x : Side) (i : ℕ) → IsSeen flow entered x i → (rel : Rel) (k : IntType) (other : Labels) (w : values.Value I) → w.labels ≡ as_set other → (a : ℤ) → stands (side_value l n flow row x).num a → IsOne n (refined n (side_value l n flow row x) rel w k).num a →
+    pub side_turn : (x : Side) (i : ℕ) → IsSeen flow entered x i → (rel : Rel) (k : IntType) (other : Labels) (w : values.Value I) → w.labels ≡ as_set other → (a : ℤ) → gamma (side_value l n flow row x).num a → IsOne n (refined n (side_value l n flow row x) rel w k).num a →
         IsTurn row x (put_side flow x (refined n (side_value l n flow row x) rel w k) row) (bounded flow.model rel k (tested x i) other memory)
     unfolding put_side
     side_turn (side.Object b kind) i seen rel k other w labels a has one = object_turn b i kind seen.0 seen.1 rel k other w labels a has one

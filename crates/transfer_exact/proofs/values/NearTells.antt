@@ -19,7 +19,7 @@ use Rattle.transfer_exact.specs.Values.SingleValues.{IsNowhere, IsIntoOne, Tells
 is_near_one : (z : ℤ) → IsNearNumber z → is_near (Some (z, z)) ≡ true
 is_near_one z w = let f = w.from in let g = w.to in grind (arith, ints)
 
-module _ {I : Type 0} {l : LatticeOf I} {n : IntegersOf I} {stands : I → ℤ → Type 0} (q : BoundLaws l n stands) where
+module _ {I : Type 0} {l : LatticeOf I} {n : IntegersOf I} {gamma : I → ℤ → Type 0} (q : BoundLaws l n gamma) where
   pub near_one : (x : I) (z : ℤ) → IsNearNumber z → IsOne n x z → IsOne n (near_number l n x) z
   near_one x z w e = let t : is_near (n.bounds x) ≡ true = ap is_near e ∙ is_near_one z w in rw t e
 

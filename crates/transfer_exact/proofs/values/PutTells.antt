@@ -30,7 +30,7 @@ use Rattle.transfer_exact.specs.Values.SingleValues.{TellsScalar}
 use Rattle.transfer_exact.specs.Values.SingleRows.{TellsLeaf, TellsState}
 use Rattle.transfer_exact.proofs.values.NearTells.{near_scalar_tells}
 
-module _ {I : Type 0} {l : LatticeOf I} {n : IntegersOf I} {stands : I → ℤ → Type 0} (q : BoundLaws l n stands) (flow : Flow) (p : HasPremises flow) where
+module _ {I : Type 0} {l : LatticeOf I} {n : IntegersOf I} {gamma : I → ℤ → Type 0} (q : BoundLaws l n gamma) (flow : Flow) (p : HasPremises flow) where
   -- what a step gives, and what tells it
   pub record IsToldResult (entered : ℕ → Option ℕ) (memory : Memory) (x : values.Value I) (v : Scalar) : Type 0 where
     pub tells : TellsScalar n entered memory x v

@@ -47,7 +47,7 @@ module _ {I : Type 0} (l : LatticeOf I) (n : IntegersOf I) (flow : Flow) (after 
   pointer_told s to (integer z labels) w use_it d h = absurd (d w refl)
   pointer_told s to (pointer p) w use_it d h = h p refl d
 
-module _ {I : Type 0} {l : LatticeOf I} {n : IntegersOf I} {stands : I → ℤ → Type 0} (q : BoundLaws l n stands) (flow : Flow) (p : HasPremises flow) (naming : Naming) (row : List (Cell I)) (s : Standing) (r : IsReached l n stands flow naming row s) (t : TellsState l n flow row (state_of s)) where
+module _ {I : Type 0} {l : LatticeOf I} {n : IntegersOf I} {gamma : I → ℤ → Type 0} (q : BoundLaws l n gamma) (flow : Flow) (p : HasPremises flow) (naming : Naming) (row : List (Cell I)) (s : Standing) (r : IsReached l n gamma flow naming row s) (t : TellsState l n flow row (state_of s)) where
   -- the standing behind an instruction that gives something
   abbrev standing_behind : ℕ → Scalar → World → Standing
   standing_behind to v w = record s { at = suc s.at; temps = put_at s.temps to v; world = w }

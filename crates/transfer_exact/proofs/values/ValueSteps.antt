@@ -141,7 +141,7 @@ module _ {I : Type 0} (l : LatticeOf I) (n : IntegersOf I) (entered : ℕ → Op
   pub tells_number : (x : I) (labels : SetLabels) (z : ℤ) (la : Labels) → IsOne n x z → labels ≡ as_set la → TellsNumber n entered memory (number_value l x labels) z la
   tells_number x labels z la e f = record { number = e; labels_are = f; apart = record { bases = refl; null = refl; ended = refl }; determinate = refl }
 
-module _ {I : Type 0} {l : LatticeOf I} {n : IntegersOf I} {stands : I → ℤ → Type 0} (q : BoundLaws l n stands) (entered : ℕ → Option ℕ) (memory : Memory) where
+module _ {I : Type 0} {l : LatticeOf I} {n : IntegersOf I} {gamma : I → ℤ → Type 0} (q : BoundLaws l n gamma) (entered : ℕ → Option ℕ) (memory : Memory) where
   pub tells_truth : (b : Bool) → TellsScalar n entered memory (truth_value l n (truth_of b)) (truth b)
   tells_truth true = tells_number l n entered memory (n.one (pos 1)) set.no_labels (pos 1) no_labels (q.one_bounds (pos 1)) refl
   tells_truth false = tells_number l n entered memory (n.one (pos 0)) set.no_labels (pos 0) no_labels (q.one_bounds (pos 0)) refl
@@ -149,7 +149,7 @@ module _ {I : Type 0} {l : LatticeOf I} {n : IntegersOf I} {stands : I → ℤ �
   pub tells_pointer : (x : Pointers I) (p : MachinePointer) → TellsPointer n entered memory x p → TellsPointing n entered memory (pointer_value l x) p
   tells_pointer x p h = record { apart = q.least_bounds; points = h; determinate = refl }
 
-module _ {I : Type 0} {l : LatticeOf I} {n : IntegersOf I} {stands : I → ℤ → Type 0} (q : BoundLaws l n stands) (c : SoundLaws l n stands) (x : ExactLaws n) (entered : ℕ → Option ℕ) (memory : Memory) where
+module _ {I : Type 0} {l : LatticeOf I} {n : IntegersOf I} {gamma : I → ℤ → Type 0} (q : BoundLaws l n gamma) (c : SoundLaws l n gamma) (x : ExactLaws n) (entered : ℕ → Option ℕ) (memory : Memory) where
   -- the truth of a value that tells a scalar
   by_parts : (v : Value I) (t : Tri) (empty is_null has_ended : Bool) → n.compare Ne v.num (n.one (pos 0)) ≡ t → bases_empty v.pointer.bases ≡ empty → v.pointer.null ≡ is_null → v.pointer.ended ≡ has_ended
       → value_truth n v ≡ tri_of (can_hold t || (not empty || has_ended)) (can_fail t || is_null)
@@ -204,7 +204,7 @@ module _ {I : Type 0} (l : LatticeOf I) (n : IntegersOf I) (flow : Flow) (row : 
   unfolding put_pointer
   pointer_put entered memory x p h = rw (there entered memory x p h) refl
 
-module _ {I : Type 0} {l : LatticeOf I} {n : IntegersOf I} {stands : I → ℤ → Type 0} (q : BoundLaws l n stands) (c : SoundLaws l n stands) (ranges : RangeLaws l n) (x : ExactLaws n) (flow : Flow) (p : HasPremises flow) (naming : Naming) (row : List (Cell I)) (s : Standing) (r : IsReached l n stands flow naming row s) (t : TellsState l n flow row (state_of s)) where
+module _ {I : Type 0} {l : LatticeOf I} {n : IntegersOf I} {gamma : I → ℤ → Type 0} (q : BoundLaws l n gamma) (c : SoundLaws l n gamma) (ranges : RangeLaws l n) (x : ExactLaws n) (flow : Flow) (p : HasPremises flow) (naming : Naming) (row : List (Cell I)) (s : Standing) (r : IsReached l n gamma flow naming row s) (t : TellsState l n flow row (state_of s)) where
   abbrev Defined : Operation → Type 0
   Defined o = IsDefined (act_step (flow_view flow) (act o) s)
 

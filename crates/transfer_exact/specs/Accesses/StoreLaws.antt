@@ -36,11 +36,11 @@ abbrev pub IsCleared : Operation → Standing → Type 0
 IsCleared (op.Clear base) s = Unit {0}
 IsCleared _ s = ⊥
 
-module _ {I : Type 0} (l : LatticeOf I) (n : IntegersOf I) (stands : I → ℤ → Type 0) (flow : Flow) where
+module _ {I : Type 0} (l : LatticeOf I) (n : IntegersOf I) (gamma : I → ℤ → Type 0) (flow : Flow) where
   -- instructions that fit a plain program, on a row that stands for the state and tells it, where the step is defined
   abbrev pub AreToldAt : (Operation → Standing → Type 0) → Type 0
   AreToldAt Is = HasPremises flow → HasObjects flow → IsPlainProgram flow
-      → (naming : Naming) (row : List (Cell I)) (s : Standing) (o : Operation) → Is o s → fits_operation (names_of flow) o ≡ true → HasOperands o s.temps → IsReached l n stands flow naming row s → TellsState l n flow row (state_of s) → IsDefined (act_step (flow_view flow) (act o) s) → StepIsTold l n flow row o s
+      → (naming : Naming) (row : List (Cell I)) (s : Standing) (o : Operation) → Is o s → fits_operation (names_of flow) o ≡ true → HasOperands o s.temps → IsReached l n gamma flow naming row s → TellsState l n flow row (state_of s) → IsDefined (act_step (flow_view flow) (act o) s) → StepIsTold l n flow row o s
 
   abbrev pub LoadsAreTold : Type 0
   LoadsAreTold = AreToldAt (IsTypedLoad flow)

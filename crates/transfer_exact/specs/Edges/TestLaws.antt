@@ -8,18 +8,18 @@ use Rattle.store_sound.specs.Programs.Premises.{HasPremises}
 use Rattle.transfer_sound.specs.Tests.ScalarObjects.{IsCaseObject, IsIntegerTest, IsNullTest, IsPointerTest}
 use Rattle.transfer_exact.specs.Edges.WayLaws.{TestIsTold, CaseIsTold}
 
-module _ {I : Type 0} (l : LatticeOf I) (n : IntegersOf I) (stands : I → ℤ → Type 0) (flow : Flow) where
+module _ {I : Type 0} (l : LatticeOf I) (n : IntegersOf I) (gamma : I → ℤ → Type 0) (flow : Flow) where
   -- a test of pointers that refines nothing
   abbrev pub PointerTestsAreTold : Type 0
-  PointerTestsAreTold = (test : Test) → IsPointerTest test → TestIsTold l n stands flow (Some test)
+  PointerTestsAreTold = (test : Test) → IsPointerTest test → TestIsTold l n gamma flow (Some test)
 
   -- a test of an object that is one pointer against a null constant
   abbrev pub NullTestsAreTold : Type 0
-  NullTestsAreTold = HasPremises flow → (test : Test) → IsNullTest flow test → TestIsTold l n stands flow (Some test)
+  NullTestsAreTold = HasPremises flow → (test : Test) → IsNullTest flow test → TestIsTold l n gamma flow (Some test)
 
   -- a test on integers: of two sides, or of an object with itself
   abbrev pub IntegerTestsAreTold : Type 0
-  IntegerTestsAreTold = HasPremises flow → (test : Test) → IsIntegerTest flow test → TestIsTold l n stands flow (Some test)
+  IntegerTestsAreTold = HasPremises flow → (test : Test) → IsIntegerTest flow test → TestIsTold l n gamma flow (Some test)
 
   abbrev pub CasesAreTold : Type 0
-  CasesAreTold = HasPremises flow → (value : ℤ) (b : ℕ) → IsCaseObject flow b → CaseIsTold l n stands flow value (Some b)
+  CasesAreTold = HasPremises flow → (value : ℤ) (b : ℕ) → IsCaseObject flow b → CaseIsTold l n gamma flow value (Some b)

@@ -52,18 +52,18 @@ IsWay (op.Branch temp scalar) = Unit {0}
 IsWay (op.Switch temp int_type) = Unit {0}
 IsWay _ = ⊥
 
-module _ {I : Type 0} (l : LatticeOf I) (n : IntegersOf I) (stands : I → ℤ → Type 0) (flow : Flow) where
+module _ {I : Type 0} (l : LatticeOf I) (n : IntegersOf I) (gamma : I → ℤ → Type 0) (flow : Flow) where
   -- ---- tests
 
   -- where a test agrees with memory, what it makes of the row tells what it makes of memory
   abbrev pub TestIsTold : Option Test → Type 0
   TestIsTold None = Unit {0}
-  TestIsTold (Some test) = (naming : Naming) (row : List (Cell I)) (s : Standing) → IsReached l n stands flow naming row s → TellsState l n flow row (state_of s) → IsDefined (testing (flow_view flow) s (Some test)) → IsTold l n flow (refine l n flow test row) no_violations (testing (flow_view flow) s (Some test))
+  TestIsTold (Some test) = (naming : Naming) (row : List (Cell I)) (s : Standing) → IsReached l n gamma flow naming row s → TellsState l n flow row (state_of s) → IsDefined (testing (flow_view flow) s (Some test)) → IsTold l n flow (refine l n flow test row) no_violations (testing (flow_view flow) s (Some test))
 
   -- where the object that is switched on has a label's value
   abbrev pub CaseIsTold : ℤ → Option ℕ → Type 0
   CaseIsTold value None = Unit {0}
-  CaseIsTold value (Some base) = (naming : Naming) (row : List (Cell I)) (s : Standing) → IsReached l n stands flow naming row s → TellsState l n flow row (state_of s) → IsDefined (matching (flow_view flow) s value (Some base)) → IsTold l n flow (refine_case l n flow base value row) no_violations (matching (flow_view flow) s value (Some base))
+  CaseIsTold value (Some base) = (naming : Naming) (row : List (Cell I)) (s : Standing) → IsReached l n gamma flow naming row s → TellsState l n flow row (state_of s) → IsDefined (matching (flow_view flow) s value (Some base)) → IsTold l n flow (refine_case l n flow base value row) no_violations (matching (flow_view flow) s value (Some base))
 
   abbrev pub KindIsTold : EdgeKind → Type 0
   KindIsTold (kind.When truth test kept) = TestIsTold test
@@ -90,4 +90,4 @@ module _ {I : Type 0} (l : LatticeOf I) (n : IntegersOf I) (stands : I → ℤ �
     pub goes_on : (t : Standing) (w : World) → act_step (flow_view flow) (act o) s ≡ goes t w → EdgeTells row o s.block (record t { world = w })
 
   abbrev pub WaysAreTold : Limits → Type 0
-  WaysAreTold limits = HasPremises flow → WaysAreApart flow → TestsAreSound l n stands flow → TestsAreTold → is_well_formed limits flow ≡ true → (naming : Naming) (row : List (Cell I)) (s : Standing) (i : Instruction) → last_instruction flow s.block ≡ Some i → IsWay i.operation → IsReached l n stands flow naming row s → TellsState l n flow row (state_of s) → IsDefined (act_step (flow_view flow) (act i.operation) s) → WayIsTold row i.operation s
+  WaysAreTold limits = HasPremises flow → WaysAreApart flow → TestsAreSound l n gamma flow → TestsAreTold → is_well_formed limits flow ≡ true → (naming : Naming) (row : List (Cell I)) (s : Standing) (i : Instruction) → last_instruction flow s.block ≡ Some i → IsWay i.operation → IsReached l n gamma flow naming row s → TellsState l n flow row (state_of s) → IsDefined (act_step (flow_view flow) (act i.operation) s) → WayIsTold row i.operation s

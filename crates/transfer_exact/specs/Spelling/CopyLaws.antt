@@ -25,12 +25,12 @@ use Rattle.transfer_exact.specs.Spelling.TypedCopies.{IsTypedCopy}
 abbrev pub IsSpelled : Flow → Operation → Standing → Type 0
 IsSpelled flow o s = SpellsCharacters flow o
 
-module _ {I : Type 0} (l : LatticeOf I) (n : IntegersOf I) (stands : I → ℤ → Type 0) (flow : Flow) where
+module _ {I : Type 0} (l : LatticeOf I) (n : IntegersOf I) (gamma : I → ℤ → Type 0) (flow : Flow) where
   abbrev pub SpellsAreTold : Type 0
-  SpellsAreTold = AreToldAt l n stands flow (IsSpelled flow)
+  SpellsAreTold = AreToldAt l n gamma flow (IsSpelled flow)
 
   abbrev pub CopiesAreTold : Type 0
-  CopiesAreTold = HasStructs flow → AreToldAt l n stands flow (IsTypedCopy flow)
+  CopiesAreTold = HasStructs flow → AreToldAt l n gamma flow (IsTypedCopy flow)
 
   -- where the entry has no parameter, the row of the entry tells the state in which a run begins
   abbrev pub StartIsTold : Type 0

@@ -64,10 +64,10 @@ abbrev pub IsPlainCall : Operation → Type 0
 IsPlainCall (op.Library to name arguments newest size) = IsPlainFunction name
 IsPlainCall _ = ⊥
 
-module _ {I : Type 0} (l : LatticeOf I) (n : IntegersOf I) (stands : I → ℤ → Type 0) (flow : Flow) where
+module _ {I : Type 0} (l : LatticeOf I) (n : IntegersOf I) (gamma : I → ℤ → Type 0) (flow : Flow) where
   -- instructions that fit the program, on a row that stands for the state and tells it, where the step is defined
   abbrev pub AreTold : (Operation → Type 0) → Type 0
-  AreTold Is = (naming : Naming) (row : List (Cell I)) (s : Standing) (o : Operation) → Is o → fits_operation (names_of flow) o ≡ true → HasOperands o s.temps → HasRight o s.temps → IsReached l n stands flow naming row s → TellsState l n flow row (state_of s) → IsDefined (act_step (flow_view flow) (act o) s) → StepIsTold l n flow row o s
+  AreTold Is = (naming : Naming) (row : List (Cell I)) (s : Standing) (o : Operation) → Is o → fits_operation (names_of flow) o ≡ true → HasOperands o s.temps → HasRight o s.temps → IsReached l n gamma flow naming row s → TellsState l n flow row (state_of s) → IsDefined (act_step (flow_view flow) (act o) s) → StepIsTold l n flow row o s
 
   abbrev pub ValueStepsAreTold : Type 0
   ValueStepsAreTold = HasPremises flow → AreTold (λ o. is_on_values o ≡ true)

@@ -42,15 +42,15 @@ use Rattle.memory_model.specs.Effects.Worlds.{World}
 use Rattle.semantics.specs.CfgMachine.FlowStates.{Standing}
 use Rattle.store_sound.specs.Concretization.FirstZeroBytes.{first_zero}
 use Rattle.store_sound.specs.Concretization.Matching.{number_in}
-use Rattle.store_sound.specs.Concretization.ValueMeaning.{Naming, StandsContent, StandsZero}
-use Rattle.store_sound.specs.Concretization.RowMeaning.{IsLiveOf, StandsLeaf, StandsFor, array_of, array_bytes}
+use Rattle.store_sound.specs.Concretization.ValueMeaning.{Naming, InGammaContent, InGammaZero}
+use Rattle.store_sound.specs.Concretization.RowMeaning.{IsLiveOf, InGammaLeaf, InGamma, array_of, array_bytes}
 use Rattle.store_sound.specs.Concretization.Coverage.{state_of}
 use Rattle.store_sound.proofs.operations.LoadSound.{instance_there}
 use Rattle.store_sound.proofs.operations.Only.{cell_put}
 use Rattle.store_sound.proofs.operations.Slices.{get_take, get_drop, get_set_other}
 use Rattle.store_sound.proofs.operations.StoreRows.{leaf_is, zero_is}
 use Rattle.store_sound.specs.Programs.Premises.{HasPremises}
-use Rattle.transfer_sound.specs.Values.SoundSteps.{IsReached, StandsBehind, StepIsSound}
+use Rattle.transfer_sound.specs.Values.SoundSteps.{IsReached, InGammaAfter, StepIsSound}
 use Rattle.transfer_sound.proofs.values.Admitted.{none_admitted, same_admitted}
 use Rattle.transfer_sound.proofs.values.NearScalars.{near_number_stands}
 use Rattle.transfer_sound.proofs.values.PartSteps.{declared_storage}
@@ -134,7 +134,7 @@ module _ {I : Type 0} (l : LatticeOf I) (n : IntegersOf I) (info : BaseInfo) whe
 
 -- ---- the object
 
-module _ {I : Type 0} {l : LatticeOf I} {n : IntegersOf I} {stands : I → ℤ → Type 0} (q : BoundLaws l n stands) (flow : Flow) (p : HasPremises flow) (naming : Naming) (row : List (Cell I)) (s : Standing) (r : IsReached l n stands flow naming row s)
+module _ {I : Type 0} {l : LatticeOf I} {n : IntegersOf I} {gamma : I → ℤ → Type 0} (q : BoundLaws l n gamma) (flow : Flow) (p : HasPremises flow) (naming : Naming) (row : List (Cell I)) (s : Standing) (r : IsReached l n gamma flow naming row s)
     (b i : ℕ) (info : BaseInfo) (at : slice_get flow.bases.items b ≡ Some info) (entered : s.bases b ≡ Some i) (declared : info.shape.heap ≡ false) (kind : info.kind ≡ Older → ⊥)
     (full : (z : ℕ) (zeros : ZeroPart) → slice_get info.shape.zeros z ≡ Some zeros → IsFull info zeros) where
   abbrev new : Memory
@@ -205,33 +205,33 @@ module _ {I : Type 0} {l : LatticeOf I} {n : IntegersOf I} {stands : I → ℤ �
 
   -- ---- what the cells stand for
 
-  leaf_whole : (leaf : Leaf) → is_pointer leaf.class ≡ false → stands (near_value l n (zero_value l n leaf.class)).num (pos 0)
+  leaf_whole : (leaf : Leaf) → is_pointer leaf.class ≡ false → gamma (near_value l n (zero_value l n leaf.class)).num (pos 0)
   leaf_whole leaf plain = rw plain (near_number_stands q (n.one (pos 0)) (pos 0) (record { from = omega (arith, ints); to = omega (arith, ints) }) (q.one_stands (pos 0)))
 
-  leaf_byte : (class : Class) → StandsContent stands naming new (near_value l n (zero_value l n class)) class nil
+  leaf_byte : (class : Class) → InGammaContent gamma naming new (near_value l n (zero_value l n class)) class nil
   leaf_byte class = elim (cases_Bool (is_pointer class)) [
     | inl e ↦ rw e (refl, λ f. refl)
     | inr e ↦ rw e (refl, λ f. absurd (true≢false (sym f)))
   ]
 
-  own_leaves : (j : ℕ) (leaf : Leaf) → slice_get info.shape.cells j ≡ Some leaf → StandsLeaf stands flow naming new b leaf (value_at l n after (leaf_position info j))
+  own_leaves : (j : ℕ) (leaf : Leaf) → slice_get info.shape.cells j ≡ Some leaf → InGammaLeaf gamma flow naming new b leaf (value_at l n after (leaf_position info j))
   unfolding byte_at
-  own_leaves j leaf e = subst (StandsLeaf stands flow naming new b leaf) (sym (leaf_nil j leaf e)) (record {
+  own_leaves j leaf e = subst (InGammaLeaf gamma flow naming new b leaf) (sym (leaf_nil j leaf e)) (record {
     whole = λ k o ns h place plain held.
         let own = own_at k h in
         let none = nil_unsigned ns (λ x y f.
         let m = held.each x y (slice_get_within ns x y f) f in
         let one : Byte = record { content = number_in y; tag = m.tag } in
         number_is_nil y (nil_at (o + x) one (subst (λ u. byte_at new u (o + x) ≡ Some one) own m.here))) in
-        subst (stands (near_value l n (zero_value l n leaf.class)).num) (sym (nil_number leaf.signed ns none)) (leaf_whole leaf plain);
+        subst (gamma (near_value l n (zero_value l n leaf.class)).num) (sym (nil_number leaf.signed ns none)) (leaf_whole leaf plain);
     byte = λ k o x content h owns y.
         let own = own_at k h in
         let one : Byte = record { content = content; tag = y.tag } in
         let z : content ≡ nil = nil_at o one (subst (λ u. byte_at new u o ≡ Some one) own y.here) in
-        subst (StandsContent stands naming new (near_value l n (zero_value l n leaf.class)) leaf.class) (sym z) (leaf_byte leaf.class);
+        subst (InGammaContent gamma naming new (near_value l n (zero_value l n leaf.class)) leaf.class) (sym z) (leaf_byte leaf.class);
   })
 
-  own_zeros : (z : ℕ) (zeros : ZeroPart) → slice_get info.shape.zeros z ≡ Some zeros → StandsZero stands naming new (zero_at l n after (zero_position info z)) (array_bytes zeros (bytes_at new i))
+  own_zeros : (z : ℕ) (zeros : ZeroPart) → slice_get info.shape.zeros z ≡ Some zeros → InGammaZero gamma naming new (zero_at l n after (zero_position info z)) (array_bytes zeros (bytes_at new i))
   unfolding zero_at
   own_zeros z zeros e =
       let c = zero_nil z (slice_get_within info.shape.zeros z zeros e) in
@@ -241,26 +241,26 @@ module _ {I : Type 0} {l : LatticeOf I} {n : IntegersOf I} {stands : I → ℤ �
       let f = nil_zero (array_bytes zeros (bytes_at new i)) (array_some zeros (bytes_at new i) g.some (omega (arith, inside, total))) (array_nil zeros.size zeros.offset (bytes_at new i) nil_bytes) in
       rw (c, f) (near_number_stands q (zero_first n).at (pos 0) (record { from = omega (arith, ints); to = omega (arith, ints) }) (q.one_stands (pos 0)))
 
-  pub cleared_stands : StandsFor l n stands flow naming after (record { memory = new; temps = s.temps; entered = s.bases })
+  pub cleared_stands : InGamma l n gamma flow naming after (record { memory = new; temps = s.temps; entered = s.bases })
   cleared_stands = object_stands flow p naming row (state_of s) r.stands_for b i info at (named q flow p naming row s r b i info at entered declared kind nil) (alive q flow p naming row s r b i info at entered declared kind nil) declared kind (is_set q flow p naming row s r b i info at entered declared kind nil).rewrite
       (rewrite_sane flow.model flow.bases.items naming (is_set q flow p naming row s r b i info at entered declared kind nil).rewrite r.stands_for.sane (λ o x e. let z = nil_at o x e in rw z (omega arith, tt)))
       after outside own_leaves own_zeros
 
-module _ {I : Type 0} {l : LatticeOf I} {n : IntegersOf I} {stands : I → ℤ → Type 0} (q : BoundLaws l n stands) (flow : Flow) (p : HasPremises flow) (limits : Limits) (good : is_well_formed limits flow ≡ true) (naming : Naming) (row : List (Cell I)) (s : Standing) (r : IsReached l n stands flow naming row s) where
-  pub clear_sound : (b : ℕ) → fits_operation (names_of flow) (op.Clear b) ≡ true → StepIsSound l n stands flow row (op.Clear b) s
+module _ {I : Type 0} {l : LatticeOf I} {n : IntegersOf I} {gamma : I → ℤ → Type 0} (q : BoundLaws l n gamma) (flow : Flow) (p : HasPremises flow) (limits : Limits) (good : is_well_formed limits flow ≡ true) (naming : Naming) (row : List (Cell I)) (s : Standing) (r : IsReached l n gamma flow naming row s) where
+  pub clear_sound : (b : ℕ) → fits_operation (names_of flow) (op.Clear b) ≡ true → StepIsSound l n gamma flow row (op.Clear b) s
   unfolding operate clear operation_violations
   clear_sound b fitted =
       let k = some_kind flow.bases.items b fitted in
       let info : BaseInfo = k.0 in
       let declared : info.shape.heap ≡ false = sym (p.shaped.each b info k.1).kind ∙ declared_storage info.kind (automatic_storage info.kind k.2) in
       let full = parts_full limits flow good b info k.1 declared in
-      if_some_good l n stands flow _ no_violations s r.begun (s.bases b) _ (λ i e. record {
+      if_some_good l n gamma flow _ no_violations s r.begun (s.bases b) _ (λ i e. record {
         goes_on = λ t u f.
             let w : World = cleared i s.world in
             let now : Standing = record s { at = suc s.at; world = w } in
             let a : now ≡ t = cc in
             let c : w ≡ u = cc in
-            let here : StandsBehind l n stands flow (Some (at_base (clear_object l n) (slice_get flow.bases.items b) row)) (record now { world = w }) = record {
+            let here : InGammaAfter l n gamma flow (Some (at_base (clear_object l n) (slice_get flow.bases.items b) row)) (record now { world = w }) = record {
               row = clear_object l n info row;
               is = ap (λ z. Some (at_base (clear_object l n) z row)) k.1;
               long = sym (ap (λ z. length (at_base (clear_object l n) z row)) k.1) ∙ (clear_length b ∙ r.long);
@@ -268,13 +268,13 @@ module _ {I : Type 0} {l : LatticeOf I} {n : IntegersOf I} {stands : I → ℤ �
               stands_for = cleared_stands q flow p naming row s r b i info k.1 e declared (automatic_declared info.kind k.2) full;
               short = still_short q flow p naming row s r b i info k.1 e declared (automatic_declared info.kind k.2) nil;
             } in
-            subst (λ z. StandsBehind l n stands flow (Some (at_base (clear_object l n) (slice_get flow.bases.items b) row)) (record z { world = u })) a (subst (λ z. StandsBehind l n stands flow (Some (at_base (clear_object l n) (slice_get flow.bases.items b) row)) (record now { world = z })) c here);
+            subst (λ z. InGammaAfter l n gamma flow (Some (at_base (clear_object l n) (slice_get flow.bases.items b) row)) (record z { world = u })) a (subst (λ z. InGammaAfter l n gamma flow (Some (at_base (clear_object l n) (slice_get flow.bases.items b) row)) (record now { world = z })) c here);
         admits = same_admitted no_violations s.world.violated [] r.begun (none_admitted no_violations);
       })
     where
       clear_length : (b : ℕ) → length (at_base (clear_object l n) (slice_get flow.bases.items b) row) ≡ length row
       clear_length b = clear_keeps l n flow.bases.items b row
 
-  pub clear_step_sound : (o : Operation) → IsClear o → fits_operation (names_of flow) o ≡ true → StepIsSound l n stands flow row o s
+  pub clear_step_sound : (o : Operation) → IsClear o → fits_operation (names_of flow) o ≡ true → StepIsSound l n gamma flow row o s
   clear_step_sound (op.Clear b) is h = clear_sound b h
   clear_step_sound o is h = absurd is

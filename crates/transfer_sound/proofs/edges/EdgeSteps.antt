@@ -40,11 +40,11 @@ use Rattle.lower_templates.specs.Views.ProgramViews.{FlowView, EdgeView, flow_vi
 use Rattle.semantics.specs.CfgMachine.FlowStates.{Standing, if_some, stuck_at}
 use Rattle.semantics.specs.CfgMachine.FlowEdges.{same_truth, is_among, is_taken, edge_taken, edges_of, testing, matching, with_put, on_way, at_block, along}
 use Rattle.semantics.specs.CfgMachine.FlowSteps.{block_of, on_edge, switching, act_step}
-use Rattle.store_sound.specs.Concretization.ValueMeaning.{Naming, StandsScalar}
+use Rattle.store_sound.specs.Concretization.ValueMeaning.{Naming, InGammaScalar}
 use Rattle.store_sound.specs.Concretization.Coverage.{state_of}
 use Rattle.store_sound.specs.Programs.Premises.{HasPremises}
 use Rattle.store_sound.proofs.programs.ShapedBases.{all_at}
-use Rattle.transfer_sound.specs.Values.SoundSteps.{IsReached, StandsBehind, IsStoodFor}
+use Rattle.transfer_sound.specs.Values.SoundSteps.{IsReached, InGammaAfter, IsStoodFor}
 use Rattle.transfer_sound.proofs.values.Admitted.{AreAdmitted, none_admitted, same_admitted}
 use Rattle.transfer_sound.proofs.values.PutTemps.{IsResult, put_stands, put_long}
 use Rattle.transfer_sound.proofs.values.Truths.{true_holds, false_fails}
@@ -99,13 +99,13 @@ other_range (Some p) z la labels h e = elim (cases_Bool (int_eq p.0 p.1)) [
       | inl f ↦ absurd (true≢false (sym (among_label z la labels (subst (λ y. has_label labels y ≡ true) k f)) ∙ e))
     ]
 
-module _ {I : Type 0} {l : LatticeOf I} {n : IntegersOf I} {stands : I → ℤ → Type 0} (q : BoundLaws l n stands) (c : SoundLaws l n stands) (flow : Flow) (p : HasPremises flow) where
+module _ {I : Type 0} {l : LatticeOf I} {n : IntegersOf I} {gamma : I → ℤ → Type 0} (q : BoundLaws l n gamma) (c : SoundLaws l n gamma) (flow : Flow) (p : HasPremises flow) where
   abbrev f : FlowView
   f = flow_view flow
 
   -- ---- a temporary that an edge puts a number into
 
-  put_behind : (kept : Option (ℕ × ℤ)) → fits_taken (names_of flow) kept ≡ true → (after : Option (List (Cell I))) (t : Standing) (w : World) → StandsBehind l n stands flow after (record t { world = w }) → StandsBehind l n stands flow (kept_behind l n flow kept after) (record (with_put kept t) { world = w })
+  put_behind : (kept : Option (ℕ × ℤ)) → fits_taken (names_of flow) kept ≡ true → (after : Option (List (Cell I))) (t : Standing) (w : World) → InGammaAfter l n gamma flow after (record t { world = w }) → InGammaAfter l n gamma flow (kept_behind l n flow kept after) (record (with_put kept t) { world = w })
   unfolding put_kept
   put_behind None fits after t w h = record { row = h.row; is = ap (kept_behind l n flow None) h.is; long = h.long; naming = h.naming; stands_for = h.stands_for; short = h.short }
   put_behind (Some k) fits after t w h =
@@ -122,36 +122,36 @@ module _ {I : Type 0} {l : LatticeOf I} {n : IntegersOf I} {stands : I → ℤ �
         short = h.short;
       }
 
-  kept_good : (kept : Option (ℕ × ℤ)) → fits_taken (names_of flow) kept ≡ true → (after : Option (List (Cell I))) (reply : Reply Standing) → IsStoodFor l n stands flow after no_violations reply → IsStoodFor l n stands flow (kept_behind l n flow kept after) no_violations (behind reply (λ t w. goes (with_put kept t) w))
+  kept_good : (kept : Option (ℕ × ℤ)) → fits_taken (names_of flow) kept ≡ true → (after : Option (List (Cell I))) (reply : Reply Standing) → IsStoodFor l n gamma flow after no_violations reply → IsStoodFor l n gamma flow (kept_behind l n flow kept after) no_violations (behind reply (λ t w. goes (with_put kept t) w))
   kept_good kept fits after (goes t w) h = record {
     goes_on = λ s u e.
         let a : with_put kept t ≡ s = cc in
         let b : w ≡ u = cc in
-        subst (λ z. StandsBehind l n stands flow (kept_behind l n flow kept after) (record z { world = u })) a
-        (subst (λ z. StandsBehind l n stands flow (kept_behind l n flow kept after) (record (with_put kept t) { world = z })) b (put_behind kept fits after t w (h.goes_on t w refl)));
+        subst (λ z. InGammaAfter l n gamma flow (kept_behind l n flow kept after) (record z { world = u })) a
+        (subst (λ z. InGammaAfter l n gamma flow (kept_behind l n flow kept after) (record (with_put kept t) { world = z })) b (put_behind kept fits after t w (h.goes_on t w refl)));
     admits = h.admits;
   }
   kept_good kept fits after (stops why w) h = record { goes_on = λ s u e. cc; admits = h.admits }
 
-  module _ (naming : Naming) (row : List (Cell I)) (s : Standing) (r : IsReached l n stands flow naming row s) where
-    here_good : IsStoodFor l n stands flow (Some row) no_violations (goes s s.world)
+  module _ (naming : Naming) (row : List (Cell I)) (s : Standing) (r : IsReached l n gamma flow naming row s) where
+    here_good : IsStoodFor l n gamma flow (Some row) no_violations (goes s s.world)
     here_good = record {
       goes_on = λ t u e.
           let a : s ≡ t = cc in
           let b : s.world ≡ u = cc in
-          let here : StandsBehind l n stands flow (Some row) (record s { world = s.world }) = record { row = row; is = refl; long = r.long; naming = naming; stands_for = r.stands_for; short = r.short } in
-          subst (λ z. StandsBehind l n stands flow (Some row) (record z { world = u })) a (subst (λ z. StandsBehind l n stands flow (Some row) (record s { world = z })) b here);
+          let here : InGammaAfter l n gamma flow (Some row) (record s { world = s.world }) = record { row = row; is = refl; long = r.long; naming = naming; stands_for = r.stands_for; short = r.short } in
+          subst (λ z. InGammaAfter l n gamma flow (Some row) (record z { world = u })) a (subst (λ z. InGammaAfter l n gamma flow (Some row) (record s { world = z })) b here);
       admits = same_admitted no_violations s.world.violated [] r.begun (none_admitted no_violations);
     }
 
     -- ---- branches
 
-    test_good : (test : Option Test) → TestIsSound l n stands flow test → IsStoodFor l n stands flow (refine_if l n flow test row) no_violations (testing f s test)
+    test_good : (test : Option Test) → TestIsSound l n gamma flow test → IsStoodFor l n gamma flow (refine_if l n flow test row) no_violations (testing f s test)
     unfolding refine_if
     test_good None h = here_good
     test_good (Some test) h = h naming row s r
 
-    truth_there : (v : Scalar) (x : Value I) (truth : Bool) → StandsScalar stands naming s.world.memory x v → same_truth truth (not (is_false v)) ≡ true → truth_can_be (value_truth n x) truth ≡ true
+    truth_there : (v : Scalar) (x : Value I) (truth : Bool) → InGammaScalar gamma naming s.world.memory x v → same_truth truth (not (is_false v)) ≡ true → truth_can_be (value_truth n x) truth ≡ true
     truth_there v x true st h = true_holds q c naming s.world.memory x v st (not-true (is_false v) h)
     truth_there v x false st h = false_fails q c naming s.world.memory x v st (twice (is_false v) h)
       where
@@ -159,7 +159,7 @@ module _ {I : Type 0} {l : LatticeOf I} {n : IntegersOf I} {stands : I → ℤ �
         twice true h = refl
         twice false h = absurd (true≢false (sym h))
 
-    branch_way : (from t : ℕ) (v : Scalar) → s.temps t ≡ Some v → deciding_temp flow from ≡ Some t → (k : EdgeKind) → FitsLead TwoWays k → KindIsSound l n stands flow k → fits_edge (names_of flow) k ≡ true → is_taken v (way k) ≡ true → IsStoodFor l n stands flow (follow l n flow row from k) no_violations (on_way f s (way k))
+    branch_way : (from t : ℕ) (v : Scalar) → s.temps t ≡ Some v → deciding_temp flow from ≡ Some t → (k : EdgeKind) → FitsLead TwoWays k → KindIsSound l n gamma flow k → fits_edge (names_of flow) k ≡ true → is_taken v (way k) ≡ true → IsStoodFor l n gamma flow (follow l n flow row from k) no_violations (on_way f s (way k))
     unfolding follow branch_edge behind_test
     branch_way from t v e d kind.Jump fit sound fits taken = absurd fit
     branch_way from t v e d (kind.When truth test kept) fit sound fits taken =
@@ -173,15 +173,15 @@ module _ {I : Type 0} {l : LatticeOf I} {n : IntegersOf I} {stands : I → ℤ �
 
     -- ---- switches
 
-    object_good : (test : CaseTest) → CaseIsSound l n stands flow test.value test.object → IsStoodFor l n stands flow (refine_object l n flow test row) no_violations (matching f s test.value test.object)
+    object_good : (test : CaseTest) → CaseIsSound l n gamma flow test.value test.object → IsStoodFor l n gamma flow (refine_object l n flow test row) no_violations (matching f s test.value test.object)
     unfolding refine_object
     object_good test h = by_object test.object h
       where
-        by_object : (o : Option ℕ) → CaseIsSound l n stands flow test.value o → IsStoodFor l n stands flow (refine_named_case l n flow o test.value row) no_violations (matching f s test.value o)
+        by_object : (o : Option ℕ) → CaseIsSound l n gamma flow test.value o → IsStoodFor l n gamma flow (refine_named_case l n flow o test.value row) no_violations (matching f s test.value o)
         by_object None h = here_good
         by_object (Some base) h = h naming row s r
 
-    switch_way : (from t : ℕ) (z : ℤ) (la : Labels) → s.temps t ≡ Some (integer z la) → deciding_temp flow from ≡ Some t → (k : EdgeKind) → FitsLead ByCases k → KindIsSound l n stands flow k → is_taken (integer z la) (way k) ≡ true → IsStoodFor l n stands flow (follow l n flow row from k) no_violations (on_way f s (way k))
+    switch_way : (from t : ℕ) (z : ℤ) (la : Labels) → s.temps t ≡ Some (integer z la) → deciding_temp flow from ≡ Some t → (k : EdgeKind) → FitsLead ByCases k → KindIsSound l n gamma flow k → is_taken (integer z la) (way k) ≡ true → IsStoodFor l n gamma flow (follow l n flow row from k) no_violations (on_way f s (way k))
     unfolding follow case_edge
     switch_way from t z la e d kind.Jump fit sound taken = absurd fit
     switch_way from t z la e d (kind.When truth test kept) fit sound taken = absurd fit
@@ -196,7 +196,7 @@ module _ {I : Type 0} {l : LatticeOf I} {n : IntegersOf I} {stands : I → ℤ �
     switch_way from t z la e d kind.NoLine fit sound taken = absurd fit
     switch_way from t z la e d kind.Line fit sound taken = absurd fit
 
-    jump_way : (from : ℕ) (k : EdgeKind) → FitsLead Once k → IsStoodFor l n stands flow (follow l n flow row from k) no_violations (on_way f s (way k))
+    jump_way : (from : ℕ) (k : EdgeKind) → FitsLead Once k → IsStoodFor l n gamma flow (follow l n flow row from k) no_violations (on_way f s (way k))
     unfolding follow
     jump_way from kind.Jump fit = here_good
     jump_way from (kind.When truth test kept) fit = absurd fit
@@ -210,17 +210,17 @@ module _ {I : Type 0} {l : LatticeOf I} {n : IntegersOf I} {stands : I → ℤ �
     module _ (limits : Limits) (good : is_well_formed limits flow ≡ true) (i : Instruction) (last : last_instruction flow s.block ≡ Some i) (o : Operation) (same : i.operation ≡ o) (off : leads o ≡ On → ⊥) (stays : operate l n flow row o ≡ Some row) where
       -- a reply behind which an edge has been passed
       record PassesEdge (reply : Reply Standing) : Type 0 where
-        goes_on : (t : Standing) (w : World) → reply ≡ goes t w → EdgeBehind l n stands flow row o s.block (record t { world = w })
+        goes_on : (t : Standing) (w : World) → reply ≡ goes t w → EdgeBehind l n gamma flow row o s.block (record t { world = w })
         admits : AreAdmitted no_violations (world_of reply).violated
 
       stop_passes : (why : _) (w : World) → w.violated ≡ [] → PassesEdge (stops why w)
       stop_passes why w e = record { goes_on = λ t u h. cc; admits = same_admitted no_violations w.violated [] e (none_admitted no_violations) }
 
-      way_passes : (v : Scalar) (e : EdgeView) (x : IsTakenEdge flow s.block v e (leads o)) → IsStoodFor l n stands flow (follow l n flow row x.it.from x.it.kind) no_violations (on_way f s (way x.it.kind)) → PassesEdge (along f s (Some e))
+      way_passes : (v : Scalar) (e : EdgeView) (x : IsTakenEdge flow s.block v e (leads o)) → IsStoodFor l n gamma flow (follow l n flow row x.it.from x.it.kind) no_violations (on_way f s (way x.it.kind)) → PassesEdge (along f s (Some e))
       unfolding edge
       way_passes v e x h = subst (λ z. PassesEdge (along f s (Some z))) x.same (by_reply (on_way f s (way x.it.kind)) h)
         where
-          by_reply : (reply : Reply Standing) → IsStoodFor l n stands flow (follow l n flow row x.it.from x.it.kind) no_violations reply → PassesEdge (behind reply (λ t w. goes (at_block x.it.to t) w))
+          by_reply : (reply : Reply Standing) → IsStoodFor l n gamma flow (follow l n flow row x.it.from x.it.kind) no_violations reply → PassesEdge (behind reply (λ t w. goes (at_block x.it.to t) w))
           by_reply (stops why w) h = record { goes_on = λ t u k. cc; admits = h.admits }
           by_reply (goes t w) h = record {
             goes_on = λ t' u k.
@@ -228,7 +228,7 @@ module _ {I : Type 0} {l : LatticeOf I} {n : IntegersOf I} {stands : I → ℤ �
                 let b : w ≡ u = cc in
                 let sb = h.goes_on t w refl in
                 let now : Standing = record (at_block x.it.to t) { world = w } in
-                let eb : EdgeBehind l n stands flow row o s.block now = record {
+                let eb : EdgeBehind l n gamma flow row o s.block now = record {
                   stays = stays;
                   number = x.number;
                   taken = x.it;
@@ -238,7 +238,7 @@ module _ {I : Type 0} {l : LatticeOf I} {n : IntegersOf I} {stands : I → ℤ �
                   starts = refl;
                   behind = record { row = sb.row; is = ap (follow_if l n flow row) x.is ∙ sb.is; long = sb.long; naming = sb.naming; stands_for = sb.stands_for; short = sb.short };
                 } in
-                subst (λ z. EdgeBehind l n stands flow row o s.block (record z { world = u })) a (subst (λ z. EdgeBehind l n stands flow row o s.block (record (at_block x.it.to t) { world = z })) b eb);
+                subst (λ z. EdgeBehind l n gamma flow row o s.block (record z { world = u })) a (subst (λ z. EdgeBehind l n gamma flow row o s.block (record (at_block x.it.to t) { world = z })) b eb);
             admits = h.admits;
           }
 
@@ -248,7 +248,7 @@ module _ {I : Type 0} {l : LatticeOf I} {n : IntegersOf I} {stands : I → ℤ �
       facts : IsBlock flow s.block holder.holder
       facts = block_facts flow limits good s.block holder.holder holder.block_is
 
-      taken_passes : (v : Scalar) → ((e : EdgeView) (x : IsTakenEdge flow s.block v e (leads o)) → IsStoodFor l n stands flow (follow l n flow row x.it.from x.it.kind) no_violations (on_way f s (way x.it.kind))) → (e : Option EdgeView) → edge_taken v (edges_of f (block_of f s.block)) ≡ e → PassesEdge (along f s e)
+      taken_passes : (v : Scalar) → ((e : EdgeView) (x : IsTakenEdge flow s.block v e (leads o)) → IsStoodFor l n gamma flow (follow l n flow row x.it.from x.it.kind) no_violations (on_way f s (way x.it.kind))) → (e : Option EdgeView) → edge_taken v (edges_of f (block_of f s.block)) ≡ e → PassesEdge (along f s e)
       taken_passes v h None k = stop_passes _ s.world r.begun
       taken_passes v h (Some e) k =
           let own : List Edge = take holder.holder.edges (drop holder.holder.first_edge flow.edges.items) in
@@ -256,7 +256,7 @@ module _ {I : Type 0} {l : LatticeOf I} {n : IntegersOf I} {stands : I → ℤ �
           let x = taken_edge flow s.block holder.holder v e (leads o) holder.block_is facts led k in
           way_passes v e x (h e x)
 
-      edge_passes : (v : Scalar) → ((e : EdgeView) (x : IsTakenEdge flow s.block v e (leads o)) → IsStoodFor l n stands flow (follow l n flow row x.it.from x.it.kind) no_violations (on_way f s (way x.it.kind))) → PassesEdge (on_edge f s v)
+      edge_passes : (v : Scalar) → ((e : EdgeView) (x : IsTakenEdge flow s.block v e (leads o)) → IsStoodFor l n gamma flow (follow l n flow row x.it.from x.it.kind) no_violations (on_way f s (way x.it.kind))) → PassesEdge (on_edge f s v)
       edge_passes v h = taken_passes v h (edge_taken v (edges_of f (block_of f s.block))) refl
 
       pub edge_fits : (number : ℕ) (e : Edge) → slice_get flow.edges.items number ≡ Some e → fits_edge (names_of flow) e.kind ≡ true
@@ -271,50 +271,50 @@ module _ {I : Type 0} {l : LatticeOf I} {n : IntegersOf I} {stands : I → ℤ �
 
     -- ---- the instructions
 
-    module _ (limits : Limits) (good : is_well_formed limits flow ≡ true) (tests : TestsAreSound l n stands flow) (i : Instruction) (last : last_instruction flow s.block ≡ Some i) where
-      branch_passes : (t : ℕ) (scalar : _) → (same : i.operation ≡ op.Branch t scalar) → EndIsSound l n stands flow row (op.Branch t scalar) s
+    module _ (limits : Limits) (good : is_well_formed limits flow ≡ true) (tests : TestsAreSound l n gamma flow) (i : Instruction) (last : last_instruction flow s.block ≡ Some i) where
+      branch_passes : (t : ℕ) (scalar : _) → (same : i.operation ≡ op.Branch t scalar) → EndIsSound l n gamma flow row (op.Branch t scalar) s
       unfolding operate operation_violations
       branch_passes t scalar same = by_temp (s.temps t) refl
         where
-          sound_by : (reply : Reply Standing) → act_step f (act (op.Branch t scalar)) s ≡ reply → PassesEdge limits good i last (op.Branch t scalar) same (λ e. cc) refl reply → EndIsSound l n stands flow row (op.Branch t scalar) s
+          sound_by : (reply : Reply Standing) → act_step f (act (op.Branch t scalar)) s ≡ reply → PassesEdge limits good i last (op.Branch t scalar) same (λ e. cc) refl reply → EndIsSound l n gamma flow row (op.Branch t scalar) s
           sound_by reply e h = record { goes_on = λ x w k. h.goes_on x w (sym e ∙ k); admits = λ rule k. h.admits rule (subst (λ z. Contains (world_of z).violated rule) e k) }
 
-          by_temp : (v : Option Scalar) → s.temps t ≡ v → EndIsSound l n stands flow row (op.Branch t scalar) s
+          by_temp : (v : Option Scalar) → s.temps t ≡ v → EndIsSound l n gamma flow row (op.Branch t scalar) s
           by_temp None e = sound_by (stuck_at s) (ap (λ z. if_some s z (on_edge f s)) e) (stop_passes limits good i last (op.Branch t scalar) same (λ e. cc) refl _ s.world r.begun)
           by_temp (Some v) e = sound_by (on_edge f s v) (ap (λ z. if_some s z (on_edge f s)) e) (edge_passes limits good i last (op.Branch t scalar) same (λ e. cc) refl v (λ view x.
               branch_way x.it.from t v e (decides limits good i last (op.Branch t scalar) same (λ e. cc) refl x.it.from x.leaves) x.it.kind x.fits (tests x.number x.it x.is) (edge_fits limits good i last (op.Branch t scalar) same (λ e. cc) refl x.number x.it x.is)
               (subst (λ z. is_taken v z.taken ≡ true) (sym x.same) x.taken)))
 
-      switch_passes : (t : ℕ) (k : _) → (same : i.operation ≡ op.Switch t k) → EndIsSound l n stands flow row (op.Switch t k) s
+      switch_passes : (t : ℕ) (k : _) → (same : i.operation ≡ op.Switch t k) → EndIsSound l n gamma flow row (op.Switch t k) s
       unfolding operate operation_violations
       switch_passes t k same = by_temp (s.temps t) refl
         where
-          sound_by : (reply : Reply Standing) → act_step f (act (op.Switch t k)) s ≡ reply → PassesEdge limits good i last (op.Switch t k) same (λ e. cc) refl reply → EndIsSound l n stands flow row (op.Switch t k) s
+          sound_by : (reply : Reply Standing) → act_step f (act (op.Switch t k)) s ≡ reply → PassesEdge limits good i last (op.Switch t k) same (λ e. cc) refl reply → EndIsSound l n gamma flow row (op.Switch t k) s
           sound_by reply e h = record { goes_on = λ x w g. h.goes_on x w (sym e ∙ g); admits = λ rule g. h.admits rule (subst (λ z. Contains (world_of z).violated rule) e g) }
 
-          by_temp : (v : Option Scalar) → s.temps t ≡ v → EndIsSound l n stands flow row (op.Switch t k) s
+          by_temp : (v : Option Scalar) → s.temps t ≡ v → EndIsSound l n gamma flow row (op.Switch t k) s
           by_temp None e = sound_by (stuck_at s) (ap (λ z. if_some s z (switching f s)) e) (stop_passes limits good i last (op.Switch t k) same (λ e. cc) refl _ s.world r.begun)
           by_temp (Some (pointer at)) e = sound_by (switching f s (pointer at)) (ap (λ z. if_some s z (switching f s)) e) (stop_passes limits good i last (op.Switch t k) same (λ e. cc) refl _ s.world r.begun)
           by_temp (Some (integer z la)) e = sound_by (switching f s (integer z la)) (ap (λ z. if_some s z (switching f s)) e) (edge_passes limits good i last (op.Switch t k) same (λ e. cc) refl (integer z la) (λ view x.
               switch_way x.it.from t z la e (decides limits good i last (op.Switch t k) same (λ e. cc) refl x.it.from x.leaves) x.it.kind x.fits (tests x.number x.it x.is)
               (subst (λ y. is_taken (integer z la) y.taken ≡ true) (sym x.same) x.taken)))
 
-      jump_passes : (same : i.operation ≡ op.Jump) → EndIsSound l n stands flow row op.Jump s
+      jump_passes : (same : i.operation ≡ op.Jump) → EndIsSound l n gamma flow row op.Jump s
       unfolding operate operation_violations
       jump_passes same =
           let h = edge_passes limits good i last op.Jump same (λ e. cc) refl (integer (pos 0) no_labels) (λ view x. jump_way x.it.from x.it.kind x.fits) in
           record { goes_on = h.goes_on; admits = h.admits }
 
-      stop_passes_all : EndIsSound l n stands flow row op.Stop s
+      stop_passes_all : EndIsSound l n gamma flow row op.Stop s
       unfolding operate operation_violations
       stop_passes_all = record { goes_on = λ x w e. cc; admits = same_admitted no_violations s.world.violated [] r.begun (none_admitted no_violations) }
 
-      by_operation : (o : Operation) → i.operation ≡ o → IsPlainEnd o → EndIsSound l n stands flow row o s
+      by_operation : (o : Operation) → i.operation ≡ o → IsPlainEnd o → EndIsSound l n gamma flow row o s
       by_operation op.Jump e h = jump_passes e
       by_operation (op.Branch t scalar) e h = branch_passes t scalar e
       by_operation (op.Switch t k) e h = switch_passes t k e
       by_operation op.Stop e h = stop_passes_all
       by_operation o e h = absurd h
 
-      pub end_sound : IsPlainEnd i.operation → EndIsSound l n stands flow row i.operation s
+      pub end_sound : IsPlainEnd i.operation → EndIsSound l n gamma flow row i.operation s
       end_sound h = by_operation i.operation refl h

@@ -45,15 +45,15 @@ use Rattle.lower_templates.specs.Views.ProgramViews.{flow_view}
 use Rattle.semantics.specs.CfgMachine.FlowActs.{enter, entering}
 use Rattle.semantics.specs.CfgMachine.FlowStates.{Standing}
 use Rattle.store_sound.specs.Concretization.Matching.{number_in}
-use Rattle.store_sound.specs.Concretization.ValueMeaning.{Naming, StandsContent, StandsScalar, StandsZero, StandsState}
+use Rattle.store_sound.specs.Concretization.ValueMeaning.{Naming, InGammaContent, InGammaScalar, InGammaZero, InGammaState}
 use Rattle.store_sound.specs.Concretization.SoundMemory.{storage_for}
-use Rattle.store_sound.specs.Concretization.RowMeaning.{IsLiveOf, StandsLeaf, StandsClass, StandsFor, array_bytes}
+use Rattle.store_sound.specs.Concretization.RowMeaning.{IsLiveOf, InGammaLeaf, InGammaClass, InGamma, array_bytes}
 use Rattle.store_sound.proofs.operations.Classes.{class_above}
 use Rattle.store_sound.proofs.operations.Slices.{get_there}
 use Rattle.store_sound.proofs.operations.StoreRows.{leaf_is, class_is, zero_is}
 use Rattle.store_sound.proofs.operations.StoreValues.{same_value, same_zero, same_state}
 use Rattle.store_sound.specs.Programs.Premises.{HasPremises}
-use Rattle.transfer_sound.specs.Values.SoundSteps.{AreShort, IsReached, StandsBehind, IsStoodFor, StepIsSound}
+use Rattle.transfer_sound.specs.Values.SoundSteps.{AreShort, IsReached, InGammaAfter, IsStoodFor, StepIsSound}
 use Rattle.transfer_sound.proofs.values.Admitted.{none_admitted, same_admitted}
 use Rattle.transfer_sound.proofs.values.NearScalars.{near_number_stands}
 use Rattle.transfer_sound.proofs.values.PartSteps.{declared_storage}
@@ -81,7 +81,7 @@ put_other f b d x h = grind arith
 live_ends : live ≡ ended → ⊥
 live_ends e = cc
 
-module _ {I : Type 0} {l : LatticeOf I} {n : IntegersOf I} {stands : I → ℤ → Type 0} (q : BoundLaws l n stands) (flow : Flow) (p : HasPremises flow) (naming : Naming) (row : List (Cell I)) (s : Standing) (r : IsReached l n stands flow naming row s)
+module _ {I : Type 0} {l : LatticeOf I} {n : IntegersOf I} {gamma : I → ℤ → Type 0} (q : BoundLaws l n gamma) (flow : Flow) (p : HasPremises flow) (naming : Naming) (row : List (Cell I)) (s : Standing) (r : IsReached l n gamma flow naming row s)
     (b : ℕ) (info : BaseInfo) (at : slice_get flow.bases.items b ≡ Some info) (free : s.bases b ≡ None) (declared : info.shape.heap ≡ false) (kind : info.kind ≡ Automatic) where
   abbrev old : Memory
   old = s.world.memory
@@ -137,9 +137,9 @@ module _ {I : Type 0} {l : LatticeOf I} {n : IntegersOf I} {stands : I → ℤ �
   elsewhere : (d x : ℕ) (other : BaseInfo) → slice_get flow.bases.items d ≡ Some other → (d ≡ b → ⊥) → other.first ≤ x → x < other.first + base_values other → cell_at after x ≡ cell_at row x
   elsewhere d x other e ne from to = outside x (λ f g. elim (p.laid.laid.apart d b other info e at ne) [ inl h ↦ omega (arith, h, to, f) | inr h ↦ omega (arith, h, from, g) ])
 
-  own_leaves : (j : ℕ) (leaf : Leaf) → slice_get info.shape.cells j ≡ Some leaf → StandsLeaf stands flow too new b leaf (value_at l n after (leaf_position info j))
+  own_leaves : (j : ℕ) (leaf : Leaf) → slice_get info.shape.cells j ≡ Some leaf → InGammaLeaf gamma flow too new b leaf (value_at l n after (leaf_position info j))
   unfolding byte_at
-  own_leaves j leaf e = subst (StandsLeaf stands flow too new b leaf) (sym (blank.leaf_blank flow p b info at declared l n row r.long j (slice_get_within info.shape.cells j leaf e))) (record {
+  own_leaves j leaf e = subst (InGammaLeaf gamma flow too new b leaf) (sym (blank.leaf_blank flow p b info at declared l n row r.long j (slice_get_within info.shape.cells j leaf e))) (record {
     whole = λ k o ns h place plain held.
         let own = own_at k h in
         let size = held.size in
@@ -153,10 +153,10 @@ module _ {I : Type 0} {l : LatticeOf I} {n : IntegersOf I} {stands : I → ℤ �
         let own = own_at k h in
         let one : Byte = record { content = content; tag = y.tag } in
         let z : content ≡ indeterminate = blank_at o one (subst (λ u. byte_at new u o ≡ Some one) own y.here) in
-        subst (StandsContent stands too new (near_value l n (blank_value l)) leaf.class) (sym z) refl;
+        subst (InGammaContent gamma too new (near_value l n (blank_value l)) leaf.class) (sym z) refl;
   })
 
-  own_zeros : (z : ℕ) (part : ZeroPart) → slice_get info.shape.zeros z ≡ Some part → StandsZero stands too new (zero_at l n after (zero_position info z)) (array_bytes part (bytes_at new i))
+  own_zeros : (z : ℕ) (part : ZeroPart) → slice_get info.shape.zeros z ≡ Some part → InGammaZero gamma too new (zero_at l n after (zero_position info z)) (array_bytes part (bytes_at new i))
   unfolding zero_at
   own_zeros z part e =
       let c = blank.zero_blank flow p b info at declared l n row r.long z (slice_get_within info.shape.zeros z part e) in
@@ -171,50 +171,50 @@ module _ {I : Type 0} {l : LatticeOf I} {n : IntegersOf I} {stands : I → ℤ �
   not_heap : (d : ℕ) (other : BaseInfo) → slice_get flow.bases.items d ≡ Some other → other.shape.heap ≡ true → d ≡ b → ⊥
   not_heap d other e heap g = true≢false (sym heap ∙ (sym (ap (λ z. z.shape.heap) (same_info d other e g)) ∙ declared))
 
-  leaf_by : (d j : ℕ) (other : BaseInfo) (leaf : Leaf) → slice_get flow.bases.items d ≡ Some other → slice_get other.shape.cells j ≡ Some leaf → StandsLeaf stands flow too new d leaf (value_at l n after (leaf_position other j))
+  leaf_by : (d j : ℕ) (other : BaseInfo) (leaf : Leaf) → slice_get flow.bases.items d ≡ Some other → slice_get other.shape.cells j ≡ Some leaf → InGammaLeaf gamma flow too new d leaf (value_at l n after (leaf_position other j))
   leaf_by d j other leaf e f = elim (cases_eq d b) [
     | inl g ↦ (let same = same_info d other e g in
-        subst (λ z. StandsLeaf stands flow too new z leaf (value_at l n after (leaf_position other j))) (sym g)
-        (subst (λ z. StandsLeaf stands flow too new b leaf (value_at l n after (leaf_position z j))) same (own_leaves j leaf (ap (λ z. slice_get z.shape.cells j) same ∙ f))))
+        subst (λ z. InGammaLeaf gamma flow too new z leaf (value_at l n after (leaf_position other j))) (sym g)
+        (subst (λ z. InGammaLeaf gamma flow too new b leaf (value_at l n after (leaf_position z j))) same (own_leaves j leaf (ap (λ z. slice_get z.shape.cells j) same ∙ f))))
     | inr ne ↦ (let k = p.laid.laid.close d other e in
         let small = p.laid.laid.small in
         let within = slice_get_within other.shape.cells j leaf f in
         let x = leaf_is other j (omega (arith, k, small)) within in
-        subst (StandsLeaf stands flow too new d leaf) (sym (same_value l n row after (leaf_position other j) (elsewhere d (leaf_position other j) other e ne (omega (arith, x)) (omega (arith, x, within)))))
-        (cell_grows w t stands flow r.stands_for.sane.bytes d leaf.class leaf.signed _ _ _ ne (r.stands_for.leaves d j other leaf e f)))
+        subst (InGammaLeaf gamma flow too new d leaf) (sym (same_value l n row after (leaf_position other j) (elsewhere d (leaf_position other j) other e ne (omega (arith, x)) (omega (arith, x, within)))))
+        (cell_grows w t gamma flow r.stands_for.sane.bytes d leaf.class leaf.signed _ _ _ ne (r.stands_for.leaves d j other leaf e f)))
   ]
 
-  class_by : (d c : ℕ) (other : BaseInfo) → slice_get flow.bases.items d ≡ Some other → other.shape.heap ≡ true → c < 6 → StandsClass stands flow too new d other (class_at c) (value_at l n after (class_position other c))
+  class_by : (d c : ℕ) (other : BaseInfo) → slice_get flow.bases.items d ≡ Some other → other.shape.heap ≡ true → c < 6 → InGammaClass gamma flow too new d other (class_at c) (value_at l n after (class_position other c))
   class_by d c other e heap h =
       let ne : d ≡ b → ⊥ = λ g. not_heap d other e heap g in
       let k = p.laid.laid.close d other e in
       let small = p.laid.laid.small in
       let six : cond {A = ℕ} other.shape.heap 6 0 ≡ 6 = rw heap refl in
       let x = class_is other c (omega (arith, k, small)) (omega (arith, six, h)) in
-      subst (StandsClass stands flow too new d other (class_at c)) (sym (same_value l n row after (class_position other c) (elsewhere d (class_position other c) other e ne (omega (arith, x)) (omega (arith, x, six, h)))))
-      (cell_grows w t stands flow r.stands_for.sane.bytes d (class_at c) true _ _ _ ne (r.stands_for.classes d c other e heap h))
+      subst (InGammaClass gamma flow too new d other (class_at c)) (sym (same_value l n row after (class_position other c) (elsewhere d (class_position other c) other e ne (omega (arith, x)) (omega (arith, x, six, h)))))
+      (cell_grows w t gamma flow r.stands_for.sane.bytes d (class_at c) true _ _ _ ne (r.stands_for.classes d c other e heap h))
 
-  zero_by : (d z j : ℕ) (other : BaseInfo) (part : ZeroPart) → slice_get flow.bases.items d ≡ Some other → slice_get other.shape.zeros z ≡ Some part → IsLiveOf too new d j → StandsZero stands too new (zero_at l n after (zero_position other z)) (array_bytes part (bytes_at new j))
+  zero_by : (d z j : ℕ) (other : BaseInfo) (part : ZeroPart) → slice_get flow.bases.items d ≡ Some other → slice_get other.shape.zeros z ≡ Some part → IsLiveOf too new d j → InGammaZero gamma too new (zero_at l n after (zero_position other z)) (array_bytes part (bytes_at new j))
   zero_by d z j other part e f h = elim (cases_eq d b) [
     | inl g ↦ (let same = same_info d other e g in
         let own = own_at j (subst (λ y. IsLiveOf too new y j) g h) in
-        subst (λ y. StandsZero stands too new (zero_at l n after (zero_position other z)) (array_bytes part (bytes_at new y))) (sym own)
-        (subst (λ y. StandsZero stands too new (zero_at l n after (zero_position y z)) (array_bytes part (bytes_at new i))) same (own_zeros z part (ap (λ y. slice_get y.shape.zeros z) same ∙ f))))
+        subst (λ y. InGammaZero gamma too new (zero_at l n after (zero_position other z)) (array_bytes part (bytes_at new y))) (sym own)
+        (subst (λ y. InGammaZero gamma too new (zero_at l n after (zero_position y z)) (array_bytes part (bytes_at new i))) same (own_zeros z part (ap (λ y. slice_get y.shape.zeros z) same ∙ f))))
     | inr ne ↦ (let k = p.laid.laid.close d other e in
         let small = p.laid.laid.small in
         let within = slice_get_within other.shape.zeros z part f in
         let x = zero_is other z (omega (arith, k, small)) (omega (arith, within)) in
         let was = was_there w t d j ne h in
-        subst (λ y. StandsZero stands too new y (array_bytes part (bytes_at new j))) (sym (same_zero l n row after (zero_position other z) (elsewhere d (zero_position other z) other e ne (omega (arith, x)) (omega (arith, x, within)))))
-        (subst (λ y. StandsZero stands too new (zero_at l n row (zero_position other z)) (array_bytes part y)) (sym (bytes_stay w t j was.0)) (r.stands_for.zeros d z j other part e f was.1)))
+        subst (λ y. InGammaZero gamma too new y (array_bytes part (bytes_at new j))) (sym (same_zero l n row after (zero_position other z) (elsewhere d (zero_position other z) other e ne (omega (arith, x)) (omega (arith, x, within)))))
+        (subst (λ y. InGammaZero gamma too new (zero_at l n row (zero_position other z)) (array_bytes part y)) (sym (bytes_stay w t j was.0)) (r.stands_for.zeros d z j other part e f was.1)))
   ]
 
-  state_grows : (y : AllocState I) (life : Life) (size : ℕ) → StandsState stands naming old y life size → StandsState stands too new y life size
+  state_grows : (y : AllocState I) (life : Life) (size : ℕ) → InGammaState gamma naming old y life size → InGammaState gamma too new y life size
   state_grows y live size h = h
   state_grows y ended size h = h
   state_grows y freed size h = h
 
-  state_by : (d j : ℕ) (other : BaseInfo) → slice_get flow.bases.items d ≡ Some other → other.shape.heap ≡ true → too j ≡ Some d → StandsState stands too new (state_at l n after (state_position other)) (life_at new j) (length (bytes_at new j))
+  state_by : (d j : ℕ) (other : BaseInfo) → slice_get flow.bases.items d ≡ Some other → other.shape.heap ≡ true → too j ≡ Some d → InGammaState gamma too new (state_at l n after (state_position other)) (life_at new j) (length (bytes_at new j))
   state_by d j other e heap h =
       let ne : d ≡ b → ⊥ = λ g. not_heap d other e heap g in
       let other_one : j ≡ i → ⊥ = λ f. ne (same_Some d b (sym h ∙ (ap too f ∙ t.own))) in
@@ -222,18 +222,18 @@ module _ {I : Type 0} {l : LatticeOf I} {n : IntegersOf I} {stands : I → ℤ �
       let small = p.laid.laid.small in
       let one : cond {A = ℕ} other.shape.heap 1 0 ≡ 1 = rw heap refl in
       let x = zero_is other (length other.shape.zeros) (omega (arith, k, small)) (omega arith) in
-      subst (λ y. StandsState stands too new y (life_at new j) (length (bytes_at new j))) (sym (same_state l n row after (state_position other) (elsewhere d (state_position other) other e ne (omega (arith, x)) (omega (arith, x, one)))))
-      (subst (λ y. StandsState stands too new (state_at l n row (state_position other)) (life_at new j) (length y)) (sym (bytes_stay w t j other_one))
-      (subst (λ y. StandsState stands too new (state_at l n row (state_position other)) y (length (bytes_at old j))) (sym (life_stays w t j other_one))
+      subst (λ y. InGammaState gamma too new y (life_at new j) (length (bytes_at new j))) (sym (same_state l n row after (state_position other) (elsewhere d (state_position other) other e ne (omega (arith, x)) (omega (arith, x, one)))))
+      (subst (λ y. InGammaState gamma too new (state_at l n row (state_position other)) (life_at new j) (length y)) (sym (bytes_stay w t j other_one))
+      (subst (λ y. InGammaState gamma too new (state_at l n row (state_position other)) y (length (bytes_at old j))) (sym (life_stays w t j other_one))
       (state_grows (state_at l n row (state_position other)) (life_at old j) (length (bytes_at old j)) (r.stands_for.states d j other e heap (sym (t.others j other_one) ∙ h)))))
 
-  temp_by : (at_temp : ℕ) (scalar : Scalar) → s.temps at_temp ≡ Some scalar → StandsScalar stands too new (temp_value l n flow after at_temp) scalar
+  temp_by : (at_temp : ℕ) (scalar : Scalar) → s.temps at_temp ≡ Some scalar → InGammaScalar gamma too new (temp_value l n flow after at_temp) scalar
   temp_by x scalar e =
       let k = p.laid.laid.close b info at in
       let small = p.laid.laid.small in
       let far = p.laid.temporaries in
       let same = same_value l n row after (temp_position flow x) (outside (temp_position flow x) (λ f g. omega (arith, k, small, far, f, g))) in
-      subst (λ y. StandsScalar stands too new y scalar) (sym same) (scalar_grows w t stands (temp_value l n flow row x) scalar (r.stands_for.held.within x scalar e) (r.stands_for.temps x scalar e))
+      subst (λ y. InGammaScalar gamma too new y scalar) (sym same) (scalar_grows w t gamma (temp_value l n flow row x) scalar (r.stands_for.held.within x scalar e) (r.stands_for.temps x scalar e))
 
   -- ---- the objects that are entered
 
@@ -272,7 +272,7 @@ module _ {I : Type 0} {l : LatticeOf I} {n : IntegersOf I} {stands : I → ℤ �
     | inr ne ↦ r.stands_for.lives.objects d j base e (entered_old d j ne f) a
   ]
 
-  pub entered_stands : StandsFor l n stands flow too after (record { memory = new; temps = s.temps; entered = put_at s.bases b i })
+  pub entered_stands : InGamma l n gamma flow too after (record { memory = new; temps = s.temps; entered = put_at s.bases b i })
   entered_stands = record {
     sane = grown_sane flow.model flow.bases.items naming old r.stands_for.sane b info at kind sized none w t;
     held = record { within = λ x scalar e. scalar_in_grows w t scalar (r.stands_for.held.within x scalar e); named = λ x y e. named_grows w t y (r.stands_for.held.within x _ e) (r.stands_for.held.named x y e) };
@@ -319,7 +319,7 @@ module _ {I : Type 0} {l : LatticeOf I} {n : IntegersOf I} {stands : I → ℤ �
     | inr ne ↦ subst (λ z. pos (length z) ≤ℤ greatest_of (kind_of flow.model Pointer true)) (sym (bytes_stay w t j ne)) (r.short j)
   ]
 
-module _ {I : Type 0} {l : LatticeOf I} {n : IntegersOf I} {stands : I → ℤ → Type 0} (q : BoundLaws l n stands) (flow : Flow) (p : HasPremises flow) (naming : Naming) (row : List (Cell I)) (s : Standing) (r : IsReached l n stands flow naming row s) where
+module _ {I : Type 0} {l : LatticeOf I} {n : IntegersOf I} {gamma : I → ℤ → Type 0} (q : BoundLaws l n gamma) (flow : Flow) (p : HasPremises flow) (naming : Naming) (row : List (Cell I)) (s : Standing) (r : IsReached l n gamma flow naming row s) where
   module _ (b : ℕ) (info : BaseInfo) (at : slice_get flow.bases.items b ≡ Some info) (declared : info.shape.heap ≡ false) (kind : info.kind ≡ Automatic) where
     abbrev behind_world : World
     behind_world = entered flow.model info.shape.cells info.size s.world
@@ -330,7 +330,7 @@ module _ {I : Type 0} {l : LatticeOf I} {n : IntegersOf I} {stands : I → ℤ �
     abbrev behind_it : Option (List (Cell I))
     behind_it = Some (at_base (blank_object l n) (slice_get flow.bases.items b) row)
 
-    stands_here : s.bases b ≡ None → StandsBehind l n stands flow behind_it (record now { world = behind_world })
+    stands_here : s.bases b ≡ None → InGammaAfter l n gamma flow behind_it (record now { world = behind_world })
     unfolding forget
     stands_here free = record {
       row = blank_object l n info row;
@@ -344,23 +344,23 @@ module _ {I : Type 0} {l : LatticeOf I} {n : IntegersOf I} {stands : I → ℤ �
         forget_length : (b : ℕ) → length (at_base (blank_object l n) (slice_get flow.bases.items b) row) ≡ length row
         forget_length b = forget_keeps l n flow.bases.items b row
 
-    entering_good : (o : Option ℕ) → s.bases b ≡ o → IsStoodFor l n stands flow behind_it no_violations (entering (flow_view flow) s b o)
-    entering_good (Some i) e = clean_stop_good l n stands flow _ no_violations Stuck s.world r.begun
-    entering_good None e = subst (λ z. IsStoodFor l n stands flow behind_it no_violations (enter (flow_view flow) s b z)) (sym at) (record {
+    entering_good : (o : Option ℕ) → s.bases b ≡ o → IsStoodFor l n gamma flow behind_it no_violations (entering (flow_view flow) s b o)
+    entering_good (Some i) e = clean_stop_good l n gamma flow _ no_violations Stuck s.world r.begun
+    entering_good None e = subst (λ z. IsStoodFor l n gamma flow behind_it no_violations (enter (flow_view flow) s b z)) (sym at) (record {
       goes_on = λ t u f.
           let a : now ≡ t = cc in
           let c : behind_world ≡ u = cc in
-          subst (λ z. StandsBehind l n stands flow behind_it (record z { world = u })) a (subst (λ z. StandsBehind l n stands flow behind_it (record now { world = z })) c (stands_here e));
+          subst (λ z. InGammaAfter l n gamma flow behind_it (record z { world = u })) a (subst (λ z. InGammaAfter l n gamma flow behind_it (record now { world = z })) c (stands_here e));
       admits = same_admitted no_violations s.world.violated [] r.begun (none_admitted no_violations);
     })
 
-  pub enter_sound : (b : ℕ) → fits_operation (names_of flow) (op.Enter b) ≡ true → StepIsSound l n stands flow row (op.Enter b) s
+  pub enter_sound : (b : ℕ) → fits_operation (names_of flow) (op.Enter b) ≡ true → StepIsSound l n gamma flow row (op.Enter b) s
   unfolding operate forget operation_violations
   enter_sound b fitted =
       let k = some_kind flow.bases.items b fitted in
       let declared : k.0.shape.heap ≡ false = sym (p.shaped.each b k.0 k.1).kind ∙ declared_storage k.0.kind (automatic_storage k.0.kind k.2) in
       entering_good b k.0 k.1 declared (is_own_kind k.0.kind k.2) (s.bases b) refl
 
-  pub enter_step_sound : (o : Operation) → IsEnter o → fits_operation (names_of flow) o ≡ true → StepIsSound l n stands flow row o s
+  pub enter_step_sound : (o : Operation) → IsEnter o → fits_operation (names_of flow) o ≡ true → StepIsSound l n gamma flow row o s
   enter_step_sound (op.Enter b) is h = enter_sound b h
   enter_step_sound o is h = absurd is

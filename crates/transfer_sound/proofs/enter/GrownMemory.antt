@@ -12,8 +12,8 @@ use Rattle.memory_model.specs.Memory.Instances.{Memory, Instance, Life, live, en
 use Rattle.memory_model.specs.Memory.Scalars.{Scalar, integer, pointer}
 use Rattle.store_sound.specs.Concretization.Matching.{Matched}
 use Rattle.store_sound.specs.Concretization.SoundMemory.{IsWithin, IsPointerIn, IsScalarIn, IsNamed, IsContentIn, IsContentNamed}
-use Rattle.store_sound.specs.Concretization.ValueMeaning.{Naming, StandsInto, StandsByLife, StandsPointer, StandsScalar, StandsContent}
-use Rattle.store_sound.specs.Concretization.RowMeaning.{IsLiveOf, StandsCell}
+use Rattle.store_sound.specs.Concretization.ValueMeaning.{Naming, InGammaInto, InGammaByLife, InGammaPointer, InGammaScalar, InGammaContent}
+use Rattle.store_sound.specs.Concretization.RowMeaning.{IsLiveOf, InGammaCell}
 
 -- ---- one more
 
@@ -111,8 +111,8 @@ module _ {old new : Memory} {fresh : Instance} (w : IsGrown old new fresh) {nami
       let other : j ≡ length old → ⊥ = λ e. ne (same_Some d b (sym h.named ∙ (ap new_naming e ∙ t.own))) in
       (other, record { named = sym (t.others j other) ∙ h.named; alive = sym (life_stays j other) ∙ h.alive })
 
-  module _ {I : Type 0} (stands : I → ℤ → Type 0) where
-    into_grows : (v : Pointers I) (j offset lo hi : ℕ) → (j ≡ length old → ⊥) → StandsInto stands naming old v j offset lo hi → StandsInto stands new_naming new v j offset lo hi
+  module _ {I : Type 0} (gamma : I → ℤ → Type 0) where
+    into_grows : (v : Pointers I) (j offset lo hi : ℕ) → (j ≡ length old → ⊥) → InGammaInto gamma naming old v j offset lo hi → InGammaInto gamma new_naming new v j offset lo hi
     into_grows v j offset lo hi ne s = record {
       base = s.base;
       named = t.others j ne ∙ s.named;
@@ -123,22 +123,22 @@ module _ {old new : Memory} {fresh : Instance} (w : IsGrown old new fresh) {nami
       whole = λ e. let r = s.whole e in (r.0, r.1 ∙ sym (ap length (bytes_stay j ne)));
     }
 
-    life_grows : (v : Pointers I) (life : Life) (j offset lo hi : ℕ) → (j ≡ length old → ⊥) → StandsByLife stands naming old v life j offset lo hi → StandsByLife stands new_naming new v life j offset lo hi
+    life_grows : (v : Pointers I) (life : Life) (j offset lo hi : ℕ) → (j ≡ length old → ⊥) → InGammaByLife gamma naming old v life j offset lo hi → InGammaByLife gamma new_naming new v life j offset lo hi
     life_grows v live j offset lo hi ne s = into_grows v j offset lo hi ne s
     life_grows v ended j offset lo hi ne s = s
     life_grows v freed j offset lo hi ne s = into_grows v j offset lo hi ne s
 
-    pub pointer_grows : (v : Pointers I) (x : MachinePointer) → IsPointerIn old x → StandsPointer stands naming old v x → StandsPointer stands new_naming new v x
+    pub pointer_grows : (v : Pointers I) (x : MachinePointer) → IsPointerIn old x → InGammaPointer gamma naming old v x → InGammaPointer gamma new_naming new v x
     pointer_grows v null i s = s
     pointer_grows v (into j offset lo hi) i s =
         let ne = apart j i.made in
-        subst (λ z. StandsByLife stands new_naming new v z j offset lo hi) (sym (life_stays j ne)) (life_grows v (life_at old j) j offset lo hi ne s)
+        subst (λ z. InGammaByLife gamma new_naming new v z j offset lo hi) (sym (life_stays j ne)) (life_grows v (life_at old j) j offset lo hi ne s)
 
-    pub scalar_grows : (v : Value I) (x : Scalar) → IsScalarIn old x → StandsScalar stands naming old v x → StandsScalar stands new_naming new v x
+    pub scalar_grows : (v : Value I) (x : Scalar) → IsScalarIn old x → InGammaScalar gamma naming old v x → InGammaScalar gamma new_naming new v x
     scalar_grows v (integer n labels) i s = s
     scalar_grows v (pointer x) i s = pointer_grows v.pointer x i s
 
-    pub content_grows : (v : Value I) (class : Class) (c : Content) (tag : Option Tag) → IsContentIn old c tag → StandsContent stands naming old v class c → StandsContent stands new_naming new v class c
+    pub content_grows : (v : Value I) (class : Class) (c : Content) (tag : Option Tag) → IsContentIn old c tag → InGammaContent gamma naming old v class c → InGammaContent gamma new_naming new v class c
     content_grows v class indeterminate tag i s = s
     content_grows v class (number n labels) tag i s = s
     content_grows v class (part x k) tag i s = pointer_grows v.pointer x i.0 s
@@ -148,7 +148,7 @@ module _ {old new : Memory} {fresh : Instance} (w : IsGrown old new fresh) {nami
 
     -- a cell of another base stands for what it stood for
     pub cell_grows : (flow : Flow) → ((i offset : ℕ) (byte : Byte) → byte_at old i offset ≡ Some byte → IsContentIn old byte.content byte.tag)
-        → (d : ℕ) (class : Class) (signed : Bool) (Place Owns : ℕ → ℕ → Type 0) (v : Value I) → (d ≡ b → ⊥) → StandsCell stands flow naming old d class signed Place Owns v → StandsCell stands flow new_naming new d class signed Place Owns v
+        → (d : ℕ) (class : Class) (signed : Bool) (Place Owns : ℕ → ℕ → Type 0) (v : Value I) → (d ≡ b → ⊥) → InGammaCell gamma flow naming old d class signed Place Owns v → InGammaCell gamma flow new_naming new d class signed Place Owns v
     cell_grows flow bytes d class signed Place Owns v ne cell = record {
       whole = λ j o ns h place plain held.
           let k = was_there d j ne h in

@@ -25,11 +25,11 @@ use Rattle.semantics.specs.CfgMachine.FlowSteps.{block_of, begun, act_step, viol
 use Rattle.semantics.specs.CfgMachine.FlowStarts.{first_standing, begun_by, flow_begin}
 use Rattle.memory_model.specs.Effects.UnitStarts.{start_world}
 use Rattle.store_sound.specs.Concretization.ValueMeaning.{Naming}
-use Rattle.store_sound.specs.Concretization.RowMeaning.{StandsFor}
+use Rattle.store_sound.specs.Concretization.RowMeaning.{InGamma}
 use Rattle.store_sound.specs.Concretization.Coverage.{state_of, EachRunIsCovered}
 use Rattle.store_sound.proofs.programs.ShapedBases.{all_at}
 use Rattle.transfer_sound.specs.Values.OperandTypes.{HasOperands}
-use Rattle.transfer_sound.specs.Values.SoundSteps.{AreShort, IsReached, StandsBehind}
+use Rattle.transfer_sound.specs.Values.SoundSteps.{AreShort, IsReached, InGammaAfter}
 use Rattle.transfer_sound.specs.Induction.SoundEnds.{StepsGoOnSoundly, EndsGoOnSoundly}
 use Rattle.transfer_sound.specs.Induction.Covering.{rows_behind, row_before, Admits, Begins, Carries, HasTypedRuns, TypesOperands}
 use Rattle.transfer_sound.proofs.induction.AdmittedPairs.{cons_cases, map_admits}
@@ -51,7 +51,7 @@ one_of place (r ∷ rules) v h = elim (cons_cases (record { at = place; rule = r
   | inr k ↦ (let x = one_of place rules v k in record { rule = x.rule; among = Contains-append_right (r ∷ []) rules x.rule x.among; same = x.same })
 ]
 
-module _ {I : Type 0} (l : LatticeOf I) (n : IntegersOf I) (stands : I → ℤ → Type 0) (flow : Flow) where
+module _ {I : Type 0} (l : LatticeOf I) (n : IntegersOf I) (gamma : I → ℤ → Type 0) (flow : Flow) where
   abbrev f : FlowView
   f = flow_view flow
 
@@ -63,16 +63,16 @@ module _ {I : Type 0} (l : LatticeOf I) (n : IntegersOf I) (stands : I → ℤ �
 
   -- operands are such as their instructions suppose where a run stands for which the row there does
   abbrev OperandsAt : UnitView → List (Option (List (Cell I))) → Type 0
-  OperandsAt u rows = (draws : List ℤ) (count : ℕ) (s : Standing) (found : List Violation) → flow_steps f count (flow_begin u f draws) ≡ running s found → (naming : Naming) (row : List (Cell I)) (i : Instruction) → slice_get (instructions_of flow s.block) s.at ≡ Some i → row_before l n flow rows s.block s.at ≡ Some row → StandsFor l n stands flow naming row (state_of s) → HasOperands i.operation s.temps
+  OperandsAt u rows = (draws : List ℤ) (count : ℕ) (s : Standing) (found : List Violation) → flow_steps f count (flow_begin u f draws) ≡ running s found → (naming : Naming) (row : List (Cell I)) (i : Instruction) → slice_get (instructions_of flow s.block) s.at ≡ Some i → row_before l n flow rows s.block s.at ≡ Some row → InGamma l n gamma flow naming row (state_of s) → HasOperands i.operation s.temps
 
-  module _ (limits : Limits) (good : is_well_formed limits flow ≡ true) (steps_sound : StepsGoOnSoundly l n stands flow) (ends_sound : EndsGoOnSoundly l n stands flow limits) (u : UnitView) (rows : List (Option (List (Cell I)))) (begins : Begins l n stands flow u rows) (carries : Carries l n stands flow rows) (operands_at : OperandsAt u rows) where
+  module _ (limits : Limits) (good : is_well_formed limits flow ≡ true) (steps_sound : StepsGoOnSoundly l n gamma flow) (ends_sound : EndsGoOnSoundly l n gamma flow limits) (u : UnitView) (rows : List (Option (List (Cell I)))) (begins : Begins l n gamma flow u rows) (carries : Carries l n gamma flow rows) (operands_at : OperandsAt u rows) where
     -- what holds where a run stands
     record IsHere (s : Standing) : Type 0 where
       row : List (Cell I)
       naming : Naming
       before : row_before l n flow rows s.block s.at ≡ Some row
       long : length row ≡ flow.width
-      stands_for : StandsFor l n stands flow naming row (state_of s)
+      stands_for : InGamma l n gamma flow naming row (state_of s)
       short : AreShort flow.model s.world.memory
 
     record IsGood (r : FlowRun) : Type 0 where
@@ -81,7 +81,7 @@ module _ {I : Type 0} (l : LatticeOf I) (n : IntegersOf I) (stands : I → ℤ �
 
     -- ---- at the start of a block
 
-    at_start : (s : Standing) (b : ℕ) → s.block ≡ b → s.at ≡ 0 → StandsBehind l n stands flow (row_at rows b) s → IsHere s
+    at_start : (s : Standing) (b : ℕ) → s.block ≡ b → s.at ≡ 0 → InGammaAfter l n gamma flow (row_at rows b) s → IsHere s
     at_start s b block at h = record {
       row = h.row;
       naming = h.naming;
@@ -135,7 +135,7 @@ module _ {I : Type 0} (l : LatticeOf I) (n : IntegersOf I) (stands : I → ℤ �
       here : IsHere s
       here = run.here s found refl
 
-      reached : IsReached l n stands flow here.naming here.row (begun s)
+      reached : IsReached l n gamma flow here.naming here.row (begun s)
       reached = record { long = here.long; stands_for = here.stands_for; short = here.short; begun = refl }
 
       in_list : slice_get (instructions_of flow s.block) s.at ≡ Some it
@@ -209,19 +209,19 @@ module _ {I : Type 0} (l : LatticeOf I) (n : IntegersOf I) (stands : I → ℤ �
     steps_good draws zero = start_good draws
     steps_good draws (suc count) = step_run draws count (flow_steps f count (flow_begin u f draws)) refl (steps_good draws count)
 
-    good_covered : EachRunIsCovered l n stands flow (row_before l n flow rows) (Admits l n flow rows) u
+    good_covered : EachRunIsCovered l n gamma flow (row_before l n flow rows) (Admits l n flow rows) u
     good_covered draws count =
         let r = steps_good draws count in
         record { here = λ s found e. let h = r.here s found e in record { row = h.row; naming = h.naming; before = h.before; stands_for = h.stands_for }; all = r.all }
 
-  module _ (limits : Limits) (good : is_well_formed limits flow ≡ true) (steps_sound : StepsGoOnSoundly l n stands flow) (ends_sound : EndsGoOnSoundly l n stands flow limits) (u : UnitView) (rows : List (Option (List (Cell I)))) (begins : Begins l n stands flow u rows) (carries : Carries l n stands flow rows) where
-    pub runs_covered : HasTypedRuns flow u → EachRunIsCovered l n stands flow (row_before l n flow rows) (Admits l n flow rows) u
+  module _ (limits : Limits) (good : is_well_formed limits flow ≡ true) (steps_sound : StepsGoOnSoundly l n gamma flow) (ends_sound : EndsGoOnSoundly l n gamma flow limits) (u : UnitView) (rows : List (Option (List (Cell I)))) (begins : Begins l n gamma flow u rows) (carries : Carries l n gamma flow rows) where
+    pub runs_covered : HasTypedRuns flow u → EachRunIsCovered l n gamma flow (row_before l n flow rows) (Admits l n flow rows) u
     runs_covered typed = good_covered limits good steps_sound ends_sound u rows begins carries (λ draws count s found e naming row i h before there. typed draws count s found i e h)
 
-    pub runs_covered_by_rows : TypesOperands l n stands flow rows → EachRunIsCovered l n stands flow (row_before l n flow rows) (Admits l n flow rows) u
+    pub runs_covered_by_rows : TypesOperands l n gamma flow rows → EachRunIsCovered l n gamma flow (row_before l n flow rows) (Admits l n flow rows) u
     runs_covered_by_rows types = good_covered limits good steps_sound ends_sound u rows begins carries (λ draws count s found e naming row i h before there. types naming row s i h before there)
 
-    pub runs_typed_by_rows : TypesOperands l n stands flow rows → HasTypedRuns flow u
+    pub runs_typed_by_rows : TypesOperands l n gamma flow rows → HasTypedRuns flow u
     runs_typed_by_rows types draws count s found i e h =
         let there = (runs_covered_by_rows types draws count).here s found e in
         types there.naming there.row s i h there.before there.stands_for

@@ -24,11 +24,11 @@ use Rattle.row_bounds.proofs.Systems.{own_rise}
 use Rattle.row_bounds.specs.Edges.OwnLists.{ReachesTypes}
 use Rattle.row_bounds.proofs.edges.OwnEdges.{fit_nothing}
 use Rattle.transfer_sound.specs.Induction.Covering.{Begins, Carries}
-use Rattle.transfer_sound.specs.InvariantMaps.CarriedMaps.{EntryStands}
+use Rattle.transfer_sound.specs.InvariantMaps.CarriedMaps.{EntryInGamma}
 use Rattle.transfer_sound.proofs.invariant_maps.EdgeEnds.{IsLeftUnmixed, larger_behind, edge_there, EdgesCarry, carried_by}
 use Rattle.transfer_sound.proofs.invariant_maps.UnmixedRows.{below_unmixed}
 
-module _ {I : Type 0} {l : LatticeOf I} {n : IntegersOf I} {stands : I → ℤ → Type 0} (o : OrderLaws l) (k : RoundLaws l) (h : HeightLaws l) (b : BoundLaws l n stands) (g : MonotoneLaws l n) (f : RangeLaws l n) (ends : EndLaws l n) (flow : Flow) (list : List ℤ) (near : IsNearList l n list) (reaches : ReachesTypes list) (laid : IsLaidOut (program_bases (length flow.bases.items)) flow) where
+module _ {I : Type 0} {l : LatticeOf I} {n : IntegersOf I} {gamma : I → ℤ → Type 0} (o : OrderLaws l) (k : RoundLaws l) (h : HeightLaws l) (b : BoundLaws l n gamma) (g : MonotoneLaws l n) (f : RangeLaws l n) (ends : EndLaws l n) (flow : Flow) (list : List ℤ) (near : IsNearList l n list) (reaches : ReachesTypes list) (laid : IsLaidOut (program_bases (length flow.bases.items)) flow) where
   module _ (named : IsNamed flow) (rising : AreRising l n (program_bases (length flow.bases.items)) flow) (rows : List (Option (List (Cell I)))) (closed : IsInductive (cell_lattice l) (flow_machine l n flow list) rows) where
     top_large : (y : List (Cell I)) → is_own_row l n list flow.bases.items flow.width y ≡ true → row_leq (cell_lattice l) y (top_row n (program_bases (length flow.bases.items)) flow.bases.items flow.temps) ≡ true
     top_large y own = (own_rise o k h b g f ends flow list near laid y y own own (row_leq-refl (cell_lattice l) (cell_order o) y)).below.large
@@ -49,11 +49,11 @@ module _ {I : Type 0} {l : LatticeOf I} {n : IntegersOf I} {stands : I → ℤ �
         (subst (λ y. reached_leq (cell_lattice l) y (row_at rows (edge_at flow.edges.items number).to) ≡ true) made
         (subst (λ z. reached_leq (cell_lattice l) (step (flow_machine l n flow list) number z) (row_at rows (edge_at flow.edges.items number).to) ≡ true) (ap (λ d. row_at rows d.from) p.1 ∙ at) q))
 
-    edges_carry : EdgesCarry l n flow stands rows
+    edges_carry : EdgesCarry l n flow gamma rows
     edges_carry number e r x s there at left behind = larger_behind o b flow s x (row_at rows e.to) behind (left_below number e r x there at left) (own_unmixed (row_at rows e.to) (closed.own e.to))
 
-    pub map_carried : Carries l n stands flow rows
-    map_carried = carried_by l n flow stands rows edges_carry
+    pub map_carried : Carries l n gamma flow rows
+    map_carried = carried_by l n flow gamma rows edges_carry
 
-    pub map_begins : (u : UnitView) → EntryStands l n stands flow list u → Begins l n stands flow u rows
+    pub map_begins : (u : UnitView) → EntryInGamma l n gamma flow list u → Begins l n gamma flow u rows
     map_begins u start draws s e = larger_behind o b flow s (start_of l n flow list) (row_at rows 0) (start draws s e) closed.entry (own_unmixed (row_at rows 0) (closed.own 0))

@@ -12,14 +12,14 @@ use Rattle.cfg.specs.declared.programs.Flow.{Flow}
 use Rattle.value_domain.specs.declared.values.row_cells.Cell.{Cell}
 use Rattle.value_domain.specs.Values.Cells.{cell_lattice}
 use Rattle.store_sound.specs.Concretization.Coverage.{state_of}
-use Rattle.store_sound.specs.Concretization.RowMeaning.{StandsFor}
+use Rattle.store_sound.specs.Concretization.RowMeaning.{InGamma}
 use Rattle.semantics.specs.CfgMachine.FlowStates.{Standing}
 use Rattle.transfer_system.specs.Edges.{edge}
 use Rattle.transfer_system.specs.System.BlockPasses.{block_end, edge_behind, edge_end}
 use Rattle.transfer_system.specs.System.BlockPasses as passes
 use Rattle.transfer_system.specs.System.FlowMachines.{edge_at}
 use Rattle.row_bounds.specs.AdmittedRules as rules
-use Rattle.transfer_sound.specs.Values.SoundSteps.{StandsBehind}
+use Rattle.transfer_sound.specs.Values.SoundSteps.{InGammaAfter}
 use Rattle.transfer_sound.specs.Induction.Covering.{rows_behind, Carries}
 use Rattle.transfer_sound.specs.InvariantMaps.CarriedMaps.{AreUnmixed}
 use Rattle.transfer_sound.proofs.invariant_maps.LargerRows.{row_larger}
@@ -51,18 +51,18 @@ module _ {I : Type 0} (l : LatticeOf I) (n : IntegersOf I) (flow : Flow) where
 
   -- ---- edges
 
-  module _ (stands : I → ℤ → Type 0) (rows : List (Option (List (Cell I)))) where
+  module _ (gamma : I → ℤ → Type 0) (rows : List (Option (List (Cell I)))) where
     abbrev pub EdgesCarry : Type 0
     EdgesCarry = (number : ℕ) (e : Edge) (r x : List (Cell I)) (s : Standing) → slice_get flow.edges.items number ≡ Some e → row_at rows e.from ≡ Some r → edge_end l n flow e.from number r ≡ Some x
-        → StandsBehind l n stands flow (Some x) s → StandsBehind l n stands flow (row_at rows e.to) s
+        → InGammaAfter l n gamma flow (Some x) s → InGammaAfter l n gamma flow (row_at rows e.to) s
 
     by_row : EdgesCarry → (number : ℕ) (e : Edge) (z : Option (List (Cell I))) (row x : List (Cell I)) (s : Standing) → slice_get flow.edges.items number ≡ Some e → row_at rows e.from ≡ z → rows_behind l n flow z (take (length (rules.instructions_of flow e.from)) (rules.instructions_of flow e.from)) ≡ Some row → edge l n flow row number ≡ Some x
-        → StandsBehind l n stands flow (Some x) s → StandsBehind l n stands flow (row_at rows e.to) s
+        → InGammaAfter l n gamma flow (Some x) s → InGammaAfter l n gamma flow (row_at rows e.to) s
     unfolding edge_end
     by_row carry number e None row x s there at before along behind = let c = sym (none_behind (take (length (rules.instructions_of flow e.from)) (rules.instructions_of flow e.from))) ∙ before in absurd (cc)
     by_row carry number e (Some r) row x s there at before along behind = carry number e r x s there at (ap (edge_behind l n flow number) (sym (ended e.from r) ∙ before) ∙ along) behind
 
-    pub carried_by : EdgesCarry → Carries l n stands flow rows
+    pub carried_by : EdgesCarry → Carries l n gamma flow rows
     carried_by carry number e row s there before behind =
         by_row carry number e (row_at rows e.from) row behind.row s there refl before behind.is (record { row = behind.row; is = refl; long = behind.long; naming = behind.naming; stands_for = behind.stands_for; short = behind.short })
 
@@ -71,9 +71,9 @@ abbrev pub IsLeftUnmixed : {I : Type 0} → Option (List (Cell I)) → Type 0
 IsLeftUnmixed None = Unit {0}
 IsLeftUnmixed (Some row) = AreUnmixed row
 
-module _ {I : Type 0} {l : LatticeOf I} {n : IntegersOf I} {stands : I → ℤ → Type 0} (o : OrderLaws l) (q : BoundLaws l n stands) (flow : Flow) where
+module _ {I : Type 0} {l : LatticeOf I} {n : IntegersOf I} {gamma : I → ℤ → Type 0} (o : OrderLaws l) (q : BoundLaws l n gamma) (flow : Flow) where
   -- a larger row of which no cell is mixed stands for the state for which the row that came does
-  pub larger_behind : (s : Standing) (x : List (Cell I)) (y : Option (List (Cell I))) → StandsBehind l n stands flow (Some x) s → reached_leq (cell_lattice l) (Some x) y ≡ true → IsLeftUnmixed y → StandsBehind l n stands flow y s
+  pub larger_behind : (s : Standing) (x : List (Cell I)) (y : Option (List (Cell I))) → InGammaAfter l n gamma flow (Some x) s → reached_leq (cell_lattice l) (Some x) y ≡ true → IsLeftUnmixed y → InGammaAfter l n gamma flow y s
   larger_behind s x None behind e u = absurd (cc)
   larger_behind s x (Some y) behind e u =
       let same : behind.row ≡ x = (let i = behind.is in cc) in
@@ -85,6 +85,6 @@ module _ {I : Type 0} {l : LatticeOf I} {n : IntegersOf I} {stands : I → ℤ �
         is = refl;
         long = omega (arith, long, w, v);
         naming = behind.naming;
-        stands_for = row_larger o q flow x y e u behind.naming (state_of s) (subst (λ z. StandsFor l n stands flow behind.naming z (state_of s)) same behind.stands_for);
+        stands_for = row_larger o q flow x y e u behind.naming (state_of s) (subst (λ z. InGamma l n gamma flow behind.naming z (state_of s)) same behind.stands_for);
         short = behind.short;
       }

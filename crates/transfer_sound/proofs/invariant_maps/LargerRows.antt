@@ -20,8 +20,8 @@ use Rattle.store_cells.specs.RowPositions.{cell_at, value_in, zero_in, state_in,
 use Rattle.store_monotone.proofs.operations.Rows.{at_monotone}
 use Rattle.memory_model.specs.Memory.Bytes.{MachinePointer, null, into}
 use Rattle.memory_model.specs.Memory.Instances.{Memory, Life, live, ended, freed, life_at}
-use Rattle.store_sound.specs.Concretization.ValueMeaning.{Naming, StandsInto, StandsByLife, StandsPointer}
-use Rattle.store_sound.specs.Concretization.RowMeaning.{MachineState, StandsFor}
+use Rattle.store_sound.specs.Concretization.ValueMeaning.{Naming, InGammaInto, InGammaByLife, InGammaPointer}
+use Rattle.store_sound.specs.Concretization.RowMeaning.{MachineState, InGamma}
 use Rattle.store_sound.proofs.operations.Larger.{PointerBelow, value_below}
 use Rattle.transfer_sound.specs.InvariantMaps.CarriedMaps.{IsUnmixed, AreUnmixed}
 use Rattle.transfer_sound.proofs.invariant_maps.NearBounds.{near_larger}
@@ -32,7 +32,7 @@ flag_up : (a b : Bool) → flag_leq a b ≡ true → a ≡ true → b ≡ true
 flag_up true b h e = h
 flag_up false b h e = cc
 
-module _ {I : Type 0} {l : LatticeOf I} {n : IntegersOf I} {stands : I → ℤ → Type 0} (o : OrderLaws l) (q : BoundLaws l n stands) where
+module _ {I : Type 0} {l : LatticeOf I} {n : IntegersOf I} {gamma : I → ℤ → Type 0} (o : OrderLaws l) (q : BoundLaws l n gamma) where
   -- ---- cells
 
   value_up : (c d : Cell I) → cell_leq l c d ≡ true → IsUnmixed d → (value_lattice l).leq (value_in l c) (value_in l d) ≡ true
@@ -80,7 +80,7 @@ module _ {I : Type 0} {l : LatticeOf I} {n : IntegersOf I} {stands : I → ℤ �
   -- ---- what they stand for
 
   module _ (naming : Naming) (memory : Memory) where
-    into_larger : (v w : Pointers I) (i offset lo hi : ℕ) → PointerBelow l v w → StandsInto stands naming memory (near_pointer l n v) i offset lo hi → StandsInto stands naming memory (near_pointer l n w) i offset lo hi
+    into_larger : (v w : Pointers I) (i offset lo hi : ℕ) → PointerBelow l v w → InGammaInto gamma naming memory (near_pointer l n v) i offset lo hi → InGammaInto gamma naming memory (near_pointer l n w) i offset lo hi
     into_larger v w i offset lo hi b s = record {
       base = s.base;
       named = s.named;
@@ -91,16 +91,16 @@ module _ {I : Type 0} {l : LatticeOf I} {n : IntegersOf I} {stands : I → ℤ �
       whole = λ e. s.whole (b.part e);
     }
 
-    life_larger : (v w : Pointers I) (life : Life) (i offset lo hi : ℕ) → PointerBelow l v w → StandsByLife stands naming memory (near_pointer l n v) life i offset lo hi → StandsByLife stands naming memory (near_pointer l n w) life i offset lo hi
+    life_larger : (v w : Pointers I) (life : Life) (i offset lo hi : ℕ) → PointerBelow l v w → InGammaByLife gamma naming memory (near_pointer l n v) life i offset lo hi → InGammaByLife gamma naming memory (near_pointer l n w) life i offset lo hi
     life_larger v w live i offset lo hi b s = into_larger v w i offset lo hi b s
     life_larger v w ended i offset lo hi b s = b.ended s
     life_larger v w freed i offset lo hi b s = into_larger v w i offset lo hi b s
 
-    pointer_larger : (v w : Pointers I) (p : MachinePointer) → PointerBelow l v w → StandsPointer stands naming memory (near_pointer l n v) p → StandsPointer stands naming memory (near_pointer l n w) p
+    pointer_larger : (v w : Pointers I) (p : MachinePointer) → PointerBelow l v w → InGammaPointer gamma naming memory (near_pointer l n v) p → InGammaPointer gamma naming memory (near_pointer l n w) p
     pointer_larger v w null b s = b.null s
     pointer_larger v w (into i offset lo hi) b s = life_larger v w (life_at memory i) i offset lo hi b s
 
-    value_tells : (v w : values.Value I) → (value_lattice l).leq v w ≡ true → ValueTells stands naming memory (near_value l n v) (near_value l n w)
+    value_tells : (v w : values.Value I) → (value_lattice l).leq v w ≡ true → ValueTells gamma naming memory (near_value l n v) (near_value l n w)
     value_tells v w e = let b = value_below l v w e in record {
       num = λ z h. near_larger q v.num w.num z b.num h;
       pointer = λ p inside h. pointer_larger v.pointer w.pointer p b.pointer h;
@@ -108,7 +108,7 @@ module _ {I : Type 0} {l : LatticeOf I} {n : IntegersOf I} {stands : I → ℤ �
       labels = b.labels;
     }
 
-  state_tells : (s t : AllocState I) → (state_lattice l).leq s t ≡ true → StateTells stands (near_state l n s) (near_state l n t)
+  state_tells : (s t : AllocState I) → (state_lattice l).leq s t ≡ true → StateTells gamma (near_state l n s) (near_state l n t)
   state_tells s t e =
       let a = and_parts (l.leq s.size t.size) _ e in
       let b = and_parts (flag_leq s.live t.live) _ a.1 in
@@ -117,20 +117,20 @@ module _ {I : Type 0} {l : LatticeOf I} {n : IntegersOf I} {stands : I → ℤ �
   -- ---- rows
 
   module _ (flow : Flow) (row larger : List (Cell I)) (more : row_leq (cell_lattice l) row larger ≡ true) (unmixed : AreUnmixed larger) where
-    value_more : (naming : Naming) (memory : Memory) (i : ℕ) → ValueTells stands naming memory (value_at l n row i) (value_at l n larger i)
+    value_more : (naming : Naming) (memory : Memory) (i : ℕ) → ValueTells gamma naming memory (value_at l n row i) (value_at l n larger i)
     unfolding value_at
     value_more naming memory i = value_tells naming memory (value_in l (cell_at row i)) (value_in l (cell_at larger i)) (value_up (cell_at row i) (cell_at larger i) (at_monotone l row larger i more) (unmixed_at larger i unmixed))
 
-    zero_more : (i : ℕ) (z : ℤ) → stands (zero_at l n row i).at z → stands (zero_at l n larger i).at z
+    zero_more : (i : ℕ) (z : ℤ) → gamma (zero_at l n row i).at z → gamma (zero_at l n larger i).at z
     unfolding zero_at
     zero_more i z h = near_larger q (zero_in l (cell_at row i)).at (zero_in l (cell_at larger i)).at z (zero_up (cell_at row i) (cell_at larger i) (at_monotone l row larger i more) (unmixed_at larger i unmixed)) h
 
-    state_more : (i : ℕ) → StateTells stands (state_at l n row i) (state_at l n larger i)
+    state_more : (i : ℕ) → StateTells gamma (state_at l n row i) (state_at l n larger i)
     unfolding state_at
     state_more i = state_tells (state_in l (cell_at row i)) (state_in l (cell_at larger i)) (state_up (cell_at row i) (cell_at larger i) (at_monotone l row larger i more) (unmixed_at larger i unmixed))
 
-    pub row_larger : (naming : Naming) (s : MachineState) → StandsFor l n stands flow naming row s → StandsFor l n stands flow naming larger s
-    row_larger naming s h = row_told l n stands flow naming s row larger (record {
+    pub row_larger : (naming : Naming) (s : MachineState) → InGamma l n gamma flow naming row s → InGamma l n gamma flow naming larger s
+    row_larger naming s h = row_told l n gamma flow naming s row larger (record {
       leaves = λ b j base leaf e k. value_more naming s.memory _;
       classes = λ b c base e heap small. value_more naming s.memory _;
       zeros = λ b p base part e k z m. zero_more _ z;

@@ -39,14 +39,14 @@ near_below (Some p) (Some r) z e h k = near_pair p.0 p.1 r.0 r.1 e.0 e.1 k
 no_both : (b : Bool) → b ≡ true → b ≡ false → ⊥
 no_both b t f = let e : true ≡ false = sym t ∙ f in cc
 
-module _ {I : Type 0} {l : LatticeOf I} {n : IntegersOf I} {stands : I → ℤ → Type 0} (q : BoundLaws l n stands) where
+module _ {I : Type 0} {l : LatticeOf I} {n : IntegersOf I} {gamma : I → ℤ → Type 0} (q : BoundLaws l n gamma) where
   -- no number is stood for by the least value
-  pub least_stands : (z : ℤ) → stands l.least z → ⊥
+  pub least_stands : (z : ℤ) → gamma l.least z → ⊥
   least_stands z h = let i = q.inside l.least z h in let e = sym q.least_bounds ∙ i.2 in cc
 
-  of_range_has : (r : Range) (z : ℤ) → stands (of_range l n r) z → RangeHas r z
+  of_range_has : (r : Range) (z : ℤ) → gamma (of_range l n r) z → RangeHas r z
   of_range_has None z h = absurd (least_stands z h)
-  of_range_has (Some p) z h = cond_both (int_le p.0 p.1) (n.between p.0 p.1) l.least (λ x. stands x z → RangeHas (Some p) z)
+  of_range_has (Some p) z h = cond_both (int_le p.0 p.1) (n.between p.0 p.1) l.least (λ x. gamma x z → RangeHas (Some p) z)
       (λ t k. let i = q.inside (n.between p.0 p.1) z k in by_bounds i.0 i.1 (n.bounds (n.between p.0 p.1)) (q.between_bounds p.0 p.1 (grind (arith, ints))) i.2 i.3 i.4) (λ t k. absurd (least_stands z k)) h
     where
       by_bounds : (c d : ℤ) (r : Range) → r ≡ Some (p.0, p.1) → r ≡ Some (c, d) → c ≤ℤ z → z ≤ℤ d → (p.0 ≤ℤ z) × (z ≤ℤ p.1)
@@ -57,24 +57,24 @@ module _ {I : Type 0} {l : LatticeOf I} {n : IntegersOf I} {stands : I → ℤ �
     pub has : RangeHas (n.bounds x) z
     pub near : IsNearNumber z
 
-  pub near_in : (x : I) (z : ℤ) → stands (near_number l n x) z → IsNearIn x z
+  pub near_in : (x : I) (z : ℤ) → gamma (near_number l n x) z → IsNearIn x z
   near_in x z h = elim (cases_Bool (is_near (n.bounds x))) [
-    | inl e ↦ (let k : stands x z = rw e at h in record { has = bounds_have q x z k; near = near_has q x z h })
-    | inr e ↦ (let k : stands (near_part l n x) z = rw e at h in record { has = met_from (n.bounds x) (neg_ℤ (pos (2 ^ 64))) (pos (2 ^ 64)) z (of_range_has (range_met (n.bounds x) (neg_ℤ (pos (2 ^ 64))) (pos (2 ^ 64))) z k); near = near_has q x z h })
+    | inl e ↦ (let k : gamma x z = rw e at h in record { has = bounds_have q x z k; near = near_has q x z h })
+    | inr e ↦ (let k : gamma (near_part l n x) z = rw e at h in record { has = met_from (n.bounds x) (neg_ℤ (pos (2 ^ 64))) (pos (2 ^ 64)) z (of_range_has (range_met (n.bounds x) (neg_ℤ (pos (2 ^ 64))) (pos (2 ^ 64))) z k); near = near_has q x z h })
   ]
 
   -- so does the near part of those numbers of its range that lie between two ends, where the number does
-  pub met_stands : (x : I) (a b z : ℤ) → stands (near_number l n x) z → a ≤ℤ z → z ≤ℤ b → stands (near_number l n (of_range l n (range_met (n.bounds x) a b))) z
+  pub met_stands : (x : I) (a b z : ℤ) → gamma (near_number l n x) z → a ≤ℤ z → z ≤ℤ b → gamma (near_number l n (of_range l n (range_met (n.bounds x) a b))) z
   met_stands x a b z h c d =
       let k = near_in x z h in
       near_number_stands q (of_range l n (range_met (n.bounds x) a b)) z k.near (of_range_stands q (range_met (n.bounds x) a b) z (met_has (n.bounds x) a b z k.has c d))
 
-  pub near_larger : (x y : I) (z : ℤ) → l.leq x y ≡ true → stands (near_number l n x) z → stands (near_number l n y) z
+  pub near_larger : (x y : I) (z : ℤ) → l.leq x y ≡ true → gamma (near_number l n x) z → gamma (near_number l n y) z
   near_larger x y z e h =
       let k = near_in x z h in
       let below = bounds_monotone q x y e in
       elim (cases_Bool (is_near (n.bounds x))) [
-        | inl f ↦ (let s : stands x z = rw f at h in near_number_stands q y z k.near (q.larger x y z e s))
+        | inl f ↦ (let s : gamma x z = rw f at h in near_number_stands q y z k.near (q.larger x y z e s))
         | inr f ↦ elim (cases_Bool (is_near (n.bounds y))) [
           | inl g ↦ absurd (no_both (is_near (n.bounds x)) (near_below (n.bounds x) (n.bounds y) z below k.has g) f)
           | inr g ↦ rw g (of_range_stands q _ z (met_has (n.bounds y) (neg_ℤ (pos (2 ^ 64))) (pos (2 ^ 64)) z (below_has (n.bounds x) (n.bounds y) z below k.has) k.near.from k.near.to))

@@ -40,12 +40,12 @@ use Rattle.memory_model.specs.Effects.ObjectEffects.{set_life, left}
 use Rattle.memory_model.specs.Effects.Worlds.{World}
 use Rattle.semantics.specs.CfgMachine.FlowStates.{Standing}
 use Rattle.store_sound.specs.Concretization.Matching.{Matched}
-use Rattle.store_sound.specs.Concretization.ValueMeaning.{Naming, StandsScalar, StandsZero, StandsState}
-use Rattle.store_sound.specs.Concretization.RowMeaning.{IsLiveOf, StandsCell, StandsLeaf, StandsClass, StandsFor, array_bytes}
+use Rattle.store_sound.specs.Concretization.ValueMeaning.{Naming, InGammaScalar, InGammaZero, InGammaState}
+use Rattle.store_sound.specs.Concretization.RowMeaning.{IsLiveOf, InGammaCell, InGammaLeaf, InGammaClass, InGamma, array_bytes}
 use Rattle.store_sound.proofs.operations.LoadSound.{instance_there}
 use Rattle.store_sound.proofs.operations.StoreRows.{leaf_is, class_is, zero_is}
 use Rattle.store_sound.specs.Programs.Premises.{HasPremises}
-use Rattle.transfer_sound.specs.Values.SoundSteps.{AreShort, IsReached, StandsBehind, StepIsSound}
+use Rattle.transfer_sound.specs.Values.SoundSteps.{AreShort, IsReached, InGammaAfter, StepIsSound}
 use Rattle.transfer_sound.proofs.values.Admitted.{none_admitted, same_admitted}
 use Rattle.transfer_sound.proofs.values.PartSteps.{declared_storage}
 use Rattle.transfer_sound.proofs.values.Replies.{if_some_good}
@@ -85,7 +85,7 @@ clear_other f b d x e = grind arith
 clear_keeps : {A : Type 0} (f : ℕ → Option A) (b d : ℕ) (x : A) → (d ≡ b → ⊥) → f d ≡ Some x → clear_at f b d ≡ Some x
 clear_keeps f b d x h e = grind arith
 
-module _ {I : Type 0} {l : LatticeOf I} {n : IntegersOf I} {stands : I → ℤ → Type 0} (flow : Flow) (p : HasPremises flow) (naming : Naming) (row : List (Cell I)) (s : Standing) (r : IsReached l n stands flow naming row s)
+module _ {I : Type 0} {l : LatticeOf I} {n : IntegersOf I} {gamma : I → ℤ → Type 0} (flow : Flow) (p : HasPremises flow) (naming : Naming) (row : List (Cell I)) (s : Standing) (r : IsReached l n gamma flow naming row s)
     (b i : ℕ) (info : BaseInfo) (at : slice_get flow.bases.items b ≡ Some info) (entered : s.bases b ≡ Some i) (declared : info.shape.heap ≡ false) (kind : info.kind ≡ Older → ⊥) where
   abbrev old : Memory
   old = s.world.memory
@@ -169,14 +169,14 @@ module _ {I : Type 0} {l : LatticeOf I} {n : IntegersOf I} {stands : I → ℤ �
   matched_was : (j o k : ℕ) (class : Class) (c : _) → Matched new j o class k c → Matched old j o class k c
   matched_was j o k class c m = record { tag = m.tag; here = sym (byte_was ends j o) ∙ m.here; fits = m.fits }
 
-  cell_left : (d x : ℕ) (class : Class) (signed : _) (Place Owns : ℕ → ℕ → Type 0) → cell_at after x ≡ ended_cell l b (cell_at row x) → StandsCell stands flow naming old d class signed Place Owns (value_at l n row x) → StandsCell stands flow naming new d class signed Place Owns (value_at l n after x)
+  cell_left : (d x : ℕ) (class : Class) (signed : _) (Place Owns : ℕ → ℕ → Type 0) → cell_at after x ≡ ended_cell l b (cell_at row x) → InGammaCell gamma flow naming old d class signed Place Owns (value_at l n row x) → InGammaCell gamma flow naming new d class signed Place Owns (value_at l n after x)
   unfolding value_at
-  cell_left d x class signed Place Owns e cell = subst (StandsCell stands flow naming new d class signed Place Owns) (sym (value_left x e)) (record {
+  cell_left d x class signed Place Owns e cell = subst (InGammaCell gamma flow naming new d class signed Place Owns) (sym (value_left x e)) (record {
     whole = λ j o ns h place plain held. cell.whole j o ns (other_live d j h) (subst (λ z. Place (length z) o) (ends.bytes j) place) plain (record { size = held.size; each = λ k y less f. matched_was j (o + k) k class _ (held.each k y less f) });
-    byte = λ j o k c h owns m. content_ends l n stands naming b i small named alive bases one ends (value_in l (cell_at row x)) class c (cell.byte j o k c (other_live d j h) owns (matched_was j o k class c m));
+    byte = λ j o k c h owns m. content_ends l n gamma naming b i small named alive bases one ends (value_in l (cell_at row x)) class c (cell.byte j o k c (other_live d j h) owns (matched_was j o k class c m));
   })
 
-  leaf_by : (d j : ℕ) (other : BaseInfo) (leaf : Leaf) → slice_get flow.bases.items d ≡ Some other → slice_get other.shape.cells j ≡ Some leaf → StandsLeaf stands flow naming new d leaf (value_at l n after (leaf_position other j))
+  leaf_by : (d j : ℕ) (other : BaseInfo) (leaf : Leaf) → slice_get flow.bases.items d ≡ Some other → slice_get other.shape.cells j ≡ Some leaf → InGammaLeaf gamma flow naming new d leaf (value_at l n after (leaf_position other j))
   leaf_by d j other leaf e f = elim (cases_eq d b) [
     | inl g ↦ record { whole = λ k o ns h place plain held. absurd (none_live k (subst (λ y. IsLiveOf naming new y k) g h)); byte = λ k o m c h owns x. absurd (none_live k (subst (λ y. IsLiveOf naming new y k) g h)) }
     | inr ne ↦ (let k = p.laid.laid.close d other e in
@@ -191,7 +191,7 @@ module _ {I : Type 0} {l : LatticeOf I} {n : IntegersOf I} {stands : I → ℤ �
       let same : info ≡ other = same_Some info other (sym at ∙ (sym (ap (slice_get flow.bases.items) g) ∙ e)) in
       true≢false (sym heap ∙ (sym (ap (λ z. z.shape.heap) same) ∙ declared))
 
-  class_by : (d c : ℕ) (other : BaseInfo) → slice_get flow.bases.items d ≡ Some other → other.shape.heap ≡ true → c < 6 → StandsClass stands flow naming new d other (class_at c) (value_at l n after (class_position other c))
+  class_by : (d c : ℕ) (other : BaseInfo) → slice_get flow.bases.items d ≡ Some other → other.shape.heap ≡ true → c < 6 → InGammaClass gamma flow naming new d other (class_at c) (value_at l n after (class_position other c))
   class_by d c other e heap h =
       let ne : d ≡ b → ⊥ = λ g. same_base d other e g heap in
       let k = p.laid.laid.close d other e in
@@ -200,22 +200,22 @@ module _ {I : Type 0} {l : LatticeOf I} {n : IntegersOf I} {stands : I → ℤ �
       let x = class_is other c (omega (arith, k, limit)) (omega (arith, six, h)) in
       cell_left d (class_position other c) (class_at c) true _ _ (elsewhere d (class_position other c) other e ne (omega (arith, x)) (omega (arith, x, six, h))) (r.stands_for.classes d c other e heap h)
 
-  zero_by : (d z j : ℕ) (other : BaseInfo) (part : ZeroPart) → slice_get flow.bases.items d ≡ Some other → slice_get other.shape.zeros z ≡ Some part → IsLiveOf naming new d j → StandsZero stands naming new (zero_at l n after (zero_position other z)) (array_bytes part (bytes_at new j))
+  zero_by : (d z j : ℕ) (other : BaseInfo) (part : ZeroPart) → slice_get flow.bases.items d ≡ Some other → slice_get other.shape.zeros z ≡ Some part → IsLiveOf naming new d j → InGammaZero gamma naming new (zero_at l n after (zero_position other z)) (array_bytes part (bytes_at new j))
   zero_by d z j other part e f h =
       let ne : d ≡ b → ⊥ = λ g. none_live j (subst (λ y. IsLiveOf naming new y j) g h) in
       let k = p.laid.laid.close d other e in
       let limit = p.laid.laid.small in
       let t = slice_get_within other.shape.zeros z part f in
       let x = zero_is other z (omega (arith, k, limit)) (omega (arith, t)) in
-      subst (λ y. StandsZero stands naming new y (array_bytes part (bytes_at new j))) (sym (zero_left (zero_position other z) (elsewhere d (zero_position other z) other e ne (omega (arith, x)) (omega (arith, x, t)))))
-      (subst (λ y. StandsZero stands naming new (zero_at l n row (zero_position other z)) (array_bytes part y)) (sym (ends.bytes j)) (r.stands_for.zeros d z j other part e f (other_live d j h)))
+      subst (λ y. InGammaZero gamma naming new y (array_bytes part (bytes_at new j))) (sym (zero_left (zero_position other z) (elsewhere d (zero_position other z) other e ne (omega (arith, x)) (omega (arith, x, t)))))
+      (subst (λ y. InGammaZero gamma naming new (zero_at l n row (zero_position other z)) (array_bytes part y)) (sym (ends.bytes j)) (r.stands_for.zeros d z j other part e f (other_live d j h)))
 
-  state_moves : (y : AllocState I) (life : Life) (size : ℕ) → StandsState stands naming old y life size → StandsState stands naming new y life size
+  state_moves : (y : AllocState I) (life : Life) (size : ℕ) → InGammaState gamma naming old y life size → InGammaState gamma naming new y life size
   state_moves y live size h = h
   state_moves y ended size h = h
   state_moves y freed size h = h
 
-  state_by : (d j : ℕ) (other : BaseInfo) → slice_get flow.bases.items d ≡ Some other → other.shape.heap ≡ true → naming j ≡ Some d → StandsState stands naming new (state_at l n after (state_position other)) (life_at new j) (length (bytes_at new j))
+  state_by : (d j : ℕ) (other : BaseInfo) → slice_get flow.bases.items d ≡ Some other → other.shape.heap ≡ true → naming j ≡ Some d → InGammaState gamma naming new (state_at l n after (state_position other)) (life_at new j) (length (bytes_at new j))
   state_by d j other e heap h =
       let ne : d ≡ b → ⊥ = λ g. same_base d other e g heap in
       let apart : j ≡ i → ⊥ = λ f. ne (same_Some d b (sym h ∙ (ap naming f ∙ named))) in
@@ -223,21 +223,21 @@ module _ {I : Type 0} {l : LatticeOf I} {n : IntegersOf I} {stands : I → ℤ �
       let limit = p.laid.laid.small in
       let sole : cond {A = ℕ} other.shape.heap 1 0 ≡ 1 = rw heap refl in
       let x = zero_is other (length other.shape.zeros) (omega (arith, k, limit)) (omega arith) in
-      subst (λ y. StandsState stands naming new y (life_at new j) (length (bytes_at new j))) (sym (state_left (state_position other) (elsewhere d (state_position other) other e ne (omega (arith, x)) (omega (arith, x, sole)))))
-      (subst (λ y. StandsState stands naming new (state_at l n row (state_position other)) (life_at new j) (length y)) (sym (ends.bytes j))
-      (subst (λ y. StandsState stands naming new (state_at l n row (state_position other)) y (length (bytes_at old j))) (sym (ends.others j apart))
+      subst (λ y. InGammaState gamma naming new y (life_at new j) (length (bytes_at new j))) (sym (state_left (state_position other) (elsewhere d (state_position other) other e ne (omega (arith, x)) (omega (arith, x, sole)))))
+      (subst (λ y. InGammaState gamma naming new (state_at l n row (state_position other)) (life_at new j) (length y)) (sym (ends.bytes j))
+      (subst (λ y. InGammaState gamma naming new (state_at l n row (state_position other)) y (length (bytes_at old j))) (sym (ends.others j apart))
       (state_moves (state_at l n row (state_position other)) (life_at old j) (length (bytes_at old j)) (r.stands_for.states d j other e heap h))))
 
-  temp_by : (t : ℕ) (scalar : Scalar) → s.temps t ≡ Some scalar → StandsScalar stands naming new (temp_value l n flow after t) scalar
+  temp_by : (t : ℕ) (scalar : Scalar) → s.temps t ≡ Some scalar → InGammaScalar gamma naming new (temp_value l n flow after t) scalar
   unfolding value_at
   temp_by t scalar e =
       let k = p.laid.laid.close b info at in
       let limit = p.laid.laid.small in
       let far = p.laid.temporaries in
-      subst (λ y. StandsScalar stands naming new y scalar) (sym (value_left (temp_position flow t) (outside (temp_position flow t) (λ f g. omega (arith, k, limit, far, f, g)))))
-      (scalar_ends l n stands naming b i small named alive bases one ends (value_in l (cell_at row (temp_position flow t))) scalar (r.stands_for.temps t scalar e))
+      subst (λ y. InGammaScalar gamma naming new y scalar) (sym (value_left (temp_position flow t) (outside (temp_position flow t) (λ f g. omega (arith, k, limit, far, f, g)))))
+      (scalar_ends l n gamma naming b i small named alive bases one ends (value_in l (cell_at row (temp_position flow t))) scalar (r.stands_for.temps t scalar e))
 
-  pub left_stands : StandsFor l n stands flow naming after (record { memory = new; temps = s.temps; entered = clear_at s.bases b })
+  pub left_stands : InGamma l n gamma flow naming after (record { memory = new; temps = s.temps; entered = clear_at s.bases b })
   left_stands = record {
     sane = left_sane ends flow.model flow.bases.items naming r.stands_for.sane;
     held = record { within = λ t scalar e. scalar_left ends scalar (r.stands_for.held.within t scalar e); named = λ t x e. named_left ends naming x (r.stands_for.held.named t x e) };
@@ -260,20 +260,20 @@ module _ {I : Type 0} {l : LatticeOf I} {n : IntegersOf I} {stands : I → ℤ �
   pub left_short : AreShort flow.model new
   left_short j = subst (λ z. pos (length z) ≤ℤ greatest_of (kind_of flow.model Pointer true)) (sym (ends.bytes j)) (r.short j)
 
-module _ {I : Type 0} {l : LatticeOf I} {n : IntegersOf I} {stands : I → ℤ → Type 0} (flow : Flow) (p : HasPremises flow) (naming : Naming) (row : List (Cell I)) (s : Standing) (r : IsReached l n stands flow naming row s) where
-  pub leave_sound : (b : ℕ) → fits_operation (names_of flow) (op.Leave b) ≡ true → StepIsSound l n stands flow row (op.Leave b) s
+module _ {I : Type 0} {l : LatticeOf I} {n : IntegersOf I} {gamma : I → ℤ → Type 0} (flow : Flow) (p : HasPremises flow) (naming : Naming) (row : List (Cell I)) (s : Standing) (r : IsReached l n gamma flow naming row s) where
+  pub leave_sound : (b : ℕ) → fits_operation (names_of flow) (op.Leave b) ≡ true → StepIsSound l n gamma flow row (op.Leave b) s
   unfolding operate leave operation_violations
   leave_sound b fitted =
       let k = some_kind flow.bases.items b fitted in
       let info : BaseInfo = k.0 in
       let declared : info.shape.heap ≡ false = sym (p.shaped.each b info k.1).kind ∙ declared_storage info.kind (automatic_storage info.kind k.2) in
-      if_some_good l n stands flow _ no_violations s r.begun (s.bases b) _ (λ i e. record {
+      if_some_good l n gamma flow _ no_violations s r.begun (s.bases b) _ (λ i e. record {
         goes_on = λ t u f.
             let w : World = left i s.world in
             let now : Standing = record s { at = suc s.at; bases = clear_at s.bases b; world = w } in
             let a : now ≡ t = cc in
             let c : w ≡ u = cc in
-            let here : StandsBehind l n stands flow (Some (at_base (leave_object l b) (slice_get flow.bases.items b) row)) (record now { world = w }) = record {
+            let here : InGammaAfter l n gamma flow (Some (at_base (leave_object l b) (slice_get flow.bases.items b) row)) (record now { world = w }) = record {
               row = leave_object l b info row;
               is = ap (λ z. Some (at_base (leave_object l b) z row)) k.1;
               long = sym (ap (λ z. length (at_base (leave_object l b) z row)) k.1) ∙ (leave_length b ∙ r.long);
@@ -281,13 +281,13 @@ module _ {I : Type 0} {l : LatticeOf I} {n : IntegersOf I} {stands : I → ℤ �
               stands_for = left_stands flow p naming row s r b i info k.1 e declared (automatic_declared info.kind k.2);
               short = left_short flow p naming row s r b i info k.1 e declared (automatic_declared info.kind k.2);
             } in
-            subst (λ z. StandsBehind l n stands flow (Some (at_base (leave_object l b) (slice_get flow.bases.items b) row)) (record z { world = u })) a (subst (λ z. StandsBehind l n stands flow (Some (at_base (leave_object l b) (slice_get flow.bases.items b) row)) (record now { world = z })) c here);
+            subst (λ z. InGammaAfter l n gamma flow (Some (at_base (leave_object l b) (slice_get flow.bases.items b) row)) (record z { world = u })) a (subst (λ z. InGammaAfter l n gamma flow (Some (at_base (leave_object l b) (slice_get flow.bases.items b) row)) (record now { world = z })) c here);
         admits = same_admitted no_violations s.world.violated [] r.begun (none_admitted no_violations);
       })
     where
       leave_length : (b : ℕ) → length (at_base (leave_object l b) (slice_get flow.bases.items b) row) ≡ length row
       leave_length b = leave_keeps l n flow.bases.items b row
 
-  pub leave_step_sound : (o : Operation) → IsLeave o → fits_operation (names_of flow) o ≡ true → StepIsSound l n stands flow row o s
+  pub leave_step_sound : (o : Operation) → IsLeave o → fits_operation (names_of flow) o ≡ true → StepIsSound l n gamma flow row o s
   leave_step_sound (op.Leave b) is h = leave_sound b h
   leave_step_sound o is h = absurd is

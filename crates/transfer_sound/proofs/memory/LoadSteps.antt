@@ -39,7 +39,7 @@ use Rattle.memory_model.specs.Effects.Touches.{Spot, touched}
 use Rattle.memory_model.specs.Effects.Worlds.{World, Reply, goes, noted, stopped_by, Left}
 use Rattle.semantics.specs.CfgMachine.FlowStates.{Standing}
 use Rattle.semantics.specs.CfgMachine.FlowActs.{giving}
-use Rattle.store_sound.specs.Concretization.ValueMeaning.{Naming, StandsPointer, StandsScalar}
+use Rattle.store_sound.specs.Concretization.ValueMeaning.{Naming, InGammaPointer, InGammaScalar}
 use Rattle.store_sound.specs.Concretization.SoundMemory.{IsPointerIn, IsScalarIn}
 use Rattle.store_sound.specs.Concretization.Coverage.{state_of}
 use Rattle.store_sound.specs.Operations.Gives.{Gives}
@@ -107,9 +107,9 @@ freed_pointer (of.Int k) w (integer z la) of_kind h = absurd (true≢false (sym 
 freed_pointer (of.Int k) w (pointer at) of_kind h = absurd (true≢false (sym of_kind))
 freed_pointer of.Pointer w v of_kind h = refl
 
-module _ {I : Type 0} {l : LatticeOf I} {n : IntegersOf I} {stands : I → ℤ → Type 0} (o : OrderLaws l) (q : BoundLaws l n stands) (c : SoundLaws l n stands) (flow : Flow) (p : HasPremises flow) (naming : Naming) (row : List (Cell I)) (s : Standing) (r : IsReached l n stands flow naming row s) (to : ℕ) (few : to < flow.temps) where
+module _ {I : Type 0} {l : LatticeOf I} {n : IntegersOf I} {gamma : I → ℤ → Type 0} (o : OrderLaws l) (q : BoundLaws l n gamma) (c : SoundLaws l n gamma) (flow : Flow) (p : HasPremises flow) (naming : Naming) (row : List (Cell I)) (s : Standing) (r : IsReached l n gamma flow naming row s) (to : ℕ) (few : to < flow.temps) where
   -- what was read is put into a temporary, as what stands for it
-  read_good : (kind : declared.Scalar) (x : Value I) (v : Scalar) (w : World) (told : Violations) (after : Option (List (Cell I))) → IsOfKind kind v → StandsScalar stands naming s.world.memory x v → IsNearScalar v → IsScalarIn s.world.memory v → w.memory ≡ s.world.memory → after ≡ put_read l n flow row to kind x → AreAdmitted told w.violated → IsStoodFor l n stands flow after told (giving s to (goes v w))
+  read_good : (kind : declared.Scalar) (x : Value I) (v : Scalar) (w : World) (told : Violations) (after : Option (List (Cell I))) → IsOfKind kind v → InGammaScalar gamma naming s.world.memory x v → IsNearScalar v → IsScalarIn s.world.memory v → w.memory ≡ s.world.memory → after ≡ put_read l n flow row to kind x → AreAdmitted told w.violated → IsStoodFor l n gamma flow after told (giving s to (goes v w))
   unfolding put_read
   read_good (of.Int k) x (integer z la) w told after of_kind st near within same is h =
       result_good q flow p naming row s r to few (number_value l x.num x.labels) (integer z la) w (record { stands_for = st; near = near; within = within }) same after told (is ∙ number_row q flow row to (number_value l x.num x.labels) z st.0) h
@@ -133,7 +133,7 @@ module _ {I : Type 0} {l : LatticeOf I} {n : IntegersOf I} {stands : I → ℤ �
     told_at cl = violations_union (touched_at cl).violations (told_by cl (read_at cl))
 
     abbrev GoodAt : Class × Bool → Reply Standing → Type 0
-    GoodAt cl reply = IsStoodFor l n stands flow (put_loaded l n flow row to kind (read_at cl)) (told_at cl) reply
+    GoodAt cl reply = IsStoodFor l n gamma flow (put_loaded l n flow row to kind (read_at cl)) (told_at cl) reply
 
     abbrev pair : Class × Bool
     pair = (class_in kind, signed_in kind)
@@ -141,7 +141,7 @@ module _ {I : Type 0} {l : LatticeOf I} {n : IntegersOf I} {stands : I → ℤ �
     clean : (v : Violations) → AreAdmitted v s.world.violated
     clean v = same_admitted v s.world.violated [] r.begun (none_admitted v)
 
-    module _ (at : MachinePointer) (st : StandsPointer stands naming s.world.memory x at) (inside : IsPointerIn s.world.memory at) where
+    module _ (at : MachinePointer) (st : InGammaPointer gamma naming s.world.memory x at) (inside : IsPointerIn s.world.memory at) where
       abbrev reply : Reply Scalar
       reply = effect.load flow.model kind (pointer at) s.world
 
@@ -152,10 +152,10 @@ module _ {I : Type 0} {l : LatticeOf I} {n : IntegersOf I} {stands : I → ℤ �
           (rule_stops q flow p naming row s r to few _ (told_at pair) s.world rule (clean (told_at pair)) (union_left (touched_at pair).violations (told_by pair (read_at pair)) rule told))
 
       module _ (spot : Spot) (e : touched s.world at (machine.class_bytes flow.model (class_in kind)) false ≡ goes spot s.world) where
-        rest_stands : StandsPointer stands naming s.world.memory (touched_at pair).rest at
+        rest_stands : InGammaPointer gamma naming s.world.memory (touched_at pair).rest at
         rest_stands = touch_stands o q flow p.shaped naming row s.world s.temps s.bases r.stands_for x (machine.class_bytes flow.model (class_in kind)) false at spot s.world st inside e
 
-        value_stands : (v : Scalar) (u : World) → reply ≡ goes v u → Gives (λ y. StandsScalar stands naming s.world.memory y v) (read_at pair)
+        value_stands : (v : Scalar) (u : World) → reply ≡ goes v u → Gives (λ y. InGammaScalar gamma naming s.world.memory y v) (read_at pair)
         value_stands v u h = elim (cases_Bool (machine.same_class (class_in kind) Char)) [
           | inl char ↦ char_stands o q c flow p.shaped p.padding naming row s.world s.temps s.bases r.stands_for (touched_at pair).rest at kind v u char rest_stands inside h
           | inr wide ↦ load_stands o q c flow p.shaped naming row s.world s.temps s.bases r.stands_for (touched_at pair).rest at kind v u wide rest_stands inside h
@@ -176,7 +176,7 @@ module _ {I : Type 0} {l : LatticeOf I} {n : IntegersOf I} {stands : I → ℤ �
             subst (λ z. GoodAt pair (giving s to z)) (sym h)
             (rule_stops q flow p naming row s r to few _ (told_at pair) s.world Uninitref (clean (told_at pair)) (told_some g.value g.is Uninitref (and_from _ _ g.good (blank_minded kind minds))))
 
-        freed_told : (v : Scalar) (y : Value I) → read_at pair ≡ Some y → StandsScalar stands naming s.world.memory y v → IsOfKind kind v → (b : Bool) → points_into_freed s.world.memory v ≡ b → AreAdmitted (told_at pair) (cond b (Accfree ∷ []) [])
+        freed_told : (v : Scalar) (y : Value I) → read_at pair ≡ Some y → InGammaScalar gamma naming s.world.memory y v → IsOfKind kind v → (b : Bool) → points_into_freed s.world.memory v ≡ b → AreAdmitted (told_at pair) (cond b (Accfree ∷ []) [])
         freed_told v y is sv of_kind false f = none_admitted (told_at pair)
         freed_told v y is sv of_kind true f = one_admitted (told_at pair) Accfree (told_some y is Accfree (and_from _ _ (freed_pointer kind s.world v of_kind f) (freed_shows flow p.shaped naming row (state_of s) r.stands_for y v sv f)))
 
@@ -185,7 +185,7 @@ module _ {I : Type 0} {l : LatticeOf I} {n : IntegersOf I} {stands : I → ℤ �
             let w : World = noted s.world (points_into_freed s.world.memory v) Accfree in
             let g = value_stands v w h in
             let near = loaded_near flow.model flow.bases.items naming s.world r.stands_for.sane kind at v w h in
-            let known = loads_keep flow.model flow.bases.items naming s.world w at kind v r.stands_for.sane inside (scalar_named stands naming s.world.memory (pointer_value l x) (pointer at) st) h in
+            let known = loads_keep flow.model flow.bases.items naming s.world w at kind v r.stands_for.sane inside (scalar_named gamma naming s.world.memory (pointer_value l x) (pointer at) st) h in
             subst (λ z. GoodAt pair (giving s to z)) (sym h)
             (read_good kind g.value v w (told_at pair) _ near.1 g.good near.0 known.within refl (ap (put_loaded l n flow row to kind) g.is)
             (both_admitted (told_at pair) s.world.violated _ (clean (told_at pair)) (freed_told v g.value g.is g.good near.1 (points_into_freed s.world.memory v) refl)))
@@ -193,7 +193,7 @@ module _ {I : Type 0} {l : LatticeOf I} {n : IntegersOf I} {stands : I → ℤ �
         read_ends : LoadEnd s.world kind (load_at flow.model kind spot s.world) → GoodAt pair (giving s to reply)
         read_ends (gives v f) = given_good v (load_went flow.model kind at s.world spot e ∙ f)
         read_ends (blank minds f) = blank_good minds (load_went flow.model kind at s.world spot e ∙ f)
-        read_ends (off f) = subst (λ z. GoodAt pair (giving s to z)) (sym (load_went flow.model kind at s.world spot e ∙ f)) (clean_stop_good l n stands flow _ (told_at pair) Left s.world r.begun)
+        read_ends (off f) = subst (λ z. GoodAt pair (giving s to z)) (sym (load_went flow.model kind at s.world spot e ∙ f)) (clean_stop_good l n gamma flow _ (told_at pair) Left s.world r.begun)
 
       ends : TouchEnd s.world (touched s.world at (machine.class_bytes flow.model (class_in kind)) false) → GoodAt pair (giving s to reply)
       ends (stopped rule e) = touch_stops rule e
@@ -202,13 +202,13 @@ module _ {I : Type 0} {l : LatticeOf I} {n : IntegersOf I} {stands : I → ℤ �
       load_good : GoodAt (class_of kind) (giving s to reply)
       load_good = subst (λ cl. GoodAt cl (giving s to reply)) (sym (class_pair kind)) (ends (touch_end s.world at (machine.class_bytes flow.model (class_in kind)) false))
 
-module _ {I : Type 0} {l : LatticeOf I} {n : IntegersOf I} {stands : I → ℤ → Type 0} (o : OrderLaws l) (q : BoundLaws l n stands) (c : SoundLaws l n stands) (flow : Flow) (p : HasPremises flow) (naming : Naming) (row : List (Cell I)) (s : Standing) (r : IsReached l n stands flow naming row s) where
-  pub load_sound : (to from : ℕ) (kind : declared.Scalar) → fits_operation (names_of flow) (op.Load to from kind) ≡ true → StepIsSound l n stands flow row (op.Load to from kind) s
+module _ {I : Type 0} {l : LatticeOf I} {n : IntegersOf I} {gamma : I → ℤ → Type 0} (o : OrderLaws l) (q : BoundLaws l n gamma) (c : SoundLaws l n gamma) (flow : Flow) (p : HasPremises flow) (naming : Naming) (row : List (Cell I)) (s : Standing) (r : IsReached l n gamma flow naming row s) where
+  pub load_sound : (to from : ℕ) (kind : declared.Scalar) → fits_operation (names_of flow) (op.Load to from kind) ≡ true → StepIsSound l n gamma flow row (op.Load to from kind) s
   unfolding operate load_step operation_violations
   load_sound to from kind fits =
       let few = ltb-true to flow.temps (and_parts (has_temp (names_of flow) to) (has_temp (names_of flow) from && is_scalar flow.model kind) fits).0 in
-      if_some_good l n stands flow _ _ s r.begun (s.temps from) _ (λ v e.
-      pointer_good l n stands flow _ _ s to v s.world _ r.begun (λ at g.
+      if_some_good l n gamma flow _ _ s r.begun (s.temps from) _ (λ v e.
+      pointer_good l n gamma flow _ _ s to v s.world _ r.begun (λ at g.
       load_good o q c flow p naming row s r to few kind (temp_value l n flow row from).pointer at
-      (subst (StandsScalar stands naming s.world.memory (temp_value l n flow row from)) g (r.stands_for.temps from v e))
+      (subst (InGammaScalar gamma naming s.world.memory (temp_value l n flow row from)) g (r.stands_for.temps from v e))
       (r.stands_for.held.within from (pointer at) (e ∙ ap Some g))))

@@ -17,11 +17,11 @@ use Rattle.transfer_sound.specs.Memory.MemorySteps.{IsLoad, IsStore}
 use Rattle.transfer_sound.proofs.memory.LoadSteps.{load_sound}
 use Rattle.transfer_sound.proofs.memory.StoreSteps.{store_sound}
 
-module _ {I : Type 0} {l : LatticeOf I} {n : IntegersOf I} {stands : I → ℤ → Type 0} (o : OrderLaws l) (q : BoundLaws l n stands) (c : SoundLaws l n stands) (ranges : RangeLaws l n) (flow : Flow) (p : HasPremises flow) (naming : Naming) (row : List (Cell I)) (s : Standing) (r : IsReached l n stands flow naming row s) where
-  pub load_step_sound : (i : Operation) → IsLoad i → fits_operation (names_of flow) i ≡ true → StepIsSound l n stands flow row i s
+module _ {I : Type 0} {l : LatticeOf I} {n : IntegersOf I} {gamma : I → ℤ → Type 0} (o : OrderLaws l) (q : BoundLaws l n gamma) (c : SoundLaws l n gamma) (ranges : RangeLaws l n) (flow : Flow) (p : HasPremises flow) (naming : Naming) (row : List (Cell I)) (s : Standing) (r : IsReached l n gamma flow naming row s) where
+  pub load_step_sound : (i : Operation) → IsLoad i → fits_operation (names_of flow) i ≡ true → StepIsSound l n gamma flow row i s
   load_step_sound (op.Load to from kind) is fits = load_sound o q c flow p naming row s r to from kind fits
   load_step_sound i is fits = absurd is
 
-  pub store_step_sound : (i : Operation) → IsStore i → fits_operation (names_of flow) i ≡ true → StepIsSound l n stands flow row i s
+  pub store_step_sound : (i : Operation) → IsStore i → fits_operation (names_of flow) i ≡ true → StepIsSound l n gamma flow row i s
   store_step_sound (op.Store to from kind kept) is fits = store_sound o q c ranges flow p naming row s r to from kind kept fits
   store_step_sound i is fits = absurd is

@@ -32,13 +32,13 @@ use Rattle.memory_model.specs.Effects.Worlds.{World}
 use Rattle.semantics.specs.CfgMachine.FlowStates.{Standing}
 use Rattle.store_sound.specs.Concretization.FirstZeroBytes.{first_zero}
 use Rattle.store_sound.specs.Concretization.Matching.{number_in}
-use Rattle.store_sound.specs.Concretization.ValueMeaning.{Naming, StandsContent, StandsZero}
-use Rattle.store_sound.specs.Concretization.RowMeaning.{IsLiveOf, StandsLeaf, StandsFor, array_of, array_bytes}
+use Rattle.store_sound.specs.Concretization.ValueMeaning.{Naming, InGammaContent, InGammaZero}
+use Rattle.store_sound.specs.Concretization.RowMeaning.{IsLiveOf, InGammaLeaf, InGamma, array_of, array_bytes}
 use Rattle.store_sound.specs.Concretization.Coverage.{state_of}
 use Rattle.store_sound.proofs.operations.Classes.{class_above}
 use Rattle.store_sound.proofs.operations.Slices.{get_take, get_drop, get_there}
 use Rattle.store_sound.specs.Programs.Premises.{HasPremises}
-use Rattle.transfer_sound.specs.Values.SoundSteps.{IsReached, StandsBehind, StepIsSound}
+use Rattle.transfer_sound.specs.Values.SoundSteps.{IsReached, InGammaAfter, StepIsSound}
 use Rattle.transfer_sound.proofs.values.Admitted.{none_admitted, same_admitted}
 use Rattle.transfer_sound.proofs.values.NearScalars.{near_number_stands}
 use Rattle.transfer_sound.proofs.values.PartSteps.{declared_storage}
@@ -60,7 +60,7 @@ pub part_blank : (size : Option ℕ) (offset : ℕ) (bytes : List Byte) → AreB
 part_blank None offset bytes h o b e = h (offset + o) b (sym (get_drop offset bytes o (offset + o) refl) ∙ e)
 part_blank (Some n) offset bytes h o b e = let x = get_take n (drop offset bytes) o b e in h (offset + o) b (sym (get_drop offset bytes o (offset + o) refl) ∙ x.1)
 
-module _ {I : Type 0} {l : LatticeOf I} {n : IntegersOf I} {stands : I → ℤ → Type 0} (q : BoundLaws l n stands) (flow : Flow) (p : HasPremises flow) (naming : Naming) (row : List (Cell I)) (s : Standing) (r : IsReached l n stands flow naming row s)
+module _ {I : Type 0} {l : LatticeOf I} {n : IntegersOf I} {gamma : I → ℤ → Type 0} (q : BoundLaws l n gamma) (flow : Flow) (p : HasPremises flow) (naming : Naming) (row : List (Cell I)) (s : Standing) (r : IsReached l n gamma flow naming row s)
     (b i : ℕ) (info : BaseInfo) (at : slice_get flow.bases.items b ≡ Some info) (entered : s.bases b ≡ Some i) (declared : info.shape.heap ≡ false) (kind : info.kind ≡ Older → ⊥) where
   abbrev new : Memory
   new = set_bytes s.world.memory i (all_of indeterminate (bytes_at s.world.memory i))
@@ -82,9 +82,9 @@ module _ {I : Type 0} {l : LatticeOf I} {n : IntegersOf I} {stands : I → ℤ �
 
   -- ---- what the cells stand for
 
-  own_leaves : (j : ℕ) (leaf : Leaf) → slice_get info.shape.cells j ≡ Some leaf → StandsLeaf stands flow naming new b leaf (value_at l n after (leaf_position info j))
+  own_leaves : (j : ℕ) (leaf : Leaf) → slice_get info.shape.cells j ≡ Some leaf → InGammaLeaf gamma flow naming new b leaf (value_at l n after (leaf_position info j))
   unfolding byte_at
-  own_leaves j leaf e = subst (StandsLeaf stands flow naming new b leaf) (sym (blank.leaf_blank flow p b info at declared l n row r.long j (slice_get_within info.shape.cells j leaf e))) (record {
+  own_leaves j leaf e = subst (InGammaLeaf gamma flow naming new b leaf) (sym (blank.leaf_blank flow p b info at declared l n row r.long j (slice_get_within info.shape.cells j leaf e))) (record {
     whole = λ k o ns h place plain held.
         let own = own_at k h in
         let size = held.size in
@@ -98,35 +98,35 @@ module _ {I : Type 0} {l : LatticeOf I} {n : IntegersOf I} {stands : I → ℤ �
         let own = own_at k h in
         let one : Byte = record { content = content; tag = y.tag } in
         let z : content ≡ indeterminate = blank_at o one (subst (λ u. byte_at new u o ≡ Some one) own y.here) in
-        subst (StandsContent stands naming new (near_value l n (blank_value l)) leaf.class) (sym z) refl;
+        subst (InGammaContent gamma naming new (near_value l n (blank_value l)) leaf.class) (sym z) refl;
   })
 
-  own_zeros : (z : ℕ) (part : ZeroPart) → slice_get info.shape.zeros z ≡ Some part → StandsZero stands naming new (zero_at l n after (zero_position info z)) (array_bytes part (bytes_at new i))
+  own_zeros : (z : ℕ) (part : ZeroPart) → slice_get info.shape.zeros z ≡ Some part → InGammaZero gamma naming new (zero_at l n after (zero_position info z)) (array_bytes part (bytes_at new i))
   unfolding zero_at
   own_zeros z part e =
       let c = blank.zero_blank flow p b info at declared l n row r.long z (slice_get_within info.shape.zeros z part e) in
       let f = blank_zero (array_bytes part (bytes_at new i)) (part_blank part.size part.offset (bytes_at new i) all_blank) in
       rw (c, f) (near_number_stands q (no_zero n).at the_end (record { from = omega (arith, ints); to = omega (arith, ints) }) (q.one_stands the_end))
 
-  pub forgotten_stands : StandsFor l n stands flow naming after (record { memory = new; temps = s.temps; entered = s.bases })
+  pub forgotten_stands : InGamma l n gamma flow naming after (record { memory = new; temps = s.temps; entered = s.bases })
   forgotten_stands = object_stands flow p naming row (state_of s) r.stands_for b i info at (named q flow p naming row s r b i info at entered declared kind indeterminate) (alive q flow p naming row s r b i info at entered declared kind indeterminate) declared kind (is_set q flow p naming row s r b i info at entered declared kind indeterminate).rewrite
       (rewrite_sane flow.model flow.bases.items naming (is_set q flow p naming row s r b i info at entered declared kind indeterminate).rewrite r.stands_for.sane (λ o x e. let z = blank_at o x e in rw z (tt, tt)))
       after outside own_leaves own_zeros
 
-module _ {I : Type 0} {l : LatticeOf I} {n : IntegersOf I} {stands : I → ℤ → Type 0} (q : BoundLaws l n stands) (flow : Flow) (p : HasPremises flow) (naming : Naming) (row : List (Cell I)) (s : Standing) (r : IsReached l n stands flow naming row s) where
-  pub forget_sound : (b : ℕ) → fits_operation (names_of flow) (op.Forget b) ≡ true → StepIsSound l n stands flow row (op.Forget b) s
+module _ {I : Type 0} {l : LatticeOf I} {n : IntegersOf I} {gamma : I → ℤ → Type 0} (q : BoundLaws l n gamma) (flow : Flow) (p : HasPremises flow) (naming : Naming) (row : List (Cell I)) (s : Standing) (r : IsReached l n gamma flow naming row s) where
+  pub forget_sound : (b : ℕ) → fits_operation (names_of flow) (op.Forget b) ≡ true → StepIsSound l n gamma flow row (op.Forget b) s
   unfolding operate forget operation_violations
   forget_sound b fits =
       let k = some_kind flow.bases.items b fits in
       let info : BaseInfo = k.0 in
       let declared : info.shape.heap ≡ false = sym (p.shaped.each b info k.1).kind ∙ declared_storage info.kind (automatic_storage info.kind k.2) in
-      if_some_good l n stands flow _ no_violations s r.begun (s.bases b) _ (λ i e. record {
+      if_some_good l n gamma flow _ no_violations s r.begun (s.bases b) _ (λ i e. record {
         goes_on = λ t u f.
             let w : World = forgotten i s.world in
             let now : Standing = record s { at = suc s.at; world = w } in
             let a : now ≡ t = cc in
             let c : w ≡ u = cc in
-            let here : StandsBehind l n stands flow (Some (at_base (blank_object l n) (slice_get flow.bases.items b) row)) (record now { world = w }) = record {
+            let here : InGammaAfter l n gamma flow (Some (at_base (blank_object l n) (slice_get flow.bases.items b) row)) (record now { world = w }) = record {
               row = blank_object l n info row;
               is = ap (λ z. Some (at_base (blank_object l n) z row)) k.1;
               long = sym (ap (λ z. length (at_base (blank_object l n) z row)) k.1) ∙ (forget_length b ∙ r.long);
@@ -134,13 +134,13 @@ module _ {I : Type 0} {l : LatticeOf I} {n : IntegersOf I} {stands : I → ℤ �
               stands_for = forgotten_stands q flow p naming row s r b i info k.1 e declared (automatic_declared info.kind k.2);
               short = still_short q flow p naming row s r b i info k.1 e declared (automatic_declared info.kind k.2) indeterminate;
             } in
-            subst (λ z. StandsBehind l n stands flow (Some (at_base (blank_object l n) (slice_get flow.bases.items b) row)) (record z { world = u })) a (subst (λ z. StandsBehind l n stands flow (Some (at_base (blank_object l n) (slice_get flow.bases.items b) row)) (record now { world = z })) c here);
+            subst (λ z. InGammaAfter l n gamma flow (Some (at_base (blank_object l n) (slice_get flow.bases.items b) row)) (record z { world = u })) a (subst (λ z. InGammaAfter l n gamma flow (Some (at_base (blank_object l n) (slice_get flow.bases.items b) row)) (record now { world = z })) c here);
         admits = same_admitted no_violations s.world.violated [] r.begun (none_admitted no_violations);
       })
     where
       forget_length : (b : ℕ) → length (at_base (blank_object l n) (slice_get flow.bases.items b) row) ≡ length row
       forget_length b = forget_keeps l n flow.bases.items b row
 
-  pub forget_step_sound : (o : Operation) → IsForget o → fits_operation (names_of flow) o ≡ true → StepIsSound l n stands flow row o s
+  pub forget_step_sound : (o : Operation) → IsForget o → fits_operation (names_of flow) o ≡ true → StepIsSound l n gamma flow row o s
   forget_step_sound (op.Forget b) is h = forget_sound b h
   forget_step_sound o is h = absurd is

@@ -46,6 +46,6 @@ module _ {I : Type 0} (l : LatticeOf I) (n : IntegersOf I) (flow : Flow) where
   unfolding is_typed_map
   typed_before rows block k i row t e h = typed_rows 0 rows block block k i row (omega arith) e h t
 
-module _ {I : Type 0} {l : LatticeOf I} {n : IntegersOf I} {stands : I → ℤ → Type 0} (q : BoundLaws l n stands) (flow : Flow) where
-  pub map_types : (rows : List (Option (List (Cell I)))) → is_typed_map l n flow rows ≡ true → TypesOperands l n stands flow rows
+module _ {I : Type 0} {l : LatticeOf I} {n : IntegersOf I} {gamma : I → ℤ → Type 0} (q : BoundLaws l n gamma) (flow : Flow) where
+  pub map_types : (rows : List (Option (List (Cell I)))) → is_typed_map l n flow rows ≡ true → TypesOperands l n gamma flow rows
   map_types rows t naming row s i e before there = operands_have q flow naming row (state_of s) there i.operation (typed_before l n flow rows s.block s.at i row t e before)

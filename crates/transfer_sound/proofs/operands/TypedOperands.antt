@@ -27,8 +27,8 @@ use Rattle.row_bounds.specs.TypedRows.{is_natural, is_within, is_of_kind, is_siz
 use Rattle.memory_model.specs.Memory.Bytes.{MachinePointer, null, into}
 use Rattle.memory_model.specs.Memory.Instances.{Memory, Life, live, ended, freed, life_at}
 use Rattle.memory_model.specs.Memory.Scalars.{Scalar, integer, pointer}
-use Rattle.store_sound.specs.Concretization.ValueMeaning.{Naming, StandsByLife, StandsPointer, StandsScalar}
-use Rattle.store_sound.specs.Concretization.RowMeaning.{MachineState, StandsFor}
+use Rattle.store_sound.specs.Concretization.ValueMeaning.{Naming, InGammaByLife, InGammaPointer, InGammaScalar}
+use Rattle.store_sound.specs.Concretization.RowMeaning.{MachineState, InGamma}
 use Rattle.store_sound.specs.Operations.Scalars.{IsOfKind}
 use Rattle.transfer_sound.specs.Values.OperandTypes.{HasSize, HasSizes, HasThirdSize, TakesSize, HasOperands}
 
@@ -54,44 +54,44 @@ nowhere true true r h = absurd (true≢false (sym h))
 nowhere true false true h = absurd (true≢false (sym h))
 nowhere false q r h = absurd (true≢false (sym h))
 
-module _ {I : Type 0} {l : LatticeOf I} {n : IntegersOf I} {stands : I → ℤ → Type 0} (q : BoundLaws l n stands) where
-  range_has : (kind : IntType) (x : I) (a : ℤ) → range_fits kind (n.bounds x) ≡ true → stands x a → in_type kind a ≡ true
+module _ {I : Type 0} {l : LatticeOf I} {n : IntegersOf I} {gamma : I → ℤ → Type 0} (q : BoundLaws l n gamma) where
+  range_has : (kind : IntType) (x : I) (a : ℤ) → range_fits kind (n.bounds x) ≡ true → gamma x a → in_type kind a ≡ true
   range_has kind x a h there =
       let b = q.inside x a there in
       between (least_of kind) (greatest_of kind) b.0 b.1 a (subst (λ z. range_fits kind z ≡ true) b.2 h) b.3 b.4
 
-  pub within_has : (kind : IntType) (v : Value I) (a : ℤ) → is_within n kind v ≡ true → stands v.num a → in_type kind a ≡ true
+  pub within_has : (kind : IntType) (v : Value I) (a : ℤ) → is_within n kind v ≡ true → gamma v.num a → in_type kind a ≡ true
   within_has kind v a h there = range_has kind v.num a (and_parts (is_size kind.bytes) (range_fits kind (n.bounds v.num)) h).1 there
 
-  natural_has : (x : I) (a : ℤ) → is_natural (n.bounds x) ≡ true → stands x a → pos 0 ≤ℤ a
+  natural_has : (x : I) (a : ℤ) → is_natural (n.bounds x) ≡ true → gamma x a → pos 0 ≤ℤ a
   natural_has x a h there = let b = q.inside x a there in not_below b.0 a (subst (λ z. is_natural z ≡ true) b.2 h) b.3
 
-  no_number : (x : I) (a : ℤ) → is_none (n.bounds x) ≡ true → stands x a → ⊥
+  no_number : (x : I) (a : ℤ) → is_none (n.bounds x) ≡ true → gamma x a → ⊥
   no_number x a h there = let b = q.inside x a there in true≢false (sym (subst (λ z. is_none z ≡ true) b.2 h))
 
   module _ (naming : Naming) (memory : Memory) where
-    no_pointer : (v : Pointers I) (p : MachinePointer) → not (is_any v || v.ended) ≡ true → StandsPointer stands naming memory v p → ⊥
+    no_pointer : (v : Pointers I) (p : MachinePointer) → not (is_any v || v.ended) ≡ true → InGammaPointer gamma naming memory v p → ⊥
     no_pointer v p h = by_pointer p
       where
         none : IsNowhere (bases_empty v.bases) v.null v.ended
         none = nowhere (bases_empty v.bases) v.null v.ended h
 
-        by_life : (life : Life) (i offset lo hi : ℕ) → StandsByLife stands naming memory v life i offset lo hi → ⊥
+        by_life : (life : Life) (i offset lo hi : ℕ) → InGammaByLife gamma naming memory v life i offset lo hi → ⊥
         by_life live i offset lo hi t = has_none v.bases t.base none.empty t.among
         by_life ended i offset lo hi t = true≢false (sym t ∙ none.no_ended)
         by_life freed i offset lo hi t = has_none v.bases t.base none.empty t.among
 
-        by_pointer : (p : MachinePointer) → StandsPointer stands naming memory v p → ⊥
+        by_pointer : (p : MachinePointer) → InGammaPointer gamma naming memory v p → ⊥
         by_pointer null t = true≢false (sym t ∙ none.no_null)
         by_pointer (into i offset lo hi) t = by_life (life_at memory i) i offset lo hi t
 
-    kind_has : (kind : declared.Scalar) (v : Value I) (x : Scalar) → is_of_kind n kind v ≡ true → StandsScalar stands naming memory v x → IsOfKind kind x
+    kind_has : (kind : declared.Scalar) (v : Value I) (x : Scalar) → is_of_kind n kind v ≡ true → InGammaScalar gamma naming memory v x → IsOfKind kind x
     kind_has (of.Int kind) v (integer a labels) h there = refl
     kind_has (of.Int kind) v (pointer p) h there = absurd (no_pointer v.pointer p h there)
     kind_has of.Pointer v (integer a labels) h there = absurd (no_number v.num a h there.0)
     kind_has of.Pointer v (pointer p) h there = refl
 
-  module _ (flow : Flow) (naming : Naming) (row : List (Cell I)) (state : MachineState) (there : StandsFor l n stands flow naming row state) where
+  module _ (flow : Flow) (naming : Naming) (row : List (Cell I)) (state : MachineState) (there : InGamma l n gamma flow naming row state) where
     size_has : (temp : ℕ) → is_size_in l n flow row temp ≡ true → HasSize (state.temps temp)
     size_has temp h a labels e = natural_has (temp_value l n flow row temp).num a h (there.temps temp (integer a labels) e).0
 

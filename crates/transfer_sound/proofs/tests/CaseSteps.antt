@@ -38,11 +38,11 @@ use Rattle.semantics.specs.CfgMachine.FlowStates.{Standing, with_instance}
 use Rattle.semantics.specs.CfgMachine.FlowEdges.{in_world, first_signed, integer_in, matching}
 use Rattle.lower_templates.specs.Views.ProgramViews.{flow_view}
 use Rattle.store_sound.specs.Concretization.ValueMeaning.{Naming}
-use Rattle.store_sound.specs.Concretization.RowMeaning.{StandsFor}
+use Rattle.store_sound.specs.Concretization.RowMeaning.{InGamma}
 use Rattle.store_sound.specs.Concretization.Coverage.{state_of}
 use Rattle.store_sound.proofs.operations.LoadSound.{instance_there}
 use Rattle.store_sound.specs.Programs.Premises.{HasPremises}
-use Rattle.transfer_sound.specs.Values.SoundSteps.{IsReached, StandsBehind, IsStoodFor}
+use Rattle.transfer_sound.specs.Values.SoundSteps.{IsReached, InGammaAfter, IsStoodFor}
 use Rattle.transfer_sound.proofs.values.Admitted.{none_admitted, same_admitted}
 use Rattle.transfer_sound.proofs.values.MoveSteps.{near_has}
 use Rattle.transfer_sound.proofs.values.NearScalars.{IsNearNumber}
@@ -58,7 +58,7 @@ case_scalar value None h = absurd (true≢false (sym h))
 case_scalar value (Some (integer z la)) h = let e : z ≡ value = (Decides-int_eq z value).0 h in (la, ap (λ x. Some (integer x la)) e)
 case_scalar value (Some (pointer p)) h = absurd (true≢false (sym h))
 
-module _ {I : Type 0} {l : LatticeOf I} {n : IntegersOf I} {stands : I → ℤ → Type 0} (o : OrderLaws l) (q : BoundLaws l n stands) (flow : Flow) (p : HasPremises flow) (naming : Naming) (row : List (Cell I)) (s : Standing) (r : IsReached l n stands flow naming row s)
+module _ {I : Type 0} {l : LatticeOf I} {n : IntegersOf I} {gamma : I → ℤ → Type 0} (o : OrderLaws l) (q : BoundLaws l n gamma) (flow : Flow) (p : HasPremises flow) (naming : Naming) (row : List (Cell I)) (s : Standing) (r : IsReached l n gamma flow naming row s)
     (b i : ℕ) (kind : IntType) (t : IsScalarObject flow b (of.Int kind)) (en : s.bases b ≡ Some i) (value : ℤ) where
   abbrev memory : Memory
   memory = s.world.memory
@@ -93,12 +93,12 @@ module _ {I : Type 0} {l : LatticeOf I} {n : IntegersOf I} {stands : I → ℤ �
       let class : class_bytes flow.model t.leaf.class ≡ class_bytes flow.model (class_in (of.Int kind)) = ap (class_bytes flow.model) t.class in
       set_relabels flow.model (λ z. no_labels) i (of.Int kind) memory it.0 it.1 (omega (arith, total, same, bytes, class))
 
-  near_of : stands v.num value → IsNearNumber value
+  near_of : gamma v.num value → IsNearNumber value
   unfolding value_at
   near_of h = near_has q _ value h
 
   record IsCase : Type 0 where
-    stands_for : StandsFor l n stands flow naming case_row (record { memory = after; temps = s.temps; entered = s.bases })
+    stands_for : InGamma l n gamma flow naming case_row (record { memory = after; temps = s.temps; entered = s.bases })
     long : length case_row ≡ flow.width
     some : is_some (n.bounds x) ≡ true
 
@@ -108,20 +108,20 @@ module _ {I : Type 0} {l : LatticeOf I} {n : IntegersOf I} {stands : I → ℤ �
       let numbers = object_numbers q flow p naming row r.long (state_of s) r.stands_for b i (of.Int kind) t named alive read.ns read.are in
       let has = object_has o q flow p naming s.temps s.bases row r.long memory r.stands_for b i (of.Int kind) t en value la scalar in
       let is : side_value l n flow row (side.Object b (of.Int kind)) ≡ v = ap (λ z. value_of_object l n row (position_of z)) t.is in
-      let num : stands v.num value = subst (λ z. stands z.num value) is has.number in
-      let met : stands x value = of_range_stands q (range_met (n.bounds v.num) value value) value (met_has (n.bounds v.num) value value value (bounds_have q v.num value num) (omega (arith, ints)) (omega (arith, ints))) in
+      let num : gamma v.num value = subst (λ z. gamma z.num value) is has.number in
+      let met : gamma x value = of_range_stands q (range_met (n.bounds v.num) value value) value (met_has (n.bounds v.num) value value value (bounds_have q v.num value num) (omega (arith, ints)) (omega (arith, ints))) in
       record {
         stands_for = relabelled_stands q flow p naming row r.long (state_of s) r.stands_for b i (of.Int kind) t named alive relabelling.rewrite (λ z. no_labels) relabelling.each (ap is_pointer t.class ∙ read.plain) x set.no_labels value read.ns numbers.few (read.is ∙ sym (ap (λ z. number_of z read.ns) t.signed)) numbers.at_bytes (near_of num) met (λ lb h. refl);
         long = length-set row place (Value (with_number v x)) ∙ r.long;
         some = bounds_some q x value met;
       }
 
-  case_good : IsStoodFor l n stands flow (refine_case l n flow b value row) no_violations (in_world s (pass_case flow.model i kind value s.world))
+  case_good : IsStoodFor l n gamma flow (refine_case l n flow b value row) no_violations (in_world s (pass_case flow.model i kind value s.world))
   unfolding refine_case refine_value put_case
   case_good = by_truth (is_number value (side_scalar flow.model memory (object i (of.Int kind)))) refl
     where
-      by_truth : (c : Bool) → is_number value (side_scalar flow.model memory (object i (of.Int kind))) ≡ c → IsStoodFor l n stands flow (refine_case l n flow b value row) no_violations (in_world s (passing c (with_memory s.world after)))
-      by_truth false e = clean_stop_good l n stands flow (refine_case l n flow b value row) no_violations Stuck (with_memory s.world after) r.begun
+      by_truth : (c : Bool) → is_number value (side_scalar flow.model memory (object i (of.Int kind))) ≡ c → IsStoodFor l n gamma flow (refine_case l n flow b value row) no_violations (in_world s (passing c (with_memory s.world after)))
+      by_truth false e = clean_stop_good l n gamma flow (refine_case l n flow b value row) no_violations Stuck (with_memory s.world after) r.begun
       by_truth true e =
           let k = case_scalar value (side_scalar flow.model memory (object i (of.Int kind))) e in
           let here = case_stands k.0 k.1 in
@@ -132,7 +132,7 @@ module _ {I : Type 0} {l : LatticeOf I} {n : IntegersOf I} {stands : I → ℤ �
                 let now : Standing = record s { world = new } in
                 let a : now ≡ y = cc in
                 let d : new ≡ u = cc in
-                let there : StandsBehind l n stands flow (refine_case l n flow b value row) (record now { world = new }) = record {
+                let there : InGammaAfter l n gamma flow (refine_case l n flow b value row) (record now { world = new }) = record {
                   row = case_row;
                   is = is;
                   long = here.long;
@@ -140,22 +140,22 @@ module _ {I : Type 0} {l : LatticeOf I} {n : IntegersOf I} {stands : I → ℤ �
                   stands_for = here.stands_for;
                   short = λ z. subst (λ w. pos w ≤ℤ greatest_of (kind_of flow.model Pointer true)) (sym (relabelling.rewrite.alike.lengths z)) (r.short z);
                 } in
-                subst (λ z. StandsBehind l n stands flow (refine_case l n flow b value row) (record z { world = u })) a (subst (λ z. StandsBehind l n stands flow (refine_case l n flow b value row) (record now { world = z })) d there);
+                subst (λ z. InGammaAfter l n gamma flow (refine_case l n flow b value row) (record z { world = u })) a (subst (λ z. InGammaAfter l n gamma flow (refine_case l n flow b value row) (record now { world = z })) d there);
             admits = same_admitted no_violations s.world.violated [] r.begun (none_admitted no_violations);
           }
 
-module _ {I : Type 0} {l : LatticeOf I} {n : IntegersOf I} {stands : I → ℤ → Type 0} (o : OrderLaws l) (q : BoundLaws l n stands) (flow : Flow) (p : HasPremises flow) (naming : Naming) (row : List (Cell I)) (s : Standing) (r : IsReached l n stands flow naming row s) where
+module _ {I : Type 0} {l : LatticeOf I} {n : IntegersOf I} {gamma : I → ℤ → Type 0} (o : OrderLaws l) (q : BoundLaws l n gamma) (flow : Flow) (p : HasPremises flow) (naming : Naming) (row : List (Cell I)) (s : Standing) (r : IsReached l n gamma flow naming row s) where
   -- a case looks at the size and the sign of the type alone
   same_case : (i : ℕ) (value : ℤ) (w : World) (a k : IntType) → a.bytes ≡ k.bytes → a.signed ≡ k.signed → pass_case flow.model i a value w ≡ pass_case flow.model i k value w
   same_case i value w a k e f =
       ap (λ z. pass_case flow.model i (record { bytes = z; signed = a.signed; rank = a.rank }) value w) e
       ∙ ap (λ z. pass_case flow.model i (record { bytes = k.bytes; signed = z; rank = a.rank }) value w) f
 
-  pub case_sound : (value : ℤ) (b : ℕ) → IsCaseObject flow b → IsStoodFor l n stands flow (refine_case l n flow b value row) no_violations (matching (flow_view flow) s value (Some b))
-  case_sound value b t = if_some_good l n stands flow (refine_case l n flow b value row) no_violations s r.begun (slice_get flow.bases.items b) (λ base. with_instance s b (λ i. in_world s (pass_case flow.model i (integer_in base) value s.world))) (λ base e.
-      if_some_good l n stands flow (refine_case l n flow b value row) no_violations s r.begun (s.bases b) (λ i. in_world s (pass_case flow.model i (integer_in base) value s.world)) (λ i en.
+  pub case_sound : (value : ℤ) (b : ℕ) → IsCaseObject flow b → IsStoodFor l n gamma flow (refine_case l n flow b value row) no_violations (matching (flow_view flow) s value (Some b))
+  case_sound value b t = if_some_good l n gamma flow (refine_case l n flow b value row) no_violations s r.begun (slice_get flow.bases.items b) (λ base. with_instance s b (λ i. in_world s (pass_case flow.model i (integer_in base) value s.world))) (λ base e.
+      if_some_good l n gamma flow (refine_case l n flow b value row) no_violations s r.begun (s.bases b) (λ i. in_world s (pass_case flow.model i (integer_in base) value s.world)) (λ i en.
       let same : base ≡ t.scalar.info = sym (same_Some t.scalar.info base (sym t.scalar.is ∙ e)) in
       let bytes : base.size ≡ t.kind.bytes = ap (λ z. z.size) same ∙ (t.scalar.size ∙ sym t.scalar.bytes) in
       let signed : first_signed base.shape.cells ≡ t.kind.signed = ap (λ z. first_signed z.shape.cells) same ∙ (ap first_signed t.scalar.cells ∙ t.scalar.signed) in
-      subst (λ z. IsStoodFor l n stands flow (refine_case l n flow b value row) no_violations (in_world s z)) (sym (same_case i value s.world (integer_in base) t.kind bytes signed))
+      subst (λ z. IsStoodFor l n gamma flow (refine_case l n flow b value row) no_violations (in_world s z)) (sym (same_case i value s.world (integer_in base) t.kind bytes signed))
       (case_good o q flow p naming row s r b i t.kind t.scalar en value)))

@@ -21,10 +21,10 @@ use Rattle.transfer_sound.specs.Tests.ScalarObjects.{IsIntegerTest}
 use Rattle.transfer_sound.proofs.tests.TestSides.{side_good, sides_good}
 use Rattle.transfer_sound.proofs.tests.SameObject.{same_object_good}
 
-module _ {I : Type 0} {l : LatticeOf I} {n : IntegersOf I} {stands : I → ℤ → Type 0} (o : OrderLaws l) (q : BoundLaws l n stands) (c : SoundLaws l n stands) (flow : Flow) (p : HasPremises flow) (naming : Naming) (row : List (Cell I)) (s : Standing) (r : IsReached l n stands flow naming row s) where
-  pub test_sound : (test : Test) → IsIntegerTest flow test → IsStoodFor l n stands flow (refine l n flow test row) no_violations (testing (flow_view flow) s (Some test))
+module _ {I : Type 0} {l : LatticeOf I} {n : IntegersOf I} {gamma : I → ℤ → Type 0} (o : OrderLaws l) (q : BoundLaws l n gamma) (c : SoundLaws l n gamma) (flow : Flow) (p : HasPremises flow) (naming : Naming) (row : List (Cell I)) (s : Standing) (r : IsReached l n gamma flow naming row s) where
+  pub test_sound : (test : Test) → IsIntegerTest flow test → IsStoodFor l n gamma flow (refine l n flow test row) no_violations (testing (flow_view flow) s (Some test))
   unfolding refine
-  test_sound test t = subst (λ z. IsStoodFor l n stands flow (refine_in l n flow test z row) no_violations (with_side s test.left (λ left. with_side s test.right (λ right. in_world s (machine.pass_test flow.model (record { left = left; rel = test.rel; right = right; common = z }) s.world))))) (sym t.is)
+  test_sound test t = subst (λ z. IsStoodFor l n gamma flow (refine_in l n flow test z row) no_violations (with_side s test.left (λ left. with_side s test.right (λ right. in_world s (machine.pass_test flow.model (record { left = left; rel = test.rel; right = right; common = z }) s.world))))) (sym t.is)
       (elim (cases_Bool (is_same_object test.left test.right)) [
         | inl same ↦ same_object_good o q c flow p naming row s r test t.common t.size test.left test.right same t.left t.right
         | inr apart ↦ side_good flow s r.begun (refine_in l n flow test (Some t.common) row) test.left t.left _ (λ i left.

@@ -39,9 +39,9 @@ use Rattle.memory_model.specs.Effects.Worlds.{World, Stuck, with_memory}
 use Rattle.semantics.specs.CfgMachine.FlowStates.{Standing}
 use Rattle.semantics.specs.CfgMachine.FlowEdges.{with_side, in_world, testing}
 use Rattle.lower_templates.specs.Views.ProgramViews.{flow_view}
-use Rattle.store_sound.specs.Concretization.ValueMeaning.{Naming, StandsByLife, StandsPointer, StandsContent, StandsZero}
+use Rattle.store_sound.specs.Concretization.ValueMeaning.{Naming, InGammaByLife, InGammaPointer, InGammaContent, InGammaZero}
 use Rattle.store_sound.specs.Concretization.SoundMemory.{IsContentIn, IsPointerIn}
-use Rattle.store_sound.specs.Concretization.RowMeaning.{StandsLeaf, StandsFor, array_bytes}
+use Rattle.store_sound.specs.Concretization.RowMeaning.{InGammaLeaf, InGamma, array_bytes}
 use Rattle.store_sound.specs.Concretization.Coverage.{state_of}
 use Rattle.store_sound.proofs.operations.CellReads.{scalar_pointer_is}
 use Rattle.store_sound.proofs.operations.Only.{cell_put}
@@ -49,7 +49,7 @@ use Rattle.store_sound.proofs.operations.Slices.{get_there, get_map, get_take, g
 use Rattle.store_sound.proofs.operations.StoreRows.{leaf_is, zero_is}
 use Rattle.store_sound.proofs.operations.StoreValues.{same_zero}
 use Rattle.store_sound.specs.Programs.Premises.{HasPremises}
-use Rattle.transfer_sound.specs.Values.SoundSteps.{IsReached, StandsBehind, IsStoodFor}
+use Rattle.transfer_sound.specs.Values.SoundSteps.{IsReached, InGammaAfter, IsStoodFor}
 use Rattle.transfer_sound.proofs.values.Admitted.{none_admitted, same_admitted}
 use Rattle.transfer_sound.proofs.values.NearScalars.{near_pointer_stands}
 use Rattle.transfer_sound.proofs.values.PartSteps.{declared_storage}
@@ -116,21 +116,21 @@ read_as (part y j ∷ cs) x h k c e = all_parts y (part y j ∷ cs) x (λ g. tru
 
 -- ---- what the value is refined to
 
-module _ {I : Type 0} (l : LatticeOf I) (n : IntegersOf I) (stands : I → ℤ → Type 0) (naming : Naming) (memory : Memory) where
-  not_null_by : (v : Pointers I) (life : Life) (i offset lo hi : ℕ) → StandsByLife stands naming memory v life i offset lo hi → StandsByLife stands naming memory (not_null v) life i offset lo hi
+module _ {I : Type 0} (l : LatticeOf I) (n : IntegersOf I) (gamma : I → ℤ → Type 0) (naming : Naming) (memory : Memory) where
+  not_null_by : (v : Pointers I) (life : Life) (i offset lo hi : ℕ) → InGammaByLife gamma naming memory v life i offset lo hi → InGammaByLife gamma naming memory (not_null v) life i offset lo hi
   not_null_by v live i offset lo hi s = record { base = s.base; named = s.named; among = s.among; lower = s.lower; relative = s.relative; room = s.room; whole = s.whole }
   not_null_by v ended i offset lo hi s = s
   not_null_by v freed i offset lo hi s = record { base = s.base; named = s.named; among = s.among; lower = s.lower; relative = s.relative; room = s.room; whole = s.whole }
 
-  refined_content : (near_stands : (v : Pointers I) (x : MachinePointer) → IsPointerIn memory x → StandsPointer stands naming memory v x → StandsPointer stands naming memory (near_pointer l n v) x)
-      (rel : Rel) (x : MachinePointer) → pointers_hold rel x null ≡ true → (v : values.Value I) (class : Class) (c : Content) (tag : _) → IsReadAs x c → IsContentIn memory c tag → StandsContent stands naming memory v class c → StandsContent stands naming memory (near_value l n (tested_value l v rel)) class c
+  refined_content : (near_stands : (v : Pointers I) (x : MachinePointer) → IsPointerIn memory x → InGammaPointer gamma naming memory v x → InGammaPointer gamma naming memory (near_pointer l n v) x)
+      (rel : Rel) (x : MachinePointer) → pointers_hold rel x null ≡ true → (v : values.Value I) (class : Class) (c : Content) (tag : _) → IsReadAs x c → IsContentIn memory c tag → InGammaContent gamma naming memory v class c → InGammaContent gamma naming memory (near_value l n (tested_value l v rel)) class c
   refined_content near_stands Eq null h v class c tag as_it inside s =
-      let was = subst (StandsContent stands naming memory v class) as_it.1 s in
-      subst (StandsContent stands naming memory (near_value l n (tested_value l v Eq)) class) (sym as_it.1) (was.0, was.1)
+      let was = subst (InGammaContent gamma naming memory v class) as_it.1 s in
+      subst (InGammaContent gamma naming memory (near_value l n (tested_value l v Eq)) class) (sym as_it.1) (was.0, was.1)
   refined_content near_stands Ne (into i offset lo hi) h v class c tag as_it inside s =
-      let was = subst (StandsContent stands naming memory v class) as_it.1 s in
+      let was = subst (InGammaContent gamma naming memory v class) as_it.1 s in
       let within = subst (λ z. IsContentIn memory z tag) as_it.1 inside in
-      subst (StandsContent stands naming memory (near_value l n (tested_value l v Ne)) class) (sym as_it.1) (near_stands (not_null v.pointer) (into i offset lo hi) within.0 (not_null_by v.pointer (life_at memory i) i offset lo hi was))
+      subst (InGammaContent gamma naming memory (near_value l n (tested_value l v Ne)) class) (sym as_it.1) (near_stands (not_null v.pointer) (into i offset lo hi) within.0 (not_null_by v.pointer (life_at memory i) i offset lo hi was))
   refined_content near_stands Eq (into i offset lo hi) h v class c tag as_it inside s = absurd (true≢false (sym h))
   refined_content near_stands Ne null h v class c tag as_it inside s = absurd (true≢false (sym h))
   refined_content near_stands Lt x h v class c tag as_it inside s = absurd (true≢false (sym h))
@@ -140,7 +140,7 @@ module _ {I : Type 0} (l : LatticeOf I) (n : IntegersOf I) (stands : I → ℤ �
 
 -- ---- the object
 
-module _ {I : Type 0} {l : LatticeOf I} {n : IntegersOf I} {stands : I → ℤ → Type 0} (q : BoundLaws l n stands) (flow : Flow) (p : HasPremises flow) (naming : Naming) (row : List (Cell I)) (s : Standing) (r : IsReached l n stands flow naming row s)
+module _ {I : Type 0} {l : LatticeOf I} {n : IntegersOf I} {gamma : I → ℤ → Type 0} (q : BoundLaws l n gamma) (flow : Flow) (p : HasPremises flow) (naming : Naming) (row : List (Cell I)) (s : Standing) (r : IsReached l n gamma flow naming row s)
     (b i : ℕ) (t : IsScalarObject flow b of.Pointer) (en : s.bases b ≡ Some i) (rel : Rel) where
   abbrev memory : Memory
   memory = s.world.memory
@@ -211,36 +211,36 @@ module _ {I : Type 0} {l : LatticeOf I} {n : IntegersOf I} {stands : I → ℤ �
         let equal : back.0 ≡ y = same_Some back.0 y (sym found.1 ∙ e) in
         subst (λ z. IsReadAs x z.content) equal (subst (IsReadAs x) (sym back.2) (read_as cs x read o there.0 there.1))
 
-    near_stands : (w : Pointers I) (z : MachinePointer) → IsPointerIn memory z → StandsPointer stands naming memory w z → StandsPointer stands naming memory (near_pointer l n w) z
+    near_stands : (w : Pointers I) (z : MachinePointer) → IsPointerIn memory z → InGammaPointer gamma naming memory w z → InGammaPointer gamma naming memory (near_pointer l n w) z
     near_stands w z inside h = near_pointer_stands q flow.model flow.bases.items naming memory r.stands_for.sane w z inside h
 
-    own_cell : StandsLeaf stands flow naming memory b t.leaf (near_value l n (tested_value l v rel))
+    own_cell : InGammaLeaf gamma flow naming memory b t.leaf (near_value l n (tested_value l v rel))
     own_cell = record {
       whole = λ k o ms h place plain held. absurd (true≢false (sym (ap is_pointer t.class) ∙ plain));
       byte = λ k o j content h owns y.
           let own = own_instance flow p naming row (state_of s) r.stands_for b i t.info t.is named alive declared (not_older flow b of.Pointer t) (stays_rewrite memory i) k h in
           let one : Byte = record { content = content; tag = y.tag } in
           let here : byte_at memory i o ≡ Some one = subst (λ u. byte_at memory u o ≡ Some one) own y.here in
-          refined_content l n stands naming memory near_stands rel x hold v t.leaf.class content y.tag (byte_as o one here) (r.stands_for.sane.bytes i o one here) (byte_stands q flow p naming row r.long (state_of s) r.stands_for b i of.Pointer t named alive o one here);
+          refined_content l n gamma naming memory near_stands rel x hold v t.leaf.class content y.tag (byte_as o one here) (r.stands_for.sane.bytes i o one here) (byte_stands q flow p naming row r.long (state_of s) r.stands_for b i of.Pointer t named alive o one here);
     }
 
-    own_leaves : (j : ℕ) (leaf : Leaf) → slice_get t.info.shape.cells j ≡ Some leaf → StandsLeaf stands flow naming memory b leaf (value_at l n after (leaf_position t.info j))
+    own_leaves : (j : ℕ) (leaf : Leaf) → slice_get t.info.shape.cells j ≡ Some leaf → InGammaLeaf gamma flow naming memory b leaf (value_at l n after (leaf_position t.info j))
     own_leaves j leaf e = by_index j (sym (ap (λ z. slice_get z j) t.cells) ∙ e)
       where
-        by_index : (j : ℕ) → slice_get (t.leaf ∷ []) j ≡ Some leaf → StandsLeaf stands flow naming memory b leaf (value_at l n after (leaf_position t.info j))
-        by_index zero f = subst (λ z. StandsLeaf stands flow naming memory b z (value_at l n after place)) (same_Some t.leaf leaf f) (subst (StandsLeaf stands flow naming memory b t.leaf) (sym own_value) own_cell)
+        by_index : (j : ℕ) → slice_get (t.leaf ∷ []) j ≡ Some leaf → InGammaLeaf gamma flow naming memory b leaf (value_at l n after (leaf_position t.info j))
+        by_index zero f = subst (λ z. InGammaLeaf gamma flow naming memory b z (value_at l n after place)) (same_Some t.leaf leaf f) (subst (InGammaLeaf gamma flow naming memory b t.leaf) (sym own_value) own_cell)
         by_index (suc j) f = cc
 
-    own_zeros : (z : ℕ) (zeros : ZeroPart) → slice_get t.info.shape.zeros z ≡ Some zeros → StandsZero stands naming memory (zero_at l n after (zero_position t.info z)) (array_bytes zeros (bytes_at memory i))
+    own_zeros : (z : ℕ) (zeros : ZeroPart) → slice_get t.info.shape.zeros z ≡ Some zeros → InGammaZero gamma naming memory (zero_at l n after (zero_position t.info z)) (array_bytes zeros (bytes_at memory i))
     own_zeros z zeros e =
         let small = slice_get_within t.info.shape.zeros z zeros e in
         let g = zero_is t.info z fits (omega (arith, small)) in
         let c = one_cell in
         let d = place_is in
         let same = same_zero l n row after (zero_position t.info z) (keeps (zero_position t.info z) (λ f. omega (arith, f, g, c, d))) in
-        subst (λ y. StandsZero stands naming memory y (array_bytes zeros (bytes_at memory i))) (sym same) (r.stands_for.zeros b z i t.info zeros t.is e (record { named = named; alive = alive }))
+        subst (λ y. InGammaZero gamma naming memory y (array_bytes zeros (bytes_at memory i))) (sym same) (r.stands_for.zeros b z i t.info zeros t.is e (record { named = named; alive = alive }))
 
-    refined_row : StandsFor l n stands flow naming after (state_of s)
+    refined_row : InGamma l n gamma flow naming after (state_of s)
     refined_row = object_stands flow p naming row (state_of s) r.stands_for b i t.info t.is named alive declared (not_older flow b of.Pointer t) (stays_rewrite memory i) r.stands_for.sane after outside own_leaves own_zeros
 
   -- ---- the test
@@ -258,8 +258,8 @@ module _ {I : Type 0} {l : LatticeOf I} {n : IntegersOf I} {stands : I → ℤ �
   abbrev this : SideTest
   this = record { left = object i of.Pointer; rel = rel; right = nothing; common = None }
 
-  null_good : (goal : Option (List (Cell I))) → goal ≡ Some after → (c : Bool) → test_holds flow.model memory this ≡ c → IsStoodFor l n stands flow goal no_violations (in_world s (passing c (with_memory s.world memory)))
-  null_good goal is false e = clean_stop_good l n stands flow goal no_violations Stuck (with_memory s.world memory) r.begun
+  null_good : (goal : Option (List (Cell I))) → goal ≡ Some after → (c : Bool) → test_holds flow.model memory this ≡ c → IsStoodFor l n gamma flow goal no_violations (in_world s (passing c (with_memory s.world memory)))
+  null_good goal is false e = clean_stop_good l n gamma flow goal no_violations Stuck (with_memory s.world memory) r.begun
   null_good goal is true e =
       let k = is_held (side_scalar flow.model memory (object i of.Pointer)) e in
       record {
@@ -268,18 +268,18 @@ module _ {I : Type 0} {l : LatticeOf I} {n : IntegersOf I} {stands : I → ℤ �
             let now : Standing = record s { world = new } in
             let a : now ≡ y = cc in
             let d : new ≡ u = cc in
-            let there : StandsBehind l n stands flow goal (record now { world = new }) = record { row = after; is = is; long = length-set row place (Value (tested_value l v rel)) ∙ r.long; naming = naming; stands_for = refined_row k.at k.is k.hold; short = r.short } in
-            subst (λ z. StandsBehind l n stands flow goal (record z { world = u })) a (subst (λ z. StandsBehind l n stands flow goal (record now { world = z })) d there);
+            let there : InGammaAfter l n gamma flow goal (record now { world = new }) = record { row = after; is = is; long = length-set row place (Value (tested_value l v rel)) ∙ r.long; naming = naming; stands_for = refined_row k.at k.is k.hold; short = r.short } in
+            subst (λ z. InGammaAfter l n gamma flow goal (record z { world = u })) a (subst (λ z. InGammaAfter l n gamma flow goal (record now { world = z })) d there);
         admits = same_admitted no_violations s.world.violated [] r.begun (none_admitted no_violations);
       }
 
-module _ {I : Type 0} {l : LatticeOf I} {n : IntegersOf I} {stands : I → ℤ → Type 0} (q : BoundLaws l n stands) (flow : Flow) (p : HasPremises flow) (naming : Naming) (row : List (Cell I)) (s : Standing) (r : IsReached l n stands flow naming row s) where
-  pub null_test_sound : (test : Test) → IsNullTest flow test → IsStoodFor l n stands flow (refine l n flow test row) no_violations (testing (flow_view flow) s (Some test))
+module _ {I : Type 0} {l : LatticeOf I} {n : IntegersOf I} {gamma : I → ℤ → Type 0} (q : BoundLaws l n gamma) (flow : Flow) (p : HasPremises flow) (naming : Naming) (row : List (Cell I)) (s : Standing) (r : IsReached l n gamma flow naming row s) where
+  pub null_test_sound : (test : Test) → IsNullTest flow test → IsStoodFor l n gamma flow (refine l n flow test row) no_violations (testing (flow_view flow) s (Some test))
   unfolding refine refine_named refine_pointer
   null_test_sound test t =
       let goal : Option (List (Cell I)) = Some (refine_named l n flow (named_by (side.Object t.base of.Pointer) side.Null) test.rel row) in
-      subst (λ z. IsStoodFor l n stands flow (refine_in l n flow test z row) no_violations (with_side s test.left (λ left. with_side s test.right (λ right. in_world s (machine.pass_test flow.model (record { left = left; rel = test.rel; right = right; common = z }) s.world))))) (sym t.is)
-      (subst (λ z. IsStoodFor l n stands flow (Some (refine_named l n flow (named_by z test.right) test.rel row)) no_violations (with_side s z (λ left. with_side s test.right (λ right. in_world s (machine.pass_test flow.model (record { left = left; rel = test.rel; right = right; common = None }) s.world))))) (sym t.left)
-      (subst (λ z. IsStoodFor l n stands flow (Some (refine_named l n flow (named_by (side.Object t.base of.Pointer) z) test.rel row)) no_violations (with_side s (side.Object t.base of.Pointer) (λ left. with_side s z (λ right. in_world s (machine.pass_test flow.model (record { left = left; rel = test.rel; right = right; common = None }) s.world))))) (sym t.right)
-      (if_some_good l n stands flow goal no_violations s r.begun (s.bases t.base) (λ i. in_world s (machine.pass_test flow.model (record { left = object i of.Pointer; rel = test.rel; right = nothing; common = None }) s.world)) (λ i en.
+      subst (λ z. IsStoodFor l n gamma flow (refine_in l n flow test z row) no_violations (with_side s test.left (λ left. with_side s test.right (λ right. in_world s (machine.pass_test flow.model (record { left = left; rel = test.rel; right = right; common = z }) s.world))))) (sym t.is)
+      (subst (λ z. IsStoodFor l n gamma flow (Some (refine_named l n flow (named_by z test.right) test.rel row)) no_violations (with_side s z (λ left. with_side s test.right (λ right. in_world s (machine.pass_test flow.model (record { left = left; rel = test.rel; right = right; common = None }) s.world))))) (sym t.left)
+      (subst (λ z. IsStoodFor l n gamma flow (Some (refine_named l n flow (named_by (side.Object t.base of.Pointer) z) test.rel row)) no_violations (with_side s (side.Object t.base of.Pointer) (λ left. with_side s z (λ right. in_world s (machine.pass_test flow.model (record { left = left; rel = test.rel; right = right; common = None }) s.world))))) (sym t.right)
+      (if_some_good l n gamma flow goal no_violations s r.begun (s.bases t.base) (λ i. in_world s (machine.pass_test flow.model (record { left = object i of.Pointer; rel = test.rel; right = nothing; common = None }) s.world)) (λ i en.
       null_good q flow p naming row s r t.base i t.object en test.rel goal (ap (λ z. Some (refine_pointer_at l n (position_of z) test.rel row)) t.object.is) (test_holds flow.model s.world.memory (record { left = object i of.Pointer; rel = test.rel; right = nothing; common = None })) refl))))

@@ -42,12 +42,12 @@ use Rattle.semantics.specs.CfgMachine.FlowStates.{Standing}
 use Rattle.semantics.specs.CfgMachine.FlowEdges.{with_side, in_world}
 use Rattle.store_sound.specs.Concretization.Coverage.{state_of}
 use Rattle.store_sound.specs.Concretization.ValueMeaning.{Naming}
-use Rattle.store_sound.specs.Concretization.RowMeaning.{StandsFor}
+use Rattle.store_sound.specs.Concretization.RowMeaning.{InGamma}
 use Rattle.store_sound.specs.Concretization.SeenLabels.{as_set}
 use Rattle.store_sound.specs.Operations.Scalars.{signed_in}
 use Rattle.store_sound.proofs.operations.LoadSound.{instance_there}
 use Rattle.store_sound.specs.Programs.Premises.{HasPremises}
-use Rattle.transfer_sound.specs.Values.SoundSteps.{IsReached, StandsBehind, IsStoodFor}
+use Rattle.transfer_sound.specs.Values.SoundSteps.{IsReached, InGammaAfter, IsStoodFor}
 use Rattle.transfer_sound.proofs.values.Admitted.{none_admitted, same_admitted}
 use Rattle.transfer_sound.proofs.values.MoveSteps.{near_has}
 use Rattle.transfer_sound.proofs.values.NearScalars.{IsNearNumber}
@@ -70,7 +70,7 @@ common_above s x y h k = both_below s.lo s.hi s.mutated x.lo x.hi x.mutated y.lo
 first_is : (a b : Leaf) → (a ∷ []) ≡ (b ∷ []) → a ≡ b
 first_is a b e = cc
 
-module _ {I : Type 0} {l : LatticeOf I} {n : IntegersOf I} {stands : I → ℤ → Type 0} (o : OrderLaws l) (q : BoundLaws l n stands) (c : SoundLaws l n stands) (flow : Flow) (p : HasPremises flow) (naming : Naming) (row : List (Cell I)) (s : Standing) (r : IsReached l n stands flow naming row s)
+module _ {I : Type 0} {l : LatticeOf I} {n : IntegersOf I} {gamma : I → ℤ → Type 0} (o : OrderLaws l) (q : BoundLaws l n gamma) (c : SoundLaws l n gamma) (flow : Flow) (p : HasPremises flow) (naming : Naming) (row : List (Cell I)) (s : Standing) (r : IsReached l n gamma flow naming row s)
     (rel : Rel) (k : IntType) (size : is_size k.bytes ≡ true) (b i : ℕ) (kl kr : declared.Scalar) (left : IsScalarObject flow b kl) (right : IsScalarObject flow b kr) (en : s.bases b ≡ Some i) where
   abbrev memory : Memory
   memory = s.world.memory
@@ -153,25 +153,25 @@ module _ {I : Type 0} {l : LatticeOf I} {n : IntegersOf I} {stands : I → ℤ �
     plain_class : is_pointer left.leaf.class ≡ false
     plain_class = ap is_pointer left.class ∙ read.plain
 
-    left_has : HasSide stands flow memory v (object i kl) both.a
-    left_has = subst (λ z. HasSide stands flow memory z (object i kl) both.a) value_is (object_has o q flow p naming s.temps s.bases row r.long memory r.stands_for b i kl left en both.a both.la both.left)
+    left_has : HasSide gamma flow memory v (object i kl) both.a
+    left_has = subst (λ z. HasSide gamma flow memory z (object i kl) both.a) value_is (object_has o q flow p naming s.temps s.bases row r.long memory r.stands_for b i kl left en both.a both.la both.left)
 
-    right_has : HasSide stands flow memory v (object i kr) both.b
-    right_has = subst (λ z. HasSide stands flow memory z (object i kr) both.b) value_is (object_has o q flow p naming s.temps s.bases row r.long memory r.stands_for b i kr right en both.b both.lb both.right)
+    right_has : HasSide gamma flow memory v (object i kr) both.b
+    right_has = subst (λ z. HasSide gamma flow memory z (object i kr) both.b) value_is (object_has o q flow p naming s.temps s.bases row r.long memory r.stands_for b i kr right en both.b both.lb both.right)
 
-    left_known : stands new_left.num a
+    left_known : gamma new_left.num a
     left_known = refined_stands q c rel k size v v both.a both.b left_has.number right_has.number both.hold
 
-    right_known : stands new_right.num a
+    right_known : gamma new_right.num a
     right_known =
         let turned : holds (mirrored rel) (wrap_into k both.b) (wrap_into k both.a) ≡ true = mirrored_holds rel (wrap_into k both.a) (wrap_into k both.b) ∙ both.hold in
-        subst (stands new_right.num) (sym same_number) (refined_stands q c (mirrored rel) k size v v both.b both.a right_has.number left_has.number turned)
+        subst (gamma new_right.num) (sym same_number) (refined_stands q c (mirrored rel) k size v v both.b both.a right_has.number left_has.number turned)
 
-    known_number : stands known.num a
+    known_number : gamma known.num a
     known_number =
         let inside = q.inside new_right.num a right_known in
         let reached = of_range_stands q (range_met (n.bounds new_left.num) inside.0 inside.1) a (met_has (n.bounds new_left.num) inside.0 inside.1 a (bounds_have q new_left.num a left_known) inside.3 inside.4) in
-        subst (λ z. stands (met_number l n new_left.num z) a) (sym inside.2) reached
+        subst (λ z. gamma (met_number l n new_left.num z) a) (sym inside.2) reached
 
     -- ---- the labels behind the test
 
@@ -213,7 +213,7 @@ module _ {I : Type 0} {l : LatticeOf I} {n : IntegersOf I} {stands : I → ℤ �
     unfolding value_at
     is_near = near_has q _ a left_has.number
 
-    behind : StandsFor l n stands flow naming (put_value row here known) (record { memory = after; temps = s.temps; entered = s.bases })
+    behind : InGamma l n gamma flow naming (put_value row here known) (record { memory = after; temps = s.temps; entered = s.bases })
     behind =
         let numbers = object_numbers q flow p naming row r.long (state_of s) r.stands_for b i kl left named alive read.ns read.are in
         relabelled_stands q flow p naming row r.long (state_of s) r.stands_for b i kl left named alive relabels.rewrite (λ s. side_change (is_unlabelled left_labels) (machine.turned rel) k (side_change (is_unlabelled right_labels) rel k s)) relabels.each plain_class known.num known.labels a read.ns numbers.few number_is numbers.at_bytes is_near known_number labels_known
@@ -223,7 +223,7 @@ module _ {I : Type 0} {l : LatticeOf I} {n : IntegersOf I} {stands : I → ℤ �
 
 -- ---- the test
 
-module _ {I : Type 0} {l : LatticeOf I} {n : IntegersOf I} {stands : I → ℤ → Type 0} (o : OrderLaws l) (q : BoundLaws l n stands) (c : SoundLaws l n stands) (flow : Flow) (p : HasPremises flow) (naming : Naming) (row : List (Cell I)) (s : Standing) (r : IsReached l n stands flow naming row s)
+module _ {I : Type 0} {l : LatticeOf I} {n : IntegersOf I} {gamma : I → ℤ → Type 0} (o : OrderLaws l) (q : BoundLaws l n gamma) (c : SoundLaws l n gamma) (flow : Flow) (p : HasPremises flow) (naming : Naming) (row : List (Cell I)) (s : Standing) (r : IsReached l n gamma flow naming row s)
     (test : Test) (k : IntType) (size : is_size k.bytes ≡ true) where
   abbrev with_sides : Side → Side → Test
   with_sides x y = record test { left = x; right = y }
@@ -257,15 +257,15 @@ module _ {I : Type 0} {l : LatticeOf I} {n : IntegersOf I} {stands : I → ℤ �
         let one : (b == b) ≡ true = eq-eqb b b refl in
         rw (left.is, one) (ap (λ z. cond z (Some row_behind) None) some)
 
-    by_truth : (t : Bool) → test_holds flow.model s.world.memory same_sides ≡ t → IsStoodFor l n stands flow (refined_row (side.Object b kl) (side.Object b kr)) no_violations (in_world s (passing t (with_memory s.world after_same)))
-    by_truth false e = clean_stop_good l n stands flow (refined_row (side.Object b kl) (side.Object b kr)) no_violations Stuck (with_memory s.world after_same) r.begun
+    by_truth : (t : Bool) → test_holds flow.model s.world.memory same_sides ≡ t → IsStoodFor l n gamma flow (refined_row (side.Object b kl) (side.Object b kr)) no_violations (in_world s (passing t (with_memory s.world after_same)))
+    by_truth false e = clean_stop_good l n gamma flow (refined_row (side.Object b kl) (side.Object b kr)) no_violations Stuck (with_memory s.world after_same) r.begun
     by_truth true e = record {
       goes_on = λ t u f.
           let new : World = with_memory s.world after_same in
           let now : Standing = record s { world = new } in
           let a : now ≡ t = cc in
           let d : new ≡ u = cc in
-          let here : StandsBehind l n stands flow (refined_row (side.Object b kl) (side.Object b kr)) (record now { world = new }) = record {
+          let here : InGammaAfter l n gamma flow (refined_row (side.Object b kl) (side.Object b kr)) (record now { world = new }) = record {
             row = row_behind;
             is = row_is e;
             long = behind_long o q c flow p naming row s r test.rel k size b i kl kr left right en e;
@@ -273,22 +273,22 @@ module _ {I : Type 0} {l : LatticeOf I} {n : IntegersOf I} {stands : I → ℤ �
             stands_for = behind o q c flow p naming row s r test.rel k size b i kl kr left right en e;
             short = λ z. subst (λ x. pos x ≤ℤ greatest_of (kind_of flow.model Pointer true)) (sym ((relabels o q c flow p naming row s r test.rel k size b i kl kr left right en e).rewrite.alike.lengths z)) (r.short z);
           } in
-          subst (λ z. StandsBehind l n stands flow (refined_row (side.Object b kl) (side.Object b kr)) (record z { world = u })) a (subst (λ z. StandsBehind l n stands flow (refined_row (side.Object b kl) (side.Object b kr)) (record now { world = z })) d here);
+          subst (λ z. InGammaAfter l n gamma flow (refined_row (side.Object b kl) (side.Object b kr)) (record z { world = u })) a (subst (λ z. InGammaAfter l n gamma flow (refined_row (side.Object b kl) (side.Object b kr)) (record now { world = z })) d here);
       admits = same_admitted no_violations s.world.violated [] r.begun (none_admitted no_violations);
     }
 
-    one_good : IsStoodFor l n stands flow (refined_row (side.Object b kl) (side.Object b kr)) no_violations (behind_test (object i kl) (object i kr))
+    one_good : IsStoodFor l n gamma flow (refined_row (side.Object b kl) (side.Object b kr)) no_violations (behind_test (object i kl) (object i kr))
     one_good = by_truth (test_holds flow.model s.world.memory same_sides) refl
 
-  pub same_object_good : (x y : Side) → is_same_object x y ≡ true → NamesScalar flow x → NamesScalar flow y → IsStoodFor l n stands flow (refined_row x y) no_violations (with_side s x (λ left. with_side s y (λ right. behind_test left right)))
+  pub same_object_good : (x y : Side) → is_same_object x y ≡ true → NamesScalar flow x → NamesScalar flow y → IsStoodFor l n gamma flow (refined_row x y) no_violations (with_side s x (λ left. with_side s y (λ right. behind_test left right)))
   same_object_good (side.Number z) y h f g = absurd (true≢false (sym h))
   same_object_good side.Null y h f g = absurd (true≢false (sym h))
   same_object_good (side.Object b kl) (side.Number z) h f g = absurd (true≢false (sym h))
   same_object_good (side.Object b kl) side.Null h f g = absurd (true≢false (sym h))
   same_object_good (side.Object b kl) (side.Object d kr) h f g =
       let e : b ≡ d = eqb-true b d h in
-      subst (λ z. NamesScalar flow (side.Object z kr) → IsStoodFor l n stands flow (refined_row (side.Object b kl) (side.Object z kr)) no_violations (with_side s (side.Object b kl) (λ left. with_side s (side.Object z kr) (λ right. behind_test left right)))) e
+      subst (λ z. NamesScalar flow (side.Object z kr) → IsStoodFor l n gamma flow (refined_row (side.Object b kl) (side.Object z kr)) no_violations (with_side s (side.Object b kl) (λ left. with_side s (side.Object z kr) (λ right. behind_test left right)))) e
       (λ right. side_good flow s r.begun (refined_row (side.Object b kl) (side.Object b kr)) (side.Object b kl) f (λ x. with_side s (side.Object b kr) (λ y. behind_test x y)) (λ i one.
       side_good flow s r.begun (refined_row (side.Object b kl) (side.Object b kr)) (side.Object b kr) right (λ y. behind_test (object i kl) y) (λ j two.
       let same : i ≡ j = same_Some i j (sym one.1 ∙ two.1) in
-      subst (λ z. IsStoodFor l n stands flow (refined_row (side.Object b kl) (side.Object b kr)) no_violations (behind_test (object i kl) (object z kr))) same (one_good b i kl kr one.0 two.0 one.1)))) g
+      subst (λ z. IsStoodFor l n gamma flow (refined_row (side.Object b kl) (side.Object b kr)) no_violations (behind_test (object i kl) (object z kr))) same (one_good b i kl kr one.0 two.0 one.1)))) g

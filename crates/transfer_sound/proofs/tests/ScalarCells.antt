@@ -33,9 +33,9 @@ use Rattle.store_sound.specs.Concretization.FirstZeroBytes.{seen_as, first_zero}
 use Rattle.store_sound.specs.Concretization.Matching.{Fits, Matched, number_in, Holds}
 use Rattle.store_sound.specs.Concretization.Places.{IsPlaceOf, OwnedByLeaf}
 use Rattle.store_sound.specs.Concretization.SeenLabels.{as_set}
-use Rattle.store_sound.specs.Concretization.ValueMeaning.{Naming, StandsContent, StandsZero}
+use Rattle.store_sound.specs.Concretization.ValueMeaning.{Naming, InGammaContent, InGammaZero}
 use Rattle.store_sound.specs.Concretization.SoundMemory.{IsContentIn, IsContentNamed}
-use Rattle.store_sound.specs.Concretization.RowMeaning.{MachineState, StandsLeaf, StandsFor, array_of, array_bytes}
+use Rattle.store_sound.specs.Concretization.RowMeaning.{MachineState, InGammaLeaf, InGamma, array_of, array_bytes}
 use Rattle.store_sound.proofs.operations.Frames.{pointer_moves, pointer_in_moves}
 use Rattle.store_sound.proofs.operations.LoadSound.{instance_there}
 use Rattle.store_sound.proofs.operations.Only.{cell_put}
@@ -120,7 +120,7 @@ single_leaf leaf other (suc k) e = cc
 pub not_older : (flow : Flow) (b : ℕ) (kind : _) (t : IsScalarObject flow b kind) → t.info.kind ≡ Older → ⊥
 not_older flow b kind t e = true≢false (sym t.declared ∙ ap (λ z. is_declared (Some z)) e)
 
-module _ {I : Type 0} {l : LatticeOf I} {n : IntegersOf I} {stands : I → ℤ → Type 0} (q : BoundLaws l n stands) (flow : Flow) (p : HasPremises flow) (naming : Naming) (row : List (Cell I)) (long : length row ≡ flow.width) (state : MachineState) (s : StandsFor l n stands flow naming row state)
+module _ {I : Type 0} {l : LatticeOf I} {n : IntegersOf I} {gamma : I → ℤ → Type 0} (q : BoundLaws l n gamma) (flow : Flow) (p : HasPremises flow) (naming : Naming) (row : List (Cell I)) (long : length row ≡ flow.width) (state : MachineState) (s : InGamma l n gamma flow naming row state)
     (b i : ℕ) (kind : _) (t : IsScalarObject flow b kind) (named : naming i ≡ Some b) (alive : life_at state.memory i ≡ live) where
   abbrev position : ℕ
   position = leaf_position t.info 0
@@ -134,7 +134,7 @@ module _ {I : Type 0} {l : LatticeOf I} {n : IntegersOf I} {stands : I → ℤ �
   leaf_there : slice_get t.info.shape.cells 0 ≡ Some t.leaf
   leaf_there = ap (λ z. slice_get z 0) t.cells
 
-  cell : StandsLeaf stands flow naming state.memory b t.leaf cell_value
+  cell : InGammaLeaf gamma flow naming state.memory b t.leaf cell_value
   cell = s.leaves b 0 t.info t.leaf t.is leaf_there
 
   pub size_is : length (bytes_at state.memory i) ≡ class_bytes flow.model t.leaf.class
@@ -178,14 +178,14 @@ module _ {I : Type 0} {l : LatticeOf I} {n : IntegersOf I} {stands : I → ℤ �
           let own = subst (λ z. OwnedByLeaf flow.model z o tg.at) (sym one) g.owned in
           (g.class ∙ ap (λ z. z.class) (sym one), sym (owned_at o tg.at own))
 
-  pub byte_stands : (o : ℕ) (x : Byte) → byte_at state.memory i o ≡ Some x → StandsContent stands naming state.memory cell_value t.leaf.class x.content
+  pub byte_stands : (o : ℕ) (x : Byte) → byte_at state.memory i o ≡ Some x → InGammaContent gamma naming state.memory cell_value t.leaf.class x.content
   byte_stands o x e = cell.byte i o o x.content (record { named = named; alive = alive }) (owner o (small_byte o x e)) (matched o x e)
 
   -- the numbers of all its bytes
   pub record ObjectNumbers (ns : List Labelled) : Type 0 where
     pub few : length ns ≡ class_bytes flow.model t.leaf.class
     pub at_bytes : (k : ℕ) (x : Labelled) → slice_get ns k ≡ Some x → (y : Byte) × (byte_at state.memory i k ≡ Some y) × (y.content ≡ number_in x)
-    pub number : is_pointer t.leaf.class ≡ false → stands cell_value.num (number_of t.leaf.signed ns)
+    pub number : is_pointer t.leaf.class ≡ false → gamma cell_value.num (number_of t.leaf.signed ns)
 
   pub object_numbers : (ns : List Labelled) → numbers_in (contents (object_bytes flow.model state.memory i kind)) ≡ Some ns → ObjectNumbers ns
   unfolding byte_at
@@ -219,7 +219,7 @@ module _ {I : Type 0} {l : LatticeOf I} {n : IntegersOf I} {stands : I → ℤ �
 
   module _ {new : Memory} (w : IsRewrite state.memory new i) (g : Labels → Labels) (rel : (o : ℕ) (y : Byte) → byte_at new i o ≡ Some y → (x : Byte) × (byte_at state.memory i o ≡ Some x) × (y.content ≡ relabelled g x.content))
       (plain : is_pointer t.leaf.class ≡ false) (num : I) (labels : sets.Labels) (a : ℤ) (ns : List Labelled) (few : length ns ≡ class_bytes flow.model t.leaf.class) (number_is : a ≡ number_of t.leaf.signed ns) (at_bytes : (k : ℕ) (x : Labelled) → slice_get ns k ≡ Some x → (y : Byte) × (byte_at state.memory i k ≡ Some y) × (y.content ≡ number_in x))
-      (near : IsNearNumber a) (stands_num : stands num a) (stands_labels : (la : Labels) → labels_leq (as_set la) cell_value.labels ≡ true → labels_leq (as_set (g la)) labels ≡ true) where
+      (near : IsNearNumber a) (stands_num : gamma num a) (stands_labels : (la : Labels) → labels_leq (as_set la) cell_value.labels ≡ true → labels_leq (as_set (g la)) labels ≡ true) where
     abbrev changed : values.Value I
     changed = record cell_value { num = num; labels = labels }
 
@@ -266,30 +266,30 @@ module _ {I : Type 0} {l : LatticeOf I} {n : IntegersOf I} {stands : I → ℤ �
         number_of_content : {x y : Labelled} → number_in x ≡ relabelled g (number_in y) → x.number ≡ y.number
         number_of_content c = ap number_or c
 
-    content_by : (c : Content) (tag : Option Tag) → IsContentIn state.memory c tag → StandsContent stands naming state.memory cell_value t.leaf.class c → StandsContent stands naming new (near_value l n changed) t.leaf.class (relabelled g c)
+    content_by : (c : Content) (tag : Option Tag) → IsContentIn state.memory c tag → InGammaContent gamma naming state.memory cell_value t.leaf.class c → InGammaContent gamma naming new (near_value l n changed) t.leaf.class (relabelled g c)
     content_by indeterminate tag inside h = h
     content_by (number k la) tag inside h = (stands_labels la h.0, λ e. absurd (true≢false (sym e ∙ plain)))
-    content_by (part x k) tag inside h = pointer_moves w.alike stands naming (near_value l n changed).pointer x (near_pointer_stands q flow.model flow.bases.items naming state.memory s.sane cell_value.pointer x inside.0 h)
+    content_by (part x k) tag inside h = pointer_moves w.alike gamma naming (near_value l n changed).pointer x (near_pointer_stands q flow.model flow.bases.items naming state.memory s.sane cell_value.pointer x inside.0 h)
 
-    own_cell : StandsLeaf stands flow naming new b t.leaf (near_value l n changed)
+    own_cell : InGammaLeaf gamma flow naming new b t.leaf (near_value l n changed)
     own_cell = record {
       whole = λ k o ms h place plain held.
           let own = own_instance flow p naming row state s b i t.info t.is named alive declared (not_older flow b kind t) w k h in
           let zero = place_zero o place in
           let there : Holds flow.model new i 0 t.leaf.class ms = subst (λ z. Holds flow.model new i z t.leaf.class ms) zero (subst (λ z. Holds flow.model new z o t.leaf.class ms) own held) in
-          subst (stands (near_value l n changed).num) (sym (numbers_are ms there)) (near_number_stands q num a near stands_num);
+          subst (gamma (near_value l n changed).num) (sym (numbers_are ms there)) (near_number_stands q num a near stands_num);
       byte = λ k o j content h owns y.
           let own = own_instance flow p naming row state s b i t.info t.is named alive declared (not_older flow b kind t) w k h in
           let one : Byte = record { content = content; tag = y.tag } in
           let z = rel o one (subst (λ u. byte_at new u o ≡ Some one) own y.here) in
-          subst (StandsContent stands naming new (near_value l n changed) t.leaf.class) (sym z.2) (content_by z.0.content z.0.tag (s.sane.bytes i o z.0 z.1) (byte_stands o z.0 z.1));
+          subst (InGammaContent gamma naming new (near_value l n changed) t.leaf.class) (sym z.2) (content_by z.0.content z.0.tag (s.sane.bytes i o z.0 z.1) (byte_stands o z.0 z.1));
     }
 
-    own_leaves : (j : ℕ) (leaf : Leaf) → slice_get t.info.shape.cells j ≡ Some leaf → StandsLeaf stands flow naming new b leaf (value_at l n after (leaf_position t.info j))
+    own_leaves : (j : ℕ) (leaf : Leaf) → slice_get t.info.shape.cells j ≡ Some leaf → InGammaLeaf gamma flow naming new b leaf (value_at l n after (leaf_position t.info j))
     own_leaves j leaf e = by_index j (sym (ap (λ z. slice_get z j) t.cells) ∙ e)
       where
-        by_index : (j : ℕ) → slice_get (t.leaf ∷ []) j ≡ Some leaf → StandsLeaf stands flow naming new b leaf (value_at l n after (leaf_position t.info j))
-        by_index zero f = subst (λ z. StandsLeaf stands flow naming new b z (value_at l n after position)) (same_Some t.leaf leaf f) (subst (StandsLeaf stands flow naming new b t.leaf) (sym own_value) own_cell)
+        by_index : (j : ℕ) → slice_get (t.leaf ∷ []) j ≡ Some leaf → InGammaLeaf gamma flow naming new b leaf (value_at l n after (leaf_position t.info j))
+        by_index zero f = subst (λ z. InGammaLeaf gamma flow naming new b z (value_at l n after position)) (same_Some t.leaf leaf f) (subst (InGammaLeaf gamma flow naming new b t.leaf) (sym own_value) own_cell)
         by_index (suc j) f = cc
 
     bytes_seen : SeenSame (bytes_at new i) (bytes_at state.memory i)
@@ -299,7 +299,7 @@ module _ {I : Type 0} {l : LatticeOf I} {n : IntegersOf I} {stands : I → ℤ �
       each = λ k x y e f. let z = rel k x e in let same : z.0 ≡ y = same_Some z.0 y (sym z.1 ∙ f) in ap seen_as z.2 ∙ (seen_relabelled g z.0.content ∙ ap (λ u. seen_as u.content) same);
     }
 
-    own_zeros : (z : ℕ) (zeros : ZeroPart) → slice_get t.info.shape.zeros z ≡ Some zeros → StandsZero stands naming new (zero_at l n after (zero_position t.info z)) (array_bytes zeros (bytes_at new i))
+    own_zeros : (z : ℕ) (zeros : ZeroPart) → slice_get t.info.shape.zeros z ≡ Some zeros → InGammaZero gamma naming new (zero_at l n after (zero_position t.info z)) (array_bytes zeros (bytes_at new i))
     own_zeros z zeros e =
         let small = slice_get_within t.info.shape.zeros z zeros e in
         let x = zero_is t.info z fits (omega (arith, small)) in
@@ -330,7 +330,7 @@ module _ {I : Type 0} {l : LatticeOf I} {n : IntegersOf I} {stands : I → ℤ �
         content_named (number k la) h = tt
         content_named (part x k) h = content_named_moves naming state.memory new w.alike.lives (part x k) h
 
-    pub relabelled_stands : StandsFor l n stands flow naming after (record { memory = new; temps = state.temps; entered = state.entered })
+    pub relabelled_stands : InGamma l n gamma flow naming after (record { memory = new; temps = state.temps; entered = state.entered })
     relabelled_stands = object_stands flow p naming row state s b i t.info t.is named alive declared (not_older flow b kind t) w (rewrite_sane flow.model flow.bases.items naming w s.sane valid) after outside own_leaves own_zeros
 
     pub relabelled_long : length after ≡ flow.width

@@ -32,10 +32,10 @@ use Rattle.memory_model.specs.Effects.Worlds.{World, Reply, Stuck, with_memory}
 use Rattle.semantics.specs.CfgMachine.FlowStates.{Standing}
 use Rattle.semantics.specs.CfgMachine.FlowEdges.{with_side, in_world}
 use Rattle.store_sound.specs.Concretization.ValueMeaning.{Naming}
-use Rattle.store_sound.specs.Concretization.RowMeaning.{StandsFor}
+use Rattle.store_sound.specs.Concretization.RowMeaning.{InGamma}
 use Rattle.store_sound.specs.Concretization.SeenLabels.{as_set}
 use Rattle.store_sound.specs.Programs.Premises.{HasPremises}
-use Rattle.transfer_sound.specs.Values.SoundSteps.{IsReached, StandsBehind, IsStoodFor}
+use Rattle.transfer_sound.specs.Values.SoundSteps.{IsReached, InGammaAfter, IsStoodFor}
 use Rattle.transfer_sound.proofs.values.Admitted.{none_admitted, same_admitted}
 use Rattle.transfer_sound.proofs.values.NearScalars.{near_number_stands}
 use Rattle.transfer_sound.proofs.values.Replies.{clean_stop_good, if_some_good}
@@ -58,9 +58,9 @@ IsSeen flow entered side.Null i = Unit {0}
 bounded_constant : (m : _) (rel : Rel) (k : IntType) (z : ℤ) (other : Labels) (memory : Memory) → bounded m rel k (constant z) other memory ≡ memory
 bounded_constant m rel k z other memory = elim (cases_Bool (is_unlabelled other)) [ inl e ↦ rw e refl | inr e ↦ rw e refl ]
 
-module _ {I : Type 0} {l : LatticeOf I} {n : IntegersOf I} {stands : I → ℤ → Type 0} (o : OrderLaws l) (q : BoundLaws l n stands) (c : SoundLaws l n stands) (flow : Flow) (p : HasPremises flow) (naming : Naming) (temps : ℕ → Option Scalar) (entered : ℕ → Option ℕ) where
+module _ {I : Type 0} {l : LatticeOf I} {n : IntegersOf I} {gamma : I → ℤ → Type 0} (o : OrderLaws l) (q : BoundLaws l n gamma) (c : SoundLaws l n gamma) (flow : Flow) (p : HasPremises flow) (naming : Naming) (temps : ℕ → Option Scalar) (entered : ℕ → Option ℕ) where
   abbrev Stands : List (Cell I) → Memory → Type 0
-  Stands row memory = StandsFor l n stands flow naming row (record { memory = memory; temps = temps; entered = entered })
+  Stands row memory = InGamma l n gamma flow naming row (record { memory = memory; temps = temps; entered = entered })
 
   -- one side is refined, in the row and in memory, and the other sides are as they were
   record IsRefined (row : List (Cell I)) (memory : Memory) (x : Side) (row1 : List (Cell I)) (memory1 : Memory) : Type 0 where
@@ -71,17 +71,17 @@ module _ {I : Type 0} {l : LatticeOf I} {n : IntegersOf I} {stands : I → ℤ �
     value : (z : Side) (j : ℕ) → IsSeen flow entered z j → is_same_object x z ≡ false → side_value l n flow row1 z ≡ side_value l n flow row z
 
   module _ (row : List (Cell I)) (long : length row ≡ flow.width) (memory : Memory) (s : Stands row memory) where
-    side_has : (x : Side) (i : ℕ) → IsSeen flow entered x i → (a : ℤ) (la : Labels) → side_scalar flow.model memory (tested x i) ≡ Some (integer a la) → HasSide stands flow memory (side_value l n flow row x) (tested x i) a
+    side_has : (x : Side) (i : ℕ) → IsSeen flow entered x i → (a : ℤ) (la : Labels) → side_scalar flow.model memory (tested x i) ≡ Some (integer a la) → HasSide gamma flow memory (side_value l n flow row x) (tested x i) a
     side_has (side.Object b kind) i seen a la e = object_has o q flow p naming temps entered row long memory s b i kind seen.0 seen.1 a la e
     side_has (side.Number z) i seen a la e =
         let same : z ≡ a = cc in
-        subst (HasSide stands flow memory (side_value l n flow row (side.Number z)) (constant z)) same (record {
+        subst (HasSide gamma flow memory (side_value l n flow row (side.Number z)) (constant z)) same (record {
           number = near_number_stands q (n.one z) z (is_near z seen) (q.one_stands z);
           labels = refl;
         })
     side_has side.Null i seen a la e = cc
 
-    side_refined : (x : Side) (i : ℕ) → IsSeen flow entered x i → (rel : Rel) (k : IntType) (other : Labels) (y : values.Value I) → labels_leq (as_set other) y.labels ≡ true → (a : ℤ) (la : Labels) → side_scalar flow.model memory (tested x i) ≡ Some (integer a la) → stands (refined n (side_value l n flow row x) rel y k).num a →
+    side_refined : (x : Side) (i : ℕ) → IsSeen flow entered x i → (rel : Rel) (k : IntType) (other : Labels) (y : values.Value I) → labels_leq (as_set other) y.labels ≡ true → (a : ℤ) (la : Labels) → side_scalar flow.model memory (tested x i) ≡ Some (integer a la) → gamma (refined n (side_value l n flow row x) rel y k).num a →
         IsRefined row memory x (put_side flow x (refined n (side_value l n flow row x) rel y k) row) (bounded flow.model rel k (tested x i) other memory)
     unfolding put_side put_at
     side_refined (side.Object b kind) i seen rel k other y below a la e kept =
@@ -117,7 +117,7 @@ module _ {I : Type 0} {l : LatticeOf I} {n : IntegersOf I} {stands : I → ℤ �
 
 -- ---- both sides
 
-module _ {I : Type 0} {l : LatticeOf I} {n : IntegersOf I} {stands : I → ℤ → Type 0} (o : OrderLaws l) (q : BoundLaws l n stands) (c : SoundLaws l n stands) (flow : Flow) (p : HasPremises flow) (naming : Naming) (row : List (Cell I)) (s : Standing) (r : IsReached l n stands flow naming row s)
+module _ {I : Type 0} {l : LatticeOf I} {n : IntegersOf I} {gamma : I → ℤ → Type 0} (o : OrderLaws l) (q : BoundLaws l n gamma) (c : SoundLaws l n gamma) (flow : Flow) (p : HasPremises flow) (naming : Naming) (row : List (Cell I)) (s : Standing) (r : IsReached l n gamma flow naming row s)
     (test : Test) (k : IntType) (size : is_size k.bytes ≡ true) (apart : is_same_object test.left test.right ≡ false) where
   abbrev memory : Memory
   memory = s.world.memory
@@ -151,7 +151,7 @@ module _ {I : Type 0} {l : LatticeOf I} {n : IntegersOf I} {stands : I → ℤ �
     after = after_test flow.model (Some k) this memory
 
     record AreBoth : Type 0 where
-      stands_for : StandsFor l n stands flow naming behind_row (record { memory = after; temps = s.temps; entered = s.bases })
+      stands_for : InGamma l n gamma flow naming behind_row (record { memory = after; temps = s.temps; entered = s.bases })
       long : length behind_row ≡ flow.width
       lengths : (x : ℕ) → length (bytes_at after x) ≡ length (bytes_at memory x)
       left_number : has_number n new_left ≡ true
@@ -162,30 +162,30 @@ module _ {I : Type 0} {l : LatticeOf I} {n : IntegersOf I} {stands : I → ℤ �
         let b = both_integers test.rel k (side_scalar flow.model memory (tested test.left i)) (side_scalar flow.model memory (tested test.right j)) h in
         let x = side_has o q c flow p naming s.temps s.bases row r.long memory r.stands_for test.left i left b.a b.la b.left in
         let y = side_has o q c flow p naming s.temps s.bases row r.long memory r.stands_for test.right j right b.b b.lb b.right in
-        let kept : stands new_left.num b.a = refined_stands q c test.rel k size v w b.a b.b x.number y.number b.hold in
+        let kept : gamma new_left.num b.a = refined_stands q c test.rel k size v w b.a b.b x.number y.number b.hold in
         let turned : holds (mirrored test.rel) (wrap_into k b.b) (wrap_into k b.a) ≡ true = mirrored_holds test.rel (wrap_into k b.a) (wrap_into k b.b) ∙ b.hold in
-        let also : stands new_right.num b.b = refined_stands q c (mirrored test.rel) k size w v b.b b.a y.number x.number turned in
+        let also : gamma new_right.num b.b = refined_stands q c (mirrored test.rel) k size w v b.b b.a y.number x.number turned in
         let first = side_refined o q c flow p naming s.temps s.bases row r.long memory r.stands_for test.left i left test.rel k (side_labels flow.model memory (tested test.right j)) w y.labels b.a b.la b.left kept in
         let same : side_value l n flow middle test.right ≡ w = first.value test.right j right apart in
         let second = side_refined o q c flow p naming s.temps s.bases middle first.long between first.stands_for test.right j right (mirrored test.rel) k (side_labels flow.model memory (tested test.left i)) v x.labels b.b b.lb (first.scalar test.right j right apart ∙ b.right)
-        (subst (λ z. stands (refined n z (mirrored test.rel) v k).num b.b) (sym same) also) in
+        (subst (λ z. gamma (refined n z (mirrored test.rel) v k).num b.b) (sym same) also) in
         let memories : bounded flow.model (mirrored test.rel) k (tested test.right j) (side_labels flow.model memory (tested test.left i)) between ≡ after = ap (λ z. bounded flow.model z k (tested test.right j) (side_labels flow.model memory (tested test.left i)) between) (sym (turned_is test.rel)) in
         let rows : put_side flow test.right (refined n (side_value l n flow middle test.right) (mirrored test.rel) v k) middle ≡ behind_row = ap (λ z. put_side flow test.right (refined n z (mirrored test.rel) v k) middle) same in
         record {
-          stands_for = subst (λ z. StandsFor l n stands flow naming z (record { memory = after; temps = s.temps; entered = s.bases })) rows
-              (subst (λ z. StandsFor l n stands flow naming (put_side flow test.right (refined n (side_value l n flow middle test.right) (mirrored test.rel) v k) middle) (record { memory = z; temps = s.temps; entered = s.bases })) memories second.stands_for);
+          stands_for = subst (λ z. InGamma l n gamma flow naming z (record { memory = after; temps = s.temps; entered = s.bases })) rows
+              (subst (λ z. InGamma l n gamma flow naming (put_side flow test.right (refined n (side_value l n flow middle test.right) (mirrored test.rel) v k) middle) (record { memory = z; temps = s.temps; entered = s.bases })) memories second.stands_for);
           long = subst (λ z. length z ≡ flow.width) rows second.long;
           lengths = λ z. subst (λ m. length (bytes_at m z) ≡ length (bytes_at memory z)) memories (second.lengths z ∙ first.lengths z);
           left_number = bounds_some q new_left.num b.a kept;
           right_number = bounds_some q new_right.num b.b also;
         }
 
-    pub sides_good : IsStoodFor l n stands flow (refine_in l n flow test (Some k) row) no_violations (in_world s (passing (test_holds flow.model memory this) (with_memory s.world after)))
+    pub sides_good : IsStoodFor l n gamma flow (refine_in l n flow test (Some k) row) no_violations (in_world s (passing (test_holds flow.model memory this) (with_memory s.world after)))
     unfolding refine_integers refine_values refine_sides refine_two
     sides_good = by_truth (test_holds flow.model memory this) refl
       where
-        by_truth : (b : Bool) → test_holds flow.model memory this ≡ b → IsStoodFor l n stands flow (refine_in l n flow test (Some k) row) no_violations (in_world s (passing b (with_memory s.world after)))
-        by_truth false e = clean_stop_good l n stands flow (refine_in l n flow test (Some k) row) no_violations Stuck (with_memory s.world after) r.begun
+        by_truth : (b : Bool) → test_holds flow.model memory this ≡ b → IsStoodFor l n gamma flow (refine_in l n flow test (Some k) row) no_violations (in_world s (passing b (with_memory s.world after)))
+        by_truth false e = clean_stop_good l n gamma flow (refine_in l n flow test (Some k) row) no_violations Stuck (with_memory s.world after) r.begun
         by_truth true e =
             let both = both_refined e in
             let is : refine_in l n flow test (Some k) row ≡ Some behind_row =
@@ -196,7 +196,7 @@ module _ {I : Type 0} {l : LatticeOf I} {n : IntegersOf I} {stands : I → ℤ �
                   let now : Standing = record s { world = new } in
                   let a : now ≡ t = cc in
                   let d : new ≡ u = cc in
-                  let here : StandsBehind l n stands flow (refine_in l n flow test (Some k) row) (record now { world = new }) = record {
+                  let here : InGammaAfter l n gamma flow (refine_in l n flow test (Some k) row) (record now { world = new }) = record {
                     row = behind_row;
                     is = is;
                     long = both.long;
@@ -204,14 +204,14 @@ module _ {I : Type 0} {l : LatticeOf I} {n : IntegersOf I} {stands : I → ℤ �
                     stands_for = both.stands_for;
                     short = λ z. subst (λ x. pos x ≤ℤ greatest_of (kind_of flow.model Pointer true)) (sym (both.lengths z)) (r.short z);
                   } in
-                  subst (λ z. StandsBehind l n stands flow (refine_in l n flow test (Some k) row) (record z { world = u })) a (subst (λ z. StandsBehind l n stands flow (refine_in l n flow test (Some k) row) (record now { world = z })) d here);
+                  subst (λ z. InGammaAfter l n gamma flow (refine_in l n flow test (Some k) row) (record z { world = u })) a (subst (λ z. InGammaAfter l n gamma flow (refine_in l n flow test (Some k) row) (record now { world = z })) d here);
               admits = same_admitted no_violations s.world.violated [] r.begun (none_admitted no_violations);
             }
 
 -- ---- the machine's sides
 
-module _ {I : Type 0} {l : LatticeOf I} {n : IntegersOf I} {stands : I → ℤ → Type 0} (flow : Flow) (s : Standing) (clean : s.world.violated ≡ []) (after : Option (List (Cell I))) where
-  pub side_good : (x : Side) → NamesScalar flow x → (use_it : TestedSide → Reply Standing) → ((i : ℕ) → IsSeen flow s.bases x i → IsStoodFor l n stands flow after no_violations (use_it (tested x i))) → IsStoodFor l n stands flow after no_violations (with_side s x use_it)
-  side_good (side.Object b kind) t use_it h = if_some_good l n stands flow after no_violations s clean (s.bases b) (λ i. use_it (object i kind)) (λ i e. h i (t, e))
+module _ {I : Type 0} {l : LatticeOf I} {n : IntegersOf I} {gamma : I → ℤ → Type 0} (flow : Flow) (s : Standing) (clean : s.world.violated ≡ []) (after : Option (List (Cell I))) where
+  pub side_good : (x : Side) → NamesScalar flow x → (use_it : TestedSide → Reply Standing) → ((i : ℕ) → IsSeen flow s.bases x i → IsStoodFor l n gamma flow after no_violations (use_it (tested x i))) → IsStoodFor l n gamma flow after no_violations (with_side s x use_it)
+  side_good (side.Object b kind) t use_it h = if_some_good l n gamma flow after no_violations s clean (s.bases b) (λ i. use_it (object i kind)) (λ i e. h i (t, e))
   side_good (side.Number z) t use_it h = h 0 t
   side_good side.Null t use_it h = h 0 tt

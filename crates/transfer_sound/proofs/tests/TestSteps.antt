@@ -35,7 +35,7 @@ use Rattle.memory_model.specs.Effects.Accesses.{class_in, scalar_in, numbers_in,
 use Rattle.memory_model.specs.Effects.Tests as machine
 use Rattle.memory_model.specs.Effects.Tests.{TestedSide, SideTest, object, constant, nothing, scalar_size, object_bytes, labels_of, joined, side_scalar, scalars_hold, sides_hold, test_holds, side_labels, bounded, both_bounded, after_test, pass_test}
 use Rattle.store_sound.specs.Concretization.ValueMeaning.{Naming}
-use Rattle.store_sound.specs.Concretization.RowMeaning.{MachineState, StandsFor}
+use Rattle.store_sound.specs.Concretization.RowMeaning.{MachineState, InGamma}
 use Rattle.store_sound.specs.Concretization.SeenLabels.{as_set}
 use Rattle.store_sound.specs.Programs.Premises.{HasPremises}
 use Rattle.std.specs.Int.{int_rem_euclid}
@@ -48,7 +48,7 @@ use Rattle.memory_model.specs.Memory.ScalarSizes.{class_bytes}
 use Rattle.memory_model.specs.Memory.Bytes.{Content, indeterminate, number, part}
 use Rattle.memory_model.specs.Memory.Numbers.{Labelled, number_of}
 use Rattle.memory_model.specs.Effects.ScalarBytes.{contents}
-use Rattle.store_sound.specs.Concretization.ValueMeaning.{StandsContent}
+use Rattle.store_sound.specs.Concretization.ValueMeaning.{InGammaContent}
 use Rattle.store_sound.specs.Operations.Scalars.{signed_in}
 use Rattle.store_sound.proofs.operations.CellReads.{integer_is, scalar_pointer_is}
 use Rattle.store_sound.proofs.operations.Classes.{integer_class}
@@ -142,9 +142,9 @@ both_integers rel k (Some (integer a la)) (Some (pointer q)) h = absurd (true≢
 both_integers rel k (Some (pointer p)) (Some (integer b lb)) h = absurd (true≢false (sym h))
 both_integers rel k (Some (pointer p)) (Some (pointer q)) h = absurd (true≢false (sym h))
 
-module _ {I : Type 0} {l : LatticeOf I} {n : IntegersOf I} {stands : I → ℤ → Type 0} (q : BoundLaws l n stands) (c : SoundLaws l n stands) (rel : Rel) (k : IntType) (size : is_size k.bytes ≡ true) where
+module _ {I : Type 0} {l : LatticeOf I} {n : IntegersOf I} {gamma : I → ℤ → Type 0} (q : BoundLaws l n gamma) (c : SoundLaws l n gamma) (rel : Rel) (k : IntType) (size : is_size k.bytes ≡ true) where
   -- what is known of a side stands for its number where the relation holds
-  pub refined_stands : (x y : values.Value I) (a b : ℤ) → stands x.num a → stands y.num b → holds rel (wrap_into k a) (wrap_into k b) ≡ true → stands (refined n x rel y k).num a
+  pub refined_stands : (x y : values.Value I) (a b : ℤ) → gamma x.num a → gamma y.num b → holds rel (wrap_into k a) (wrap_into k b) ≡ true → gamma (refined n x rel y k).num a
   refined_stands x y a b f g h = elim (cases_Bool (fits n k x.num && fits n k y.num)) [
     | inr e ↦ rw e f
     | inl e ↦ (let p = and_parts (fits n k x.num) (fits n k y.num) e in
@@ -173,16 +173,16 @@ is_read of.Pointer cs a la h = let r = scalar_pointer_is (pointer_in cs) (intege
 -- ---- sides
 
 -- a value stands for the number of a side, and has its labels
-pub record HasSide {I : Type 0} (stands : I → ℤ → Type 0) (flow : Flow) (memory : Memory) (v : values.Value I) (ts : TestedSide) (a : ℤ) : Type 0 where
-  pub number : stands v.num a
+pub record HasSide {I : Type 0} (gamma : I → ℤ → Type 0) (flow : Flow) (memory : Memory) (v : values.Value I) (ts : TestedSide) (a : ℤ) : Type 0 where
+  pub number : gamma v.num a
   pub labels : labels_leq (as_set (side_labels flow.model memory ts)) v.labels ≡ true
 
-module _ {I : Type 0} {l : LatticeOf I} {n : IntegersOf I} {stands : I → ℤ → Type 0} (o : OrderLaws l) (q : BoundLaws l n stands) (flow : Flow) (p : HasPremises flow) (naming : Naming) (temps : ℕ → Option Scalar) (entered : ℕ → Option ℕ) where
-  module _ (row : List (Cell I)) (long : length row ≡ flow.width) (memory : Memory) (s : StandsFor l n stands flow naming row (record { memory = memory; temps = temps; entered = entered })) where
+module _ {I : Type 0} {l : LatticeOf I} {n : IntegersOf I} {gamma : I → ℤ → Type 0} (o : OrderLaws l) (q : BoundLaws l n gamma) (flow : Flow) (p : HasPremises flow) (naming : Naming) (temps : ℕ → Option Scalar) (entered : ℕ → Option ℕ) where
+  module _ (row : List (Cell I)) (long : length row ≡ flow.width) (memory : Memory) (s : InGamma l n gamma flow naming row (record { memory = memory; temps = temps; entered = entered })) where
     abbrev state_is : MachineState
     state_is = record { memory = memory; temps = temps; entered = entered }
 
-    content_labels : (v : values.Value I) (class : Class) (ct : Content) → StandsContent stands naming memory v class ct → labels_leq (as_set (labels_of ct)) v.labels ≡ true
+    content_labels : (v : values.Value I) (class : Class) (ct : Content) → InGammaContent gamma naming memory v class ct → labels_leq (as_set (labels_of ct)) v.labels ≡ true
     content_labels v class indeterminate h = refl
     content_labels v class (number z la) h = h.0
     content_labels v class (part x j) h = refl
@@ -200,18 +200,18 @@ module _ {I : Type 0} {l : LatticeOf I} {n : IntegersOf I} {stands : I → ℤ �
       value_is : side_value l n flow row (side.Object b kind) ≡ value_at l n row here
       value_is = ap (λ z. value_of_object l n row (position_of z)) t.is
 
-      near_of : (a : ℤ) → stands (value_at l n row here).num a → IsNearNumber a
+      near_of : (a : ℤ) → gamma (value_at l n row here).num a → IsNearNumber a
       unfolding value_at
       near_of a h = near_has q _ a h
 
-      pub object_has : (a : ℤ) (la : Labels) → side_scalar flow.model memory (object i kind) ≡ Some (integer a la) → HasSide stands flow memory (side_value l n flow row (side.Object b kind)) (object i kind) a
+      pub object_has : (a : ℤ) (la : Labels) → side_scalar flow.model memory (object i kind) ≡ Some (integer a la) → HasSide gamma flow memory (side_value l n flow row (side.Object b kind)) (object i kind) a
       unfolding byte_at
       object_has a la h =
           let r = is_read kind (contents (object_bytes flow.model memory i kind)) a la h in
           let on = object_numbers q flow p naming row long state_is s b i kind t named_is alive r.ns r.are in
           let plain : is_pointer t.leaf.class ≡ false = ap is_pointer t.class ∙ r.plain in
-          let num : stands (value_at l n row here).num a = subst (stands (value_at l n row here).num) (ap (λ z. number_of z r.ns) t.signed ∙ sym r.is) (on.number plain) in
-          subst (λ v. HasSide stands flow memory v (object i kind) a) (sym value_is) (record {
+          let num : gamma (value_at l n row here).num a = subst (gamma (value_at l n row here).num) (ap (λ z. number_of z r.ns) t.signed ∙ sym r.is) (on.number plain) in
+          subst (λ v. HasSide gamma flow memory v (object i kind) a) (sym value_is) (record {
             number = num;
             labels = joined_below (object_bytes flow.model memory i kind) (value_at l n row here).labels (λ j x e.
                 let y = get_take (scalar_size flow.model kind) (bytes_at memory i) j x e in
@@ -220,7 +220,7 @@ module _ {I : Type 0} {l : LatticeOf I} {n : IntegersOf I} {stands : I → ℤ �
 
       -- ---- the object behind the test
 
-      module _ (rel : Rel) (k : IntType) (other : Labels) (y : values.Value I) (below : labels_leq (as_set other) y.labels ≡ true) (a : ℤ) (la : Labels) (scalar : side_scalar flow.model memory (object i kind) ≡ Some (integer a la)) (kept : stands (refined n (side_value l n flow row (side.Object b kind)) rel y k).num a) where
+      module _ (rel : Rel) (k : IntType) (other : Labels) (y : values.Value I) (below : labels_leq (as_set other) y.labels ≡ true) (a : ℤ) (la : Labels) (scalar : side_scalar flow.model memory (object i kind) ≡ Some (integer a la)) (kept : gamma (refined n (side_value l n flow row (side.Object b kind)) rel y k).num a) where
         abbrev v : values.Value I
         v = value_at l n row here
 
@@ -251,13 +251,13 @@ module _ {I : Type 0} {l : LatticeOf I} {n : IntegersOf I} {stands : I → ℤ �
         number_is : a ≡ number_of t.leaf.signed read.ns
         number_is = read.is ∙ sym (ap (λ z. number_of z read.ns) t.signed)
 
-        kept_here : stands changed.num a
-        kept_here = subst (λ z. stands (refined n z rel y k).num a) value_is kept
+        kept_here : gamma changed.num a
+        kept_here = subst (λ z. gamma (refined n z rel y k).num a) value_is kept
 
         is_near_number : IsNearNumber a
-        is_near_number = near_of a (subst (λ z. stands z.num a) value_is (object_has a la scalar).number)
+        is_near_number = near_of a (subst (λ z. gamma z.num a) value_is (object_has a la scalar).number)
 
-        pub object_changed : StandsFor l n stands flow naming (put_value row here changed) (record { memory = new; temps = temps; entered = entered })
+        pub object_changed : InGamma l n gamma flow naming (put_value row here changed) (record { memory = new; temps = temps; entered = entered })
         object_changed = relabelled_stands q flow p naming row long state_is s b i kind t named_is alive relabelling.rewrite (side_change (is_unlabelled other) rel k) relabelling.each plain_class changed.num changed.labels a read.ns numbers.few number_is numbers.at_bytes is_near_number kept_here
             (λ lb h. change_below rel k v.labels y.labels other below (is_unlabelled other) refl lb h)
 

@@ -106,8 +106,8 @@ left_is Xor k a b c i h = refl
 left_is Shl k a b c i h = let s = some_shift k a b c h in sym (shift_corner k a b i s.1 s.0)
 left_is Shr k a b c i h = refl
 
-module _ {I : Type 0} {l : LatticeOf I} {n : IntegersOf I} {stands : I → ℤ → Type 0} (q : BoundLaws l n stands) where
-  pub labels_told : (op : IntOp) (k : IntType) (x y : Value I) (s t : Labels) (a b c : ℤ) → stands x.num a → stands y.num b → labels_leq (as_set s) x.labels ≡ true → labels_leq (as_set t) y.labels ≡ true → in_type k a ≡ true → binary_result op k a b ≡ Some c
+module _ {I : Type 0} {l : LatticeOf I} {n : IntegersOf I} {gamma : I → ℤ → Type 0} (q : BoundLaws l n gamma) where
+  pub labels_told : (op : IntOp) (k : IntType) (x y : Value I) (s t : Labels) (a b c : ℤ) → gamma x.num a → gamma y.num b → labels_leq (as_set s) x.labels ≡ true → labels_leq (as_set t) y.labels ≡ true → in_type k a ≡ true → binary_result op k a b ≡ Some c
       → labels_leq (as_set (operated_labels op s t k (is_outside k (result_of op a b)))) (value_arith l n op x y k).labels ≡ true
   labels_told op k x y s t a b c f g u v i h =
       let told = (label_meaning q).arith op k x y (as_set s) (as_set t) a b f g u v in
@@ -123,7 +123,7 @@ if_admitted v false r h = none_admitted v
 no_fault : (v : Violations) (k : IntType) (r : Rule) → AreAdmitted v (fault_if (k.signed && false) r)
 no_fault v k r = if_admitted v (k.signed && false) r (λ e. absurd (true≢false (sym (and_parts k.signed false e).1)))
 
-module _ {I : Type 0} {l : LatticeOf I} {n : IntegersOf I} {stands : I → ℤ → Type 0} (q : BoundLaws l n stands) (s : SoundLaws l n stands) (k : IntType) (x y : Value I) (a b : ℤ) (f : stands x.num a) (g : stands y.num b) (inside : in_type k a ≡ true) where
+module _ {I : Type 0} {l : LatticeOf I} {n : IntegersOf I} {gamma : I → ℤ → Type 0} (q : BoundLaws l n gamma) (s : SoundLaws l n gamma) (k : IntType) (x y : Value I) (a b : ℤ) (f : gamma x.num a) (g : gamma y.num b) (inside : in_type k a ≡ true) where
   least_told : is_quotient_overflow k a b ≡ true → divides_least k (n.bounds x.num) (n.bounds y.num) ≡ true
   least_told h =
       let p = and_parts k.signed (int_eq a (least_of k) && int_eq b (negsuc 0)) h in

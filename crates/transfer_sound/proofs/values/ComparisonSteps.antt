@@ -56,7 +56,7 @@ use Rattle.memory_model.specs.Effects.PointerEffects.{is_ended_life, is_ended, o
 use Rattle.memory_model.specs.Effects.Worlds.{Reply, goes, unless}
 use Rattle.semantics.specs.CfgMachine.FlowStates.{Standing}
 use Rattle.semantics.specs.CfgMachine.FlowActs.{giving}
-use Rattle.store_sound.specs.Concretization.ValueMeaning.{Naming, StandsInto, StandsByLife, StandsPointer, StandsScalar}
+use Rattle.store_sound.specs.Concretization.ValueMeaning.{Naming, InGammaInto, InGammaByLife, InGammaPointer, InGammaScalar}
 use Rattle.store_sound.specs.Concretization.SoundMemory.{IsWithin, IsPointerIn}
 use Rattle.store_sound.proofs.operations.OneBases.{one_base}
 use Rattle.store_sound.proofs.operations.Sets.{is_single}
@@ -81,24 +81,24 @@ single_not_older Older h e = true≢false (sym h)
 -- ---- what is pointed to
 
 -- null, or into what has not ended
-data Place {I : Type 0} (stands : I → ℤ → Type 0) (naming : Naming) (memory : Memory) (x : Pointers I) (p : MachinePointer) : Type 0 where
-  nowhere : p ≡ null → x.null ≡ true → Place stands naming memory x p
-  somewhere : (i offset lo hi : ℕ) → p ≡ into i offset lo hi → (life_at memory i ≡ ended → ⊥) → StandsInto stands naming memory x i offset lo hi → IsWithin memory i offset lo hi → Place stands naming memory x p
+data Place {I : Type 0} (gamma : I → ℤ → Type 0) (naming : Naming) (memory : Memory) (x : Pointers I) (p : MachinePointer) : Type 0 where
+  nowhere : p ≡ null → x.null ≡ true → Place gamma naming memory x p
+  somewhere : (i offset lo hi : ℕ) → p ≡ into i offset lo hi → (life_at memory i ≡ ended → ⊥) → InGammaInto gamma naming memory x i offset lo hi → IsWithin memory i offset lo hi → Place gamma naming memory x p
 
-life_place : {I : Type 0} (stands : I → ℤ → Type 0) (naming : Naming) (memory : Memory) (x : Pointers I) (i offset lo hi : ℕ) (life : Life) → life_at memory i ≡ life → is_ended_life life ≡ false → StandsByLife stands naming memory x life i offset lo hi → IsWithin memory i offset lo hi → Place stands naming memory x (into i offset lo hi)
-life_place stands naming memory x i offset lo hi live e f st w = somewhere i offset lo hi refl (λ g. let h : live ≡ ended = sym e ∙ g in cc) st w
-life_place stands naming memory x i offset lo hi ended e f st w = absurd (true≢false f)
-life_place stands naming memory x i offset lo hi freed e f st w = somewhere i offset lo hi refl (λ g. let h : freed ≡ ended = sym e ∙ g in cc) st w
+life_place : {I : Type 0} (gamma : I → ℤ → Type 0) (naming : Naming) (memory : Memory) (x : Pointers I) (i offset lo hi : ℕ) (life : Life) → life_at memory i ≡ life → is_ended_life life ≡ false → InGammaByLife gamma naming memory x life i offset lo hi → IsWithin memory i offset lo hi → Place gamma naming memory x (into i offset lo hi)
+life_place gamma naming memory x i offset lo hi live e f st w = somewhere i offset lo hi refl (λ g. let h : live ≡ ended = sym e ∙ g in cc) st w
+life_place gamma naming memory x i offset lo hi ended e f st w = absurd (true≢false f)
+life_place gamma naming memory x i offset lo hi freed e f st w = somewhere i offset lo hi refl (λ g. let h : freed ≡ ended = sym e ∙ g in cc) st w
 
-place_of : {I : Type 0} (stands : I → ℤ → Type 0) (naming : Naming) (memory : Memory) (x : Pointers I) (p : MachinePointer) → StandsPointer stands naming memory x p → IsPointerIn memory p → is_ended memory p ≡ false → Place stands naming memory x p
-place_of stands naming memory x null st w e = nowhere refl st
-place_of stands naming memory x (into i offset lo hi) st w e = life_place stands naming memory x i offset lo hi (life_at memory i) refl e st w
+place_of : {I : Type 0} (gamma : I → ℤ → Type 0) (naming : Naming) (memory : Memory) (x : Pointers I) (p : MachinePointer) → InGammaPointer gamma naming memory x p → IsPointerIn memory p → is_ended memory p ≡ false → Place gamma naming memory x p
+place_of gamma naming memory x null st w e = nowhere refl st
+place_of gamma naming memory x (into i offset lo hi) st w e = life_place gamma naming memory x i offset lo hi (life_at memory i) refl e st w
 
-ended_told : {I : Type 0} (stands : I → ℤ → Type 0) (naming : Naming) (memory : Memory) (x : Pointers I) (p : MachinePointer) → StandsPointer stands naming memory x p → is_ended memory p ≡ true → x.ended ≡ true
-ended_told stands naming memory x null st e = absurd (true≢false (sym e))
-ended_told stands naming memory x (into i offset lo hi) st e = by_life (life_at memory i) st e
+ended_told : {I : Type 0} (gamma : I → ℤ → Type 0) (naming : Naming) (memory : Memory) (x : Pointers I) (p : MachinePointer) → InGammaPointer gamma naming memory x p → is_ended memory p ≡ true → x.ended ≡ true
+ended_told gamma naming memory x null st e = absurd (true≢false (sym e))
+ended_told gamma naming memory x (into i offset lo hi) st e = by_life (life_at memory i) st e
   where
-    by_life : (life : Life) → StandsByLife stands naming memory x life i offset lo hi → is_ended_life life ≡ true → x.ended ≡ true
+    by_life : (life : Life) → InGammaByLife gamma naming memory x life i offset lo hi → is_ended_life life ≡ true → x.ended ≡ true
     by_life live s f = absurd (true≢false (sym f))
     by_life ended s f = s
     by_life freed s f = absurd (true≢false (sym f))
@@ -126,7 +126,7 @@ distance_type m z top w h =
     let b = w.to in
     and_from _ _ (le_told (least_of (kind_of m class.Pointer true)) z (omega (arith, ints, a, h))) (le_told z (greatest_of (kind_of m class.Pointer true)) (omega (arith, ints, b, h)))
 
-module _ {I : Type 0} {l : LatticeOf I} {n : IntegersOf I} {stands : I → ℤ → Type 0} (o : OrderLaws l) (q : BoundLaws l n stands) (c : SoundLaws l n stands) (flow : Flow) (p : HasPremises flow) (naming : Naming) (row : List (Cell I)) (s : Standing) (r : IsReached l n stands flow naming row s) where
+module _ {I : Type 0} {l : LatticeOf I} {n : IntegersOf I} {gamma : I → ℤ → Type 0} (o : OrderLaws l) (q : BoundLaws l n gamma) (c : SoundLaws l n gamma) (flow : Flow) (p : HasPremises flow) (naming : Naming) (row : List (Cell I)) (s : Standing) (r : IsReached l n gamma flow naming row s) where
   abbrev single : Bases
   single = single_bases flow.bases.items
 
@@ -134,21 +134,21 @@ module _ {I : Type 0} {l : LatticeOf I} {n : IntegersOf I} {stands : I → ℤ �
   clean v = same_admitted v s.world.violated [] r.begun (none_admitted v)
 
   abbrev At : Pointers I → MachinePointer → Type 0
-  At x at = Place stands naming s.world.memory x at
+  At x at = Place gamma naming s.world.memory x at
 
   -- ---- instances
 
   base_small : (b : ℕ) (base : BaseInfo) → slice_get flow.bases.items b ≡ Some base → b < 1016
   base_small b base e = let few = p.shaped.few in let top = slice_get_within flow.bases.items b base e in omega (arith, few, top)
 
-  base_there : (x : Pointers I) (i offset lo hi : ℕ) (st : StandsInto stands naming s.world.memory x i offset lo hi) → (base : BaseInfo) × (slice_get flow.bases.items st.base ≡ Some base)
+  base_there : (x : Pointers I) (i offset lo hi : ℕ) (st : InGammaInto gamma naming s.world.memory x i offset lo hi) → (base : BaseInfo) × (slice_get flow.bases.items st.base ≡ Some base)
   base_there x i offset lo hi st = get_there flow.bases.items st.base (r.stands_for.sane.few i st.base st.named)
 
   -- two instances that one single base names are one
   same_instance : (i j b : ℕ) (base : BaseInfo) → slice_get flow.bases.items b ≡ Some base → is_single_kind base.kind ≡ true → naming i ≡ Some b → naming j ≡ Some b → (life_at s.world.memory i ≡ ended → ⊥) → (life_at s.world.memory j ≡ ended → ⊥) → i ≡ j
   same_instance i j b base at kind f g h k = r.stands_for.sane.one i j b base at (single_not_older base.kind kind) f g h k
 
-  alike_same : (x y : Pointers I) (i o1 lo1 hi1 j o2 lo2 hi2 : ℕ) → StandsInto stands naming s.world.memory x i o1 lo1 hi1 → StandsInto stands naming s.world.memory y j o2 lo2 hi2 → (life_at s.world.memory i ≡ ended → ⊥) → (life_at s.world.memory j ≡ ended → ⊥) → same_one_base x y single ≡ true → i ≡ j
+  alike_same : (x y : Pointers I) (i o1 lo1 hi1 j o2 lo2 hi2 : ℕ) → InGammaInto gamma naming s.world.memory x i o1 lo1 hi1 → InGammaInto gamma naming s.world.memory y j o2 lo2 hi2 → (life_at s.world.memory i ≡ ended → ⊥) → (life_at s.world.memory j ≡ ended → ⊥) → same_one_base x y single ≡ true → i ≡ j
   alike_same x y i o1 lo1 hi1 j o2 lo2 hi2 sx sy ex ey h =
       let a = and_parts (bases_count x.bases == 1) (bases_within x.bases y.bases && (bases_within y.bases x.bases && bases_within x.bases single)) h in
       let b = and_parts (bases_within x.bases y.bases) (bases_within y.bases x.bases && bases_within x.bases single) a.1 in
@@ -190,8 +190,8 @@ module _ {I : Type 0} {l : LatticeOf I} {n : IntegersOf I} {stands : I → ℤ �
     hi2 : ℕ
     left : pa ≡ into i o1 lo1 hi1
     right : pb ≡ into i o2 lo2 hi2
-    st1 : StandsInto stands naming s.world.memory x i o1 lo1 hi1
-    st2 : StandsInto stands naming s.world.memory y i o2 lo2 hi2
+    st1 : InGammaInto gamma naming s.world.memory x i o1 lo1 hi1
+    st2 : InGammaInto gamma naming s.world.memory y i o2 lo2 hi2
     w1 : IsWithin s.world.memory i o1 lo1 hi1
     w2 : IsWithin s.world.memory i o2 lo2 hi2
 
@@ -201,26 +201,26 @@ module _ {I : Type 0} {l : LatticeOf I} {n : IntegersOf I} {stands : I → ℤ �
   shared_is x y pa pb (somewhere i o1 lo1 hi1 e1 a1 st1 w1) (somewhere j o2 lo2 hi2 e2 a2 st2 w2) f =
       let t : (i == j) ≡ true = sym (ap (λ z. share_instance z (into j o2 lo2 hi2)) e1) ∙ (sym (ap (share_instance pa) e2) ∙ f) in
       let k : j ≡ i = sym (eqb-true i j t) in
-      record { i = i; o1 = o1; lo1 = lo1; hi1 = hi1; o2 = o2; lo2 = lo2; hi2 = hi2; left = e1; right = subst (λ z. pb ≡ into z o2 lo2 hi2) k e2; st1 = st1; st2 = subst (λ z. StandsInto stands naming s.world.memory y z o2 lo2 hi2) k st2; w1 = w1; w2 = subst (λ z. IsWithin s.world.memory z o2 lo2 hi2) k w2 }
+      record { i = i; o1 = o1; lo1 = lo1; hi1 = hi1; o2 = o2; lo2 = lo2; hi2 = hi2; left = e1; right = subst (λ z. pb ≡ into z o2 lo2 hi2) k e2; st1 = st1; st2 = subst (λ z. InGammaInto gamma naming s.world.memory y z o2 lo2 hi2) k st2; w1 = w1; w2 = subst (λ z. IsWithin s.world.memory z o2 lo2 hi2) k w2 }
 
   meet : (x y : Pointers I) (pa pb : MachinePointer) (h : Shared x y pa pb) → bases_meet x.bases y.bases ≡ true
   meet x y pa pb h = common_base x.bases y.bases h.st1.base h.st1.among (subst (λ z. bases_has y.bases z ≡ true) (same_Some h.st2.base h.st1.base (sym h.st2.named ∙ h.st1.named)) h.st2.among)
 
   -- ---- what both need
 
-  module _ (to : ℕ) (few : to < flow.temps) (x y : Pointers I) (pa pb : MachinePointer) (sa : StandsPointer stands naming s.world.memory x pa) (sb : StandsPointer stands naming s.world.memory y pb) (wa : IsPointerIn s.world.memory pa) (wb : IsPointerIn s.world.memory pb) where
+  module _ (to : ℕ) (few : to < flow.temps) (x y : Pointers I) (pa pb : MachinePointer) (sa : InGammaPointer gamma naming s.world.memory x pa) (sb : InGammaPointer gamma naming s.world.memory y pb) (wa : IsPointerIn s.world.memory pa) (wb : IsPointerIn s.world.memory pb) where
     ended_either : (is_ended s.world.memory pa || is_ended s.world.memory pb) ≡ true → (x.ended || y.ended) ≡ true
     ended_either h = elim (or_cases (is_ended s.world.memory pa) (is_ended s.world.memory pb) h) [
-      | inl e ↦ or_left x.ended y.ended (ended_told stands naming s.world.memory x pa sa e)
-      | inr e ↦ or_right x.ended y.ended (ended_told stands naming s.world.memory y pb sb e)
+      | inl e ↦ or_left x.ended y.ended (ended_told gamma naming s.world.memory x pa sa e)
+      | inr e ↦ or_right x.ended y.ended (ended_told gamma naming s.world.memory y pb sb e)
     ]
 
     -- where neither has ended
-    unended_good : (after : Option (List (Cell I))) (told : Violations) (reply : Reply Scalar) → told.nullref ≡ (x.ended || y.ended) → (At x pa → At y pb → IsStoodFor l n stands flow after told (giving s to reply)) → IsStoodFor l n stands flow after told (giving s to (unless s.world (is_ended s.world.memory pa || is_ended s.world.memory pb) rule.Nullref reply))
+    unended_good : (after : Option (List (Cell I))) (told : Violations) (reply : Reply Scalar) → told.nullref ≡ (x.ended || y.ended) → (At x pa → At y pb → IsStoodFor l n gamma flow after told (giving s to reply)) → IsStoodFor l n gamma flow after told (giving s to (unless s.world (is_ended s.world.memory pa || is_ended s.world.memory pb) rule.Nullref reply))
     unended_good after told reply e h = elim (cases_Bool (is_ended s.world.memory pa || is_ended s.world.memory pb)) [
       | inl f ↦ rw f (rule_stops q flow p naming row s r to few after told s.world rule.Nullref (clean told) (e ∙ ended_either f))
       | inr f ↦ (let k = or_parts (is_ended s.world.memory pa) (is_ended s.world.memory pb) f in
-          rw f (h (place_of stands naming s.world.memory x pa sa wa k.0) (place_of stands naming s.world.memory y pb sb wb k.1)))
+          rw f (h (place_of gamma naming s.world.memory x pa sa wa k.0) (place_of gamma naming s.world.memory y pb sb wb k.1)))
     ]
 
     abbrev pair_told : Violations
@@ -233,7 +233,7 @@ module _ {I : Type 0} {l : LatticeOf I} {n : IntegersOf I} {stands : I → ℤ �
         not_of true g = absurd (g refl)
         not_of false g = refl
 
-    compared_good : (after : Option (List (Cell I))) (reply : Reply Scalar) → (Shared x y pa pb → IsStoodFor l n stands flow after pair_told (giving s to reply)) → IsStoodFor l n stands flow after pair_told (giving s to (compared s.world pa pb reply))
+    compared_good : (after : Option (List (Cell I))) (reply : Reply Scalar) → (Shared x y pa pb → IsStoodFor l n gamma flow after pair_told (giving s to reply)) → IsStoodFor l n gamma flow after pair_told (giving s to (compared s.world pa pb reply))
     compared_good after reply h = unended_good after pair_told _ refl (λ a b. elim (cases_Bool (share_instance pa pb)) [
       | inl f ↦ rw f (h (shared_is x y pa pb a b f))
       | inr f ↦ rw f (rule_stops q flow p naming row s r to few after pair_told s.world rule.Ptrobj (clean pair_told) (object_told a b f))
@@ -251,16 +251,16 @@ module _ {I : Type 0} {l : LatticeOf I} {n : IntegersOf I} {stands : I → ℤ �
         let first : IsWithinTop (pos h.o1 -ℤ pos h.o2) top = record { from = omega (arith, ints, d, e); to = omega (arith, ints, a, b) } in
         subst (λ z. IsWithinTop (elements_between z pb size) top) (sym h.left) (subst (λ z. IsWithinTop (elements_between (into h.i h.o1 h.lo1 h.hi1) z size) top) (sym h.right) (quotient_within (pos h.o1 -ℤ pos h.o2) size top some first))
 
-    pub difference_good : (size : ℕ) → 0 < size → IsStoodFor l n stands flow (difference_between l n flow row to x y size) pair_told (giving s to (pointer_difference size pa pb s.world))
+    pub difference_good : (size : ℕ) → 0 < size → IsStoodFor l n gamma flow (difference_between l n flow row to x y size) pair_told (giving s to (pointer_difference size pa pb s.world))
     difference_good size some = compared_good _ _ (λ h.
         let w = distance_of size some h in
         let z : ℤ = elements_between pa pb size in
         let small = r.stands_for.sane.small h.i in
         let is_type = distance_type flow.model z (length (bytes_at s.world.memory h.i)) w (r.short h.i) in
-        let number : stands (difference_of l n flow x y size).num z =
+        let number : gamma (difference_of l n flow x y size).num z =
         let e : z ≡ int_div (pos h.o1 -ℤ pos h.o2) (pos size) = ap (λ y. elements_between y pb size) h.left ∙ ap (λ y. elements_between (into h.i h.o1 h.lo1 h.hi1) y size) h.right in
-        subst (stands (difference_of l n flow x y size).num) (sym e) (difference_stands q x y h.st1.base h.st2.base size (kind_of flow.model class.Pointer true) (pos h.lo1) (pos h.o1) (pos h.hi1) (pos h.lo2) (pos h.o2) (pos h.hi2) some
-        (as_into stands naming s.world.memory x h.i h.o1 h.lo1 h.hi1 h.st1) (as_into stands naming s.world.memory y h.i h.o2 h.lo2 h.hi2 h.st2) (subst (λ y. in_type (kind_of flow.model class.Pointer true) y ≡ true) e is_type)) in
+        subst (gamma (difference_of l n flow x y size).num) (sym e) (difference_stands q x y h.st1.base h.st2.base size (kind_of flow.model class.Pointer true) (pos h.lo1) (pos h.o1) (pos h.hi1) (pos h.lo2) (pos h.o2) (pos h.hi2) some
+        (as_into gamma naming s.world.memory x h.i h.o1 h.lo1 h.hi1 h.st1) (as_into gamma naming s.world.memory y h.i h.o2 h.lo2 h.hi2 h.st2) (subst (λ y. in_type (kind_of flow.model class.Pointer true) y ≡ true) e is_type)) in
         let a = w.from in
         let b = w.to in
         let has : has_difference flow x y size ≡ true = and_from _ _ (ap not (ne_eqb size 0 (λ e. omega (arith, some, e)))) (meet x y pa pb h) in
@@ -270,19 +270,19 @@ module _ {I : Type 0} {l : LatticeOf I} {n : IntegersOf I} {stands : I → ℤ �
 
     -- ---- relations
 
-    truth_good : (after : Option (List (Cell I))) (told : Violations) (tri : Tri) (b : Bool) → after ≡ put_truth l n flow row to tri → (b ≡ true → can_hold tri ≡ true) → (b ≡ false → can_fail tri ≡ true) → IsStoodFor l n stands flow after told (giving s to (goes (truth b) s.world))
+    truth_good : (after : Option (List (Cell I))) (told : Violations) (tri : Tri) (b : Bool) → after ≡ put_truth l n flow row to tri → (b ≡ true → can_hold tri ≡ true) → (b ≡ false → can_fail tri ≡ true) → IsStoodFor l n gamma flow after told (giving s to (goes (truth b) s.world))
     truth_good after told tri b is h k =
         let t = truth_row q flow row to naming s.world.memory tri b h k in
         result_good q flow p naming row s r to few t.value (truth b) s.world (record { stands_for = t.stands_for; near = truth_near b; within = tt }) refl after told (is ∙ t.is) (clean told)
 
-    ordered_good : (rel : Rel) → IsStoodFor l n stands flow (put_truth l n flow row to (ordered l n flow rel x y)) pair_told (giving s to (effect.ordered rel pa pb s.world))
+    ordered_good : (rel : Rel) → IsStoodFor l n gamma flow (put_truth l n flow row to (ordered l n flow rel x y)) pair_told (giving s to (effect.ordered rel pa pb s.world))
     ordered_good rel = compared_good _ _ (λ h.
         let is : ordered l n flow rel x y ≡ pointers_compare l n rel x y = rw (meet x y pa pb h) refl in
         let left : offset_of pa ≡ h.o1 = ap offset_of h.left in
         let right : offset_of pb ≡ h.o2 = ap offset_of h.right in
         let same : holds rel (pos (offset_of pa)) (pos (offset_of pb)) ≡ holds rel (pos h.o1) (pos h.o2) = ap (λ z. holds rel (pos z) (pos (offset_of pb))) left ∙ ap (λ z. holds rel (pos h.o1) (pos z)) right in
-        let i1 = as_into stands naming s.world.memory x h.i h.o1 h.lo1 h.hi1 h.st1 in
-        let i2 = as_into stands naming s.world.memory y h.i h.o2 h.lo2 h.hi2 h.st2 in
+        let i1 = as_into gamma naming s.world.memory x h.i h.o1 h.lo1 h.hi1 h.st1 in
+        let i2 = as_into gamma naming s.world.memory y h.i h.o2 h.lo2 h.hi2 h.st2 in
         truth_good _ pair_told (pointers_compare l n rel x y) (holds rel (pos (offset_of pa)) (pos (offset_of pb))) (ap (put_truth l n flow row to) is)
         (λ e. compared_holds q c rel x y h.st1.base h.st2.base (pos h.lo1) (pos h.o1) (pos h.hi1) (pos h.lo2) (pos h.o2) (pos h.hi2) i1 i2 (sym same ∙ e))
         (λ e. compared_fails q c rel x y h.st1.base h.st2.base (pos h.lo1) (pos h.o1) (pos h.hi1) (pos h.lo2) (pos h.o2) (pos h.hi2) i1 i2 (sym same ∙ e)))
@@ -292,10 +292,10 @@ module _ {I : Type 0} {l : LatticeOf I} {n : IntegersOf I} {stands : I → ℤ �
       hold : b ≡ true → can_hold (pointers_equal n x y single) ≡ true
       fail : b ≡ false → can_fail (pointers_equal n x y single) ≡ true
 
-    equal_instances : (i o1 lo1 hi1 j o2 lo2 hi2 : ℕ) → (life_at s.world.memory i ≡ ended → ⊥) → (life_at s.world.memory j ≡ ended → ⊥) → StandsInto stands naming s.world.memory x i o1 lo1 hi1 → StandsInto stands naming s.world.memory y j o2 lo2 hi2 → CanBe ((i == j) && (o1 == o2))
+    equal_instances : (i o1 lo1 hi1 j o2 lo2 hi2 : ℕ) → (life_at s.world.memory i ≡ ended → ⊥) → (life_at s.world.memory j ≡ ended → ⊥) → InGammaInto gamma naming s.world.memory x i o1 lo1 hi1 → InGammaInto gamma naming s.world.memory y j o2 lo2 hi2 → CanBe ((i == j) && (o1 == o2))
     equal_instances i o1 lo1 hi1 j o2 lo2 hi2 ai aj st1 st2 =
-        let i1 = as_into stands naming s.world.memory x i o1 lo1 hi1 st1 in
-        let i2 = as_into stands naming s.world.memory y j o2 lo2 hi2 st2 in
+        let i1 = as_into gamma naming s.world.memory x i o1 lo1 hi1 st1 in
+        let i2 = as_into gamma naming s.world.memory y j o2 lo2 hi2 st2 in
         let bx = base_there x i o1 lo1 hi1 st1 in
         let by = base_there y j o2 lo2 hi2 st2 in
         let sx = base_small st1.base bx.0 bx.1 in
@@ -305,7 +305,7 @@ module _ {I : Type 0} {l : LatticeOf I} {n : IntegersOf I} {stands : I → ℤ �
               let f = eqb-true i j a.0 in
               let g = eqb-true o1 o2 a.1 in
               let b : st2.base ≡ st1.base = same_Some st2.base st1.base (sym st2.named ∙ (ap naming (sym f) ∙ st1.named)) in
-              (equality_meaning q).same_holds x y single st1.base (pos lo1) (pos o1) (pos hi1) (pos lo2) (pos hi2) i1 (subst (λ z. IsInto stands y z (pos lo2) (pos o1) (pos hi2)) b (subst (λ z. IsInto stands y st2.base (pos lo2) (pos z) (pos hi2)) (sym g) i2));
+              (equality_meaning q).same_holds x y single st1.base (pos lo1) (pos o1) (pos hi1) (pos lo2) (pos hi2) i1 (subst (λ z. IsInto gamma y z (pos lo2) (pos o1) (pos hi2)) b (subst (λ z. IsInto gamma y st2.base (pos lo2) (pos z) (pos hi2)) (sym g) i2));
           fail = λ e. elim (cases_eq i j) [
             | inr ne ↦ (equality_meaning q).instances_fail x y single st1.base st2.base (pos lo1) (pos o1) (pos hi1) (pos lo2) (pos o2) (pos hi2) sx (base_small st2.base by.0 by.1) i1 i2
                 (λ same has. ne (same_instance i j st1.base bx.0 bx.1 (is_single flow.bases.items st1.base bx.0 bx.1 sx single (bases_order.reflexive single) has) st1.named (subst (λ z. naming j ≡ Some z) (sym same) st2.named) ai aj))
@@ -321,19 +321,19 @@ module _ {I : Type 0} {l : LatticeOf I} {n : IntegersOf I} {stands : I → ℤ �
     equal_can (nowhere e h) (nowhere f k) = subst (λ z. CanBe (are_equal z pb)) (sym e) (subst (λ z. CanBe (are_equal null z)) (sym f)
         (record { hold = λ t. (equality_meaning q).nulls_hold x y single h k; fail = λ t. absurd (true≢false t) }))
     equal_can (nowhere e h) (somewhere j o2 lo2 hi2 f a st w) = subst (λ z. CanBe (are_equal z pb)) (sym e) (subst (λ z. CanBe (are_equal null z)) (sym f)
-        (record { hold = λ t. absurd (true≢false (sym t)); fail = λ t. (equality_meaning q).null_fails x y single st.base (pos lo2) (pos o2) (pos hi2) h (as_into stands naming s.world.memory y j o2 lo2 hi2 st) }))
+        (record { hold = λ t. absurd (true≢false (sym t)); fail = λ t. (equality_meaning q).null_fails x y single st.base (pos lo2) (pos o2) (pos hi2) h (as_into gamma naming s.world.memory y j o2 lo2 hi2 st) }))
     equal_can (somewhere i o1 lo1 hi1 e a st w) (nowhere f k) = subst (λ z. CanBe (are_equal z pb)) (sym e) (subst (λ z. CanBe (are_equal (into i o1 lo1 hi1) z)) (sym f)
-        (record { hold = λ t. absurd (true≢false (sym t)); fail = λ t. (equality_meaning q).to_null_fails x y single st.base (pos lo1) (pos o1) (pos hi1) (as_into stands naming s.world.memory x i o1 lo1 hi1 st) k }))
+        (record { hold = λ t. absurd (true≢false (sym t)); fail = λ t. (equality_meaning q).to_null_fails x y single st.base (pos lo1) (pos o1) (pos hi1) (as_into gamma naming s.world.memory x i o1 lo1 hi1 st) k }))
     equal_can (somewhere i o1 lo1 hi1 e a st w) (somewhere j o2 lo2 hi2 f d su v) = subst (λ z. CanBe (are_equal z pb)) (sym e) (subst (λ z. CanBe (are_equal (into i o1 lo1 hi1) z)) (sym f)
         (equal_instances i o1 lo1 hi1 j o2 lo2 hi2 a d st su))
 
     abbrev equal_told : Violations
     equal_told = record no_violations { nullref = x.ended || y.ended }
 
-    equal_good : IsStoodFor l n stands flow (put_truth l n flow row to (equality n flow x y)) equal_told (giving s to (effect.equality s.world pa pb (are_equal pa pb)))
+    equal_good : IsStoodFor l n gamma flow (put_truth l n flow row to (equality n flow x y)) equal_told (giving s to (effect.equality s.world pa pb (are_equal pa pb)))
     equal_good = unended_good _ equal_told _ refl (λ a b. let k = equal_can a b in truth_good _ equal_told (equality n flow x y) (are_equal pa pb) refl k.hold k.fail)
 
-    not_equal_good : IsStoodFor l n stands flow (put_truth l n flow row to (negated (equality n flow x y))) equal_told (giving s to (effect.equality s.world pa pb (not (are_equal pa pb))))
+    not_equal_good : IsStoodFor l n gamma flow (put_truth l n flow row to (negated (equality n flow x y))) equal_told (giving s to (effect.equality s.world pa pb (not (are_equal pa pb))))
     not_equal_good = unended_good _ equal_told _ refl (λ a b. let k = equal_can a b in
         truth_good _ equal_told (negated (equality n flow x y)) (not (are_equal pa pb)) refl
         (λ e. negated_holds (equality n flow x y) ∙ k.fail (not_true (are_equal pa pb) e))
@@ -349,7 +349,7 @@ module _ {I : Type 0} {l : LatticeOf I} {n : IntegersOf I} {stands : I → ℤ �
 
   -- ---- the instructions
 
-  pub difference_sound : (to left right size : ℕ) → fits_operation (names_of flow) (op.Difference to left right size) ≡ true → StepIsSound l n stands flow row (op.Difference to left right size) s
+  pub difference_sound : (to left right size : ℕ) → fits_operation (names_of flow) (op.Difference to left right size) ≡ true → StepIsSound l n gamma flow row (op.Difference to left right size) s
   unfolding operate difference_step operation_violations
   difference_sound to left right size fits =
       let named = and_parts (has_temp (names_of flow) to) (has_temp (names_of flow) left && (has_temp (names_of flow) right && (is_extent size && nat_lt 0 size))) fits in
@@ -359,16 +359,16 @@ module _ {I : Type 0} {l : LatticeOf I} {n : IntegersOf I} {stands : I → ℤ �
       let some = ltb-true 0 size (and_parts (is_extent size) (nat_lt 0 size) sized.1).1 in
       let x : Value I = temp_value l n flow row left in
       let y : Value I = temp_value l n flow row right in
-      if_some_good l n stands flow _ _ s r.begun (s.temps left) _ (λ v e.
-      if_some_good l n stands flow _ _ s r.begun (s.temps right) _ (λ u f.
-      pointer_good l n stands flow _ _ s to v s.world _ r.begun (λ pa g.
-      pointer_good l n stands flow _ _ s to u s.world _ r.begun (λ pb h.
+      if_some_good l n gamma flow _ _ s r.begun (s.temps left) _ (λ v e.
+      if_some_good l n gamma flow _ _ s r.begun (s.temps right) _ (λ u f.
+      pointer_good l n gamma flow _ _ s to v s.world _ r.begun (λ pa g.
+      pointer_good l n gamma flow _ _ s to u s.world _ r.begun (λ pb h.
       difference_good to few x.pointer y.pointer pa pb
-      (subst (StandsScalar stands naming s.world.memory x) g (r.stands_for.temps left v e)) (subst (StandsScalar stands naming s.world.memory y) h (r.stands_for.temps right u f))
+      (subst (InGammaScalar gamma naming s.world.memory x) g (r.stands_for.temps left v e)) (subst (InGammaScalar gamma naming s.world.memory y) h (r.stands_for.temps right u f))
       (r.stands_for.held.within left (pointer pa) (e ∙ ap Some g)) (r.stands_for.held.within right (pointer pb) (f ∙ ap Some h)) size some))))
 
-  relation_good : (rel : Rel) (to : ℕ) → to < flow.temps → (left right : ℕ) (pa pb : MachinePointer) → StandsPointer stands naming s.world.memory (temp_value l n flow row left).pointer pa → StandsPointer stands naming s.world.memory (temp_value l n flow row right).pointer pb → IsPointerIn s.world.memory pa → IsPointerIn s.world.memory pb
-      → IsStoodFor l n stands flow (put_truth l n flow row to (relation l n flow rel (temp_value l n flow row left).pointer (temp_value l n flow row right).pointer)) (relation_violations l n flow row rel left right) (giving s to (pointers_compared rel pa pb s.world))
+  relation_good : (rel : Rel) (to : ℕ) → to < flow.temps → (left right : ℕ) (pa pb : MachinePointer) → InGammaPointer gamma naming s.world.memory (temp_value l n flow row left).pointer pa → InGammaPointer gamma naming s.world.memory (temp_value l n flow row right).pointer pb → IsPointerIn s.world.memory pa → IsPointerIn s.world.memory pb
+      → IsStoodFor l n gamma flow (put_truth l n flow row to (relation l n flow rel (temp_value l n flow row left).pointer (temp_value l n flow row right).pointer)) (relation_violations l n flow row rel left right) (giving s to (pointers_compared rel pa pb s.world))
   relation_good Eq to few left right pa pb sa sb wa wb = equal_good to few (temp_value l n flow row left).pointer (temp_value l n flow row right).pointer pa pb sa sb wa wb
   relation_good Ne to few left right pa pb sa sb wa wb = not_equal_good to few (temp_value l n flow row left).pointer (temp_value l n flow row right).pointer pa pb sa sb wa wb
   relation_good Lt to few left right pa pb sa sb wa wb = ordered_good to few (temp_value l n flow row left).pointer (temp_value l n flow row right).pointer pa pb sa sb wa wb Lt
@@ -376,14 +376,14 @@ module _ {I : Type 0} {l : LatticeOf I} {n : IntegersOf I} {stands : I → ℤ �
   relation_good Gt to few left right pa pb sa sb wa wb = ordered_good to few (temp_value l n flow row left).pointer (temp_value l n flow row right).pointer pa pb sa sb wa wb Gt
   relation_good Ge to few left right pa pb sa sb wa wb = ordered_good to few (temp_value l n flow row left).pointer (temp_value l n flow row right).pointer pa pb sa sb wa wb Ge
 
-  pub relation_sound : (to : ℕ) (rel : Rel) (left right : ℕ) → fits_operation (names_of flow) (op.ComparePointers to rel left right) ≡ true → StepIsSound l n stands flow row (op.ComparePointers to rel left right) s
+  pub relation_sound : (to : ℕ) (rel : Rel) (left right : ℕ) → fits_operation (names_of flow) (op.ComparePointers to rel left right) ≡ true → StepIsSound l n gamma flow row (op.ComparePointers to rel left right) s
   unfolding operate relation_step operation_violations
   relation_sound to rel left right fits =
       let few = ltb-true to flow.temps (and_parts (has_temp (names_of flow) to) (has_temp (names_of flow) left && has_temp (names_of flow) right) fits).0 in
-      if_some_good l n stands flow _ _ s r.begun (s.temps left) _ (λ v e.
-      if_some_good l n stands flow _ _ s r.begun (s.temps right) _ (λ u f.
-      pointer_good l n stands flow _ _ s to v s.world _ r.begun (λ pa g.
-      pointer_good l n stands flow _ _ s to u s.world _ r.begun (λ pb h.
+      if_some_good l n gamma flow _ _ s r.begun (s.temps left) _ (λ v e.
+      if_some_good l n gamma flow _ _ s r.begun (s.temps right) _ (λ u f.
+      pointer_good l n gamma flow _ _ s to v s.world _ r.begun (λ pa g.
+      pointer_good l n gamma flow _ _ s to u s.world _ r.begun (λ pb h.
       relation_good rel to few left right pa pb
-      (subst (StandsScalar stands naming s.world.memory (temp_value l n flow row left)) g (r.stands_for.temps left v e)) (subst (StandsScalar stands naming s.world.memory (temp_value l n flow row right)) h (r.stands_for.temps right u f))
+      (subst (InGammaScalar gamma naming s.world.memory (temp_value l n flow row left)) g (r.stands_for.temps left v e)) (subst (InGammaScalar gamma naming s.world.memory (temp_value l n flow row right)) h (r.stands_for.temps right u f))
       (r.stands_for.held.within left (pointer pa) (e ∙ ap Some g)) (r.stands_for.held.within right (pointer pb) (f ∙ ap Some h))))))

@@ -26,7 +26,7 @@ machine_gives : binary_result Rem byte (pos 300) (pos 1000) ≡ Some (pos 300)
 machine_gives = refl
 
 -- the analysis has no number outside the type of the operation
-analysis_lacks : {I : Type 0} {l : LatticeOf I} {n : IntegersOf I} {stands : I → ℤ → Type 0} → BoundLaws l n stands → RangeLaws l n → (x y : I) → stands (n.arith Rem x y byte) (pos 300) → ⊥
+analysis_lacks : {I : Type 0} {l : LatticeOf I} {n : IntegersOf I} {gamma : I → ℤ → Type 0} → BoundLaws l n gamma → RangeLaws l n → (x y : I) → gamma (n.arith Rem x y byte) (pos 300) → ⊥
 analysis_lacks q r x y h =
     let i = q.inside _ (pos 300) h in
     let f = r.arith_fits Rem x y byte i.0 i.1 refl i.2 in

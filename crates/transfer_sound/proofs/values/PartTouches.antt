@@ -19,9 +19,9 @@ use Rattle.store_cells.specs.RowPositions.{state_at, state_position}
 use Rattle.store_objects.specs.LiveBases.{most_bases, may_be_live, is_live_in, live_of}
 use Rattle.transfer_checks.specs.Touches.{leaves_bounds_at, span_of, is_nowhere, places_within, touch_violations, touch}
 use Rattle.memory_model.specs.Memory.Instances.{live, bytes_at, life_at}
-use Rattle.store_sound.specs.Concretization.ValueMeaning.{Naming, StandsInto, StandsState}
+use Rattle.store_sound.specs.Concretization.ValueMeaning.{Naming, InGammaInto, InGammaState}
 use Rattle.store_sound.specs.Concretization.SoundMemory.{IsWithin}
-use Rattle.store_sound.specs.Concretization.RowMeaning.{MachineState, StandsFor}
+use Rattle.store_sound.specs.Concretization.RowMeaning.{MachineState, InGamma}
 use Rattle.store_sound.specs.Operations.Shapes.{AreShaped}
 use Rattle.store_sound.proofs.operations.Slices.{get_there}
 use Rattle.store_sound.proofs.operations.Windows.{RangeHas, met_has}
@@ -48,7 +48,7 @@ past_bounds (Some p) (Some r) from size z room h k e =
     let d = k.from in
     or_right _ _ (lt_true r.0 (p.1 +ℤ pos (from + size)) (omega (arith, ints, a, b, c, d, e)))
 
-module _ {I : Type 0} {l : LatticeOf I} {n : IntegersOf I} {stands : I → ℤ → Type 0} (o : OrderLaws l) (q : BoundLaws l n stands) (flow : Flow) (shaped : AreShaped flow.bases.items) (naming : Naming) (row : List (Cell I)) (state : MachineState) (s : StandsFor l n stands flow naming row state) (p : Pointers I) (from size : ℕ) (i offset lo hi : ℕ) (alive : life_at state.memory i ≡ live) (st : StandsInto stands naming state.memory p i offset lo hi) (inside : IsWithin state.memory i offset lo hi) where
+module _ {I : Type 0} {l : LatticeOf I} {n : IntegersOf I} {gamma : I → ℤ → Type 0} (o : OrderLaws l) (q : BoundLaws l n gamma) (flow : Flow) (shaped : AreShaped flow.bases.items) (naming : Naming) (row : List (Cell I)) (state : MachineState) (s : InGamma l n gamma flow naming row state) (p : Pointers I) (from size : ℕ) (i offset lo hi : ℕ) (alive : life_at state.memory i ≡ live) (st : InGammaInto gamma naming state.memory p i offset lo hi) (inside : IsWithin state.memory i offset lo hi) where
   abbrev live_set : Bases
   live_set = live_of l n flow.bases.items row p.bases
 
@@ -58,7 +58,7 @@ module _ {I : Type 0} {l : LatticeOf I} {n : IntegersOf I} {stands : I → ℤ �
       let top = slice_get_within flow.bases.items st.base base e in
       let may : may_be_live l n base row ≡ true = live_if base.shape.heap _ (λ h.
       let y = s.states st.base i base e h st.named in
-      (subst (λ z. StandsState stands naming state.memory (state_at l n row (state_position base)) z (length (bytes_at state.memory i))) alive y).1) in
+      (subst (λ z. InGammaState gamma naming state.memory (state_at l n row (state_position base)) z (length (bytes_at state.memory i))) alive y).1) in
       and_from _ _ (and_from _ _ (lt-ltb _ _ (omega (arith, few, top))) st.among) may
 
   -- the base is among those that may be live
@@ -75,7 +75,7 @@ module _ {I : Type 0} {l : LatticeOf I} {n : IntegersOf I} {stands : I → ℤ �
       and_from _ _ (rw (not_empty live_set st.base in_set) refl) (past_bounds (n.bounds p.rel) (n.bounds p.len) from size (pos offset -ℤ pos lo) (pos hi -ℤ pos lo) (bounds_have o q p.rel _ st.relative) (bounds_have o q p.len _ st.room) (omega (arith, ints, a, b, c)))
 
   module _ (below : (offset + from) + size ≤ hi) where
-    place_stands : stands (places_within l n p from size) (pos offset -ℤ pos lo)
+    place_stands : gamma (places_within l n p from size) (pos offset -ℤ pos lo)
     place_stands =
         let z : ℤ = pos offset -ℤ pos lo in
         let a = inside.above in
@@ -86,7 +86,7 @@ module _ {I : Type 0} {l : LatticeOf I} {n : IntegersOf I} {stands : I → ℤ �
     somewhere = or_none _ _ (not_empty live_set st.base in_set) (bounded o q (places_within l n p from size) (pos offset -ℤ pos lo) place_stands)
 
     -- what goes on stands for the pointer
-    pub part_into : StandsInto stands naming state.memory (touch l n flow.bases.items row p from size false).rest i offset lo hi
+    pub part_into : InGammaInto gamma naming state.memory (touch l n flow.bases.items row p from size false).rest i offset lo hi
     unfolding touch
     part_into =
         let a = somewhere in

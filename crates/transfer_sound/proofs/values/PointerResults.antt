@@ -18,7 +18,7 @@ use Rattle.memory_model.specs.Memory.Scalars.{pointer}
 use Rattle.memory_model.specs.Effects.Worlds.{World, goes, violating, stopped_by}
 use Rattle.semantics.specs.CfgMachine.FlowStates.{Standing}
 use Rattle.semantics.specs.CfgMachine.FlowActs.{giving}
-use Rattle.store_sound.specs.Concretization.ValueMeaning.{Naming, StandsInto, StandsByLife, StandsPointer}
+use Rattle.store_sound.specs.Concretization.ValueMeaning.{Naming, InGammaInto, InGammaByLife, InGammaPointer}
 use Rattle.store_sound.specs.Concretization.SoundMemory.{IsPointerIn}
 use Rattle.store_sound.specs.Programs.Premises.{HasPremises}
 use Rattle.transfer_sound.specs.Values.SoundSteps.{IsReached, IsStoodFor}
@@ -31,22 +31,22 @@ pub data HasNotEnded (life : Life) : Type 0 where
   is_live : life ≡ live → HasNotEnded life
   is_freed : life ≡ freed → HasNotEnded life
 
-module _ {I : Type 0} (stands : I → ℤ → Type 0) (naming : Naming) (memory : Memory) where
-  pub by_life : (v : Pointers I) (i offset lo hi : ℕ) (life : Life) → HasNotEnded life → StandsInto stands naming memory v i offset lo hi → StandsByLife stands naming memory v life i offset lo hi
+module _ {I : Type 0} (gamma : I → ℤ → Type 0) (naming : Naming) (memory : Memory) where
+  pub by_life : (v : Pointers I) (i offset lo hi : ℕ) (life : Life) → HasNotEnded life → InGammaInto gamma naming memory v i offset lo hi → InGammaByLife gamma naming memory v life i offset lo hi
   by_life v i offset lo hi live h s = s
   by_life v i offset lo hi freed h s = s
   by_life v i offset lo hi ended (is_live e) s = cc
   by_life v i offset lo hi ended (is_freed e) s = cc
 
-  pub as_into : (v : Pointers I) (i offset lo hi : ℕ) (s : StandsInto stands naming memory v i offset lo hi) → IsInto stands v s.base (pos lo) (pos offset) (pos hi)
+  pub as_into : (v : Pointers I) (i offset lo hi : ℕ) (s : InGammaInto gamma naming memory v i offset lo hi) → IsInto gamma v s.base (pos lo) (pos offset) (pos hi)
   as_into v i offset lo hi s = record { among = s.among; lower = s.lower; relative = s.relative; room = s.room }
 
-module _ {I : Type 0} {l : LatticeOf I} {n : IntegersOf I} {stands : I → ℤ → Type 0} (q : BoundLaws l n stands) (flow : Flow) (p : HasPremises flow) (naming : Naming) (row : List (Cell I)) (s : Standing) (r : IsReached l n stands flow naming row s) (to : ℕ) (few : to < flow.temps) where
+module _ {I : Type 0} {l : LatticeOf I} {n : IntegersOf I} {gamma : I → ℤ → Type 0} (q : BoundLaws l n gamma) (flow : Flow) (p : HasPremises flow) (naming : Naming) (row : List (Cell I)) (s : Standing) (r : IsReached l n gamma flow naming row s) (to : ℕ) (few : to < flow.temps) where
   -- a pointer in a temporary, in a world with the memory of the step's
-  pub pointer_given : (x : Pointers I) (at : MachinePointer) (w : World) (v : Violations) (after : Option (List (Cell I))) → StandsPointer stands naming s.world.memory x at → IsPointerIn s.world.memory at → w.memory ≡ s.world.memory → after ≡ put_pointer l flow row to x → AreAdmitted v w.violated → IsStoodFor l n stands flow after v (giving s to (goes (pointer at) w))
+  pub pointer_given : (x : Pointers I) (at : MachinePointer) (w : World) (v : Violations) (after : Option (List (Cell I))) → InGammaPointer gamma naming s.world.memory x at → IsPointerIn s.world.memory at → w.memory ≡ s.world.memory → after ≡ put_pointer l flow row to x → AreAdmitted v w.violated → IsStoodFor l n gamma flow after v (giving s to (goes (pointer at) w))
   pointer_given x at w v after h within same is told =
       result_good q flow p naming row s r to few (pointer_value l x) (pointer at) w (record { stands_for = h; near = tt; within = within }) same after v (is ∙ pointer_row q flow row to naming s.world.memory x at h) told
 
   -- the run stops at a rule that is admitted
-  pub rule_stops : (after : Option (List (Cell I))) (v : Violations) (w : World) (rule : Rule) → AreAdmitted v w.violated → violates v rule ≡ true → IsStoodFor l n stands flow after v (giving s to (stopped_by w rule))
-  rule_stops after v w rule told h = stop_good l n stands flow after v _ (violating w (rule ∷ [])) (both_admitted v w.violated (rule ∷ []) told (one_admitted v rule h))
+  pub rule_stops : (after : Option (List (Cell I))) (v : Violations) (w : World) (rule : Rule) → AreAdmitted v w.violated → violates v rule ≡ true → IsStoodFor l n gamma flow after v (giving s to (stopped_by w rule))
+  rule_stops after v w rule told h = stop_good l n gamma flow after v _ (violating w (rule ∷ [])) (both_admitted v w.violated (rule ∷ []) told (one_admitted v rule h))

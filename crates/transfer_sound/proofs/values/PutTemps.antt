@@ -22,9 +22,9 @@ use Rattle.memory_model.specs.Memory.Instances.{Memory, bytes_at, life_at}
 use Rattle.memory_model.specs.Memory.Scalars.{Scalar, pointer}
 use Rattle.memory_model.specs.Memory.Bytes.{MachinePointer}
 use Rattle.memory_model.specs.Effects.NumberedTables.{set_at, put_at}
-use Rattle.store_sound.specs.Concretization.ValueMeaning.{Naming, StandsScalar, StandsZero, StandsState}
+use Rattle.store_sound.specs.Concretization.ValueMeaning.{Naming, InGammaScalar, InGammaZero, InGammaState}
 use Rattle.store_sound.specs.Concretization.SoundMemory.{IsScalarIn, IsNamed}
-use Rattle.store_sound.specs.Concretization.RowMeaning.{MachineState, array_bytes, StandsLeaf, StandsClass, StandsFor}
+use Rattle.store_sound.specs.Concretization.RowMeaning.{MachineState, array_bytes, InGammaLeaf, InGammaClass, InGamma}
 use Rattle.store_sound.specs.Operations.Scalars.{IsScalarNamed}
 use Rattle.store_sound.proofs.operations.Only.{cell_put}
 use Rattle.store_sound.proofs.operations.Slices.{get_set_other}
@@ -49,14 +49,14 @@ put_cases f to v t scalar e = elim (cases_Bool (t == to)) [
 abbrev pub with_scalar : MachineState → ℕ → Scalar → MachineState
 with_scalar state to v = record state { temps = put_at state.temps to v }
 
-module _ {I : Type 0} {l : LatticeOf I} {n : IntegersOf I} {stands : I → ℤ → Type 0} (q : BoundLaws l n stands) (flow : Flow) (p : HasPremises flow) where
+module _ {I : Type 0} {l : LatticeOf I} {n : IntegersOf I} {gamma : I → ℤ → Type 0} (q : BoundLaws l n gamma) (flow : Flow) (p : HasPremises flow) where
   -- what a step gives, and what stands for it
   pub record IsResult (naming : Naming) (memory : Memory) (x : values.Value I) (v : Scalar) : Type 0 where
-    pub stands_for : StandsScalar stands naming memory x v
+    pub stands_for : InGammaScalar gamma naming memory x v
     pub near : IsNearScalar v
     pub within : IsScalarIn memory v
 
-  module _ (naming : Naming) (row : List (Cell I)) (long : length row ≡ flow.width) (state : MachineState) (s : StandsFor l n stands flow naming row state) (to : ℕ) (few : to < flow.temps) (x : values.Value I) (v : Scalar) (r : IsResult naming state.memory x v) where
+  module _ (naming : Naming) (row : List (Cell I)) (long : length row ≡ flow.width) (state : MachineState) (s : InGamma l n gamma flow naming row state) (to : ℕ) (few : to < flow.temps) (x : values.Value I) (v : Scalar) (r : IsResult naming state.memory x v) where
     abbrev after : List (Cell I)
     after = put_temp flow row to x
 
@@ -111,22 +111,22 @@ module _ {I : Type 0} {l : LatticeOf I} {n : IntegersOf I} {stands : I → ℤ �
     other_value : (t : ℕ) → (t ≡ to → ⊥) → temp_value l n flow after t ≡ temp_value l n flow row t
     other_value t ne = same_value l n row after (temp_position flow t) (keeps (temp_position flow t) (λ e. let a = p.temps in let k = p.short in ne (omega (arith, few, a, k, e))))
 
-    temp_by : (t : ℕ) (scalar : Scalar) → PutCases t to v scalar (state.temps t) → StandsScalar stands naming state.memory (temp_value l n flow after t) scalar
+    temp_by : (t : ℕ) (scalar : Scalar) → PutCases t to v scalar (state.temps t) → InGammaScalar gamma naming state.memory (temp_value l n flow after t) scalar
     temp_by t scalar (here e f) =
-        subst (λ z. StandsScalar stands naming state.memory (temp_value l n flow after z) scalar) (sym e)
-        (subst (λ z. StandsScalar stands naming state.memory z scalar) (sym own_value)
-        (subst (StandsScalar stands naming state.memory (near_value l n x)) f (near_scalar_stands q flow.model flow.bases.items naming state.memory s.sane x v r.within r.near r.stands_for)))
-    temp_by t scalar (there ne f) = subst (λ z. StandsScalar stands naming state.memory z scalar) (sym (other_value t ne)) (s.temps t scalar f)
+        subst (λ z. InGammaScalar gamma naming state.memory (temp_value l n flow after z) scalar) (sym e)
+        (subst (λ z. InGammaScalar gamma naming state.memory z scalar) (sym own_value)
+        (subst (InGammaScalar gamma naming state.memory (near_value l n x)) f (near_scalar_stands q flow.model flow.bases.items naming state.memory s.sane x v r.within r.near r.stands_for)))
+    temp_by t scalar (there ne f) = subst (λ z. InGammaScalar gamma naming state.memory z scalar) (sym (other_value t ne)) (s.temps t scalar f)
 
     within_by : (t : ℕ) (scalar : Scalar) → PutCases t to v scalar (state.temps t) → IsScalarIn state.memory scalar
     within_by t scalar (here e f) = subst (IsScalarIn state.memory) f r.within
     within_by t scalar (there ne f) = s.held.within t scalar f
 
     named_by : (t : ℕ) (at : MachinePointer) → PutCases t to v (pointer at) (state.temps t) → IsNamed naming state.memory at
-    named_by t at (here e f) = subst (IsScalarNamed naming state.memory) f (scalar_named stands naming state.memory x v r.stands_for)
+    named_by t at (here e f) = subst (IsScalarNamed naming state.memory) f (scalar_named gamma naming state.memory x v r.stands_for)
     named_by t at (there ne f) = s.held.named t at f
 
-    pub put_stands : StandsFor l n stands flow naming after (with_scalar state to v)
+    pub put_stands : InGamma l n gamma flow naming after (with_scalar state to v)
     put_stands = record {
       sane = s.sane;
       held = record {
@@ -134,10 +134,10 @@ module _ {I : Type 0} {l : LatticeOf I} {n : IntegersOf I} {stands : I → ℤ �
         named = λ t at e. named_by t at (put_cases state.temps to v t (pointer at) e);
       };
       lives = s.lives;
-      leaves = λ b j base leaf e f. subst (StandsLeaf stands flow naming state.memory b leaf) (sym (same_value l n row after (leaf_position base j) (base_keeps (leaf_position base j) (leaf_below b j base leaf e f)))) (s.leaves b j base leaf e f);
-      classes = λ b c base e heap h. subst (StandsClass stands flow naming state.memory b base (class_at c)) (sym (same_value l n row after (class_position base c) (base_keeps (class_position base c) (class_below b c base e heap h)))) (s.classes b c base e heap h);
-      zeros = λ b z i base part e f h. subst (λ y. StandsZero stands naming state.memory y (array_bytes part (bytes_at state.memory i))) (sym (same_zero l n row after (zero_position base z) (base_keeps (zero_position base z) (zero_below b z base part e f)))) (s.zeros b z i base part e f h);
-      states = λ b i base e heap h. subst (λ y. StandsState stands naming state.memory y (life_at state.memory i) (length (bytes_at state.memory i))) (sym (same_state l n row after (state_position base) (base_keeps (state_position base) (state_below b base e heap)))) (s.states b i base e heap h);
+      leaves = λ b j base leaf e f. subst (InGammaLeaf gamma flow naming state.memory b leaf) (sym (same_value l n row after (leaf_position base j) (base_keeps (leaf_position base j) (leaf_below b j base leaf e f)))) (s.leaves b j base leaf e f);
+      classes = λ b c base e heap h. subst (InGammaClass gamma flow naming state.memory b base (class_at c)) (sym (same_value l n row after (class_position base c) (base_keeps (class_position base c) (class_below b c base e heap h)))) (s.classes b c base e heap h);
+      zeros = λ b z i base part e f h. subst (λ y. InGammaZero gamma naming state.memory y (array_bytes part (bytes_at state.memory i))) (sym (same_zero l n row after (zero_position base z) (base_keeps (zero_position base z) (zero_below b z base part e f)))) (s.zeros b z i base part e f h);
+      states = λ b i base e heap h. subst (λ y. InGammaState gamma naming state.memory y (life_at state.memory i) (length (bytes_at state.memory i))) (sym (same_state l n row after (state_position base) (base_keeps (state_position base) (state_below b base e heap)))) (s.states b i base e heap h);
       temps = λ t scalar e. temp_by t scalar (put_cases state.temps to v t scalar e);
     }
 

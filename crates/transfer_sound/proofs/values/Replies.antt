@@ -17,16 +17,16 @@ use Rattle.memory_model.specs.Effects.Operands.{with_number, with_pointer}
 use Rattle.semantics.specs.CfgMachine.FlowStates.{Standing, if_some}
 use Rattle.semantics.specs.CfgMachine.FlowActs.{giving}
 use Rattle.store_sound.specs.Concretization.ValueMeaning.{Naming}
-use Rattle.store_sound.specs.Concretization.RowMeaning.{StandsFor}
+use Rattle.store_sound.specs.Concretization.RowMeaning.{InGamma}
 use Rattle.store_sound.specs.Concretization.Coverage.{state_of}
 use Rattle.store_sound.specs.Programs.Premises.{HasPremises}
-use Rattle.transfer_sound.specs.Values.SoundSteps.{AreShort, IsReached, StandsBehind, IsStoodFor}
+use Rattle.transfer_sound.specs.Values.SoundSteps.{AreShort, IsReached, InGammaAfter, IsStoodFor}
 use Rattle.transfer_sound.proofs.values.Admitted.{AreAdmitted, none_admitted, same_admitted}
 use Rattle.transfer_sound.proofs.values.PutTemps.{IsResult, put_stands, put_long}
 
-module _ {I : Type 0} (l : LatticeOf I) (n : IntegersOf I) (stands : I → ℤ → Type 0) (flow : Flow) (after : Option (List (Cell I))) (admitted : Violations) where
+module _ {I : Type 0} (l : LatticeOf I) (n : IntegersOf I) (gamma : I → ℤ → Type 0) (flow : Flow) (after : Option (List (Cell I))) (admitted : Violations) where
   abbrev Good : Reply Standing → Type 0
-  Good reply = IsStoodFor l n stands flow after admitted reply
+  Good reply = IsStoodFor l n gamma flow after admitted reply
 
   -- where the run stops there is nothing to stand for
   pub stop_good : (why : Why) (w : World) → AreAdmitted admitted w.violated → Good (stops why w)
@@ -53,17 +53,17 @@ module _ {I : Type 0} (l : LatticeOf I) (n : IntegersOf I) (stands : I → ℤ �
   cond_good s to true x y h k = h refl
   cond_good s to false x y h k = k refl
 
-module _ {I : Type 0} {l : LatticeOf I} {n : IntegersOf I} {stands : I → ℤ → Type 0} (q : BoundLaws l n stands) (flow : Flow) (p : HasPremises flow) (naming : Naming) (row : List (Cell I)) (s : Standing) (r : IsReached l n stands flow naming row s) where
+module _ {I : Type 0} {l : LatticeOf I} {n : IntegersOf I} {gamma : I → ℤ → Type 0} (q : BoundLaws l n gamma) (flow : Flow) (p : HasPremises flow) (naming : Naming) (row : List (Cell I)) (s : Standing) (r : IsReached l n gamma flow naming row s) where
   -- the standing behind an instruction that gives something
   abbrev standing_behind : ℕ → Scalar → World → Standing
   standing_behind to v w = record s { at = suc s.at; temps = put_at s.temps to v; world = w }
 
   module _ (to : ℕ) (few : to < flow.temps) (x : Value I) (v : Scalar) (w : World) (result : IsResult q flow p naming s.world.memory x v) (same : w.memory ≡ s.world.memory) where
-    given_stands : StandsFor l n stands flow naming (put_temp flow row to x) (record { memory = w.memory; temps = put_at s.temps to v; entered = s.bases })
-    given_stands = subst (λ m. StandsFor l n stands flow naming (put_temp flow row to x) (record { memory = m; temps = put_at s.temps to v; entered = s.bases })) (sym same)
+    given_stands : InGamma l n gamma flow naming (put_temp flow row to x) (record { memory = w.memory; temps = put_at s.temps to v; entered = s.bases })
+    given_stands = subst (λ m. InGamma l n gamma flow naming (put_temp flow row to x) (record { memory = m; temps = put_at s.temps to v; entered = s.bases })) (sym same)
         (put_stands q flow p naming row r.long (state_of s) r.stands_for to few x v result)
 
-    given_behind : (after : Option (List (Cell I))) → after ≡ Some (put_temp flow row to x) → StandsBehind l n stands flow after (standing_behind to v w)
+    given_behind : (after : Option (List (Cell I))) → after ≡ Some (put_temp flow row to x) → InGammaAfter l n gamma flow after (standing_behind to v w)
     given_behind after is = record {
       row = put_temp flow row to x;
       is = is;
@@ -74,12 +74,12 @@ module _ {I : Type 0} {l : LatticeOf I} {n : IntegersOf I} {stands : I → ℤ �
     }
 
     -- the run goes on behind the instruction, with its result in a temporary
-    pub result_good : (after : Option (List (Cell I))) (admitted : Violations) → after ≡ Some (put_temp flow row to x) → AreAdmitted admitted w.violated → IsStoodFor l n stands flow after admitted (giving s to (goes v w))
+    pub result_good : (after : Option (List (Cell I))) (admitted : Violations) → after ≡ Some (put_temp flow row to x) → AreAdmitted admitted w.violated → IsStoodFor l n gamma flow after admitted (giving s to (goes v w))
     result_good after admitted is h = record {
       goes_on = λ t u e.
           let a : standing_behind to v w ≡ t = cc in
           let b : w ≡ u = cc in
-          subst (λ z. StandsBehind l n stands flow after (record z { world = u })) a
-          (subst (λ z. StandsBehind l n stands flow after (record (standing_behind to v w) { world = z })) b (given_behind after is));
+          subst (λ z. InGammaAfter l n gamma flow after (record z { world = u })) a
+          (subst (λ z. InGammaAfter l n gamma flow after (record (standing_behind to v w) { world = z })) b (given_behind after is));
       admits = h;
     }

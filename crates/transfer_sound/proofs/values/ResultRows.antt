@@ -23,15 +23,15 @@ use Rattle.transfer_system.specs.ResultTemps.{put_number, put_truth, put_pointer
 use Rattle.memory_model.specs.Memory.Bytes.{MachinePointer, null, into}
 use Rattle.memory_model.specs.Memory.Instances.{Memory, Life, live, ended, freed, life_at}
 use Rattle.memory_model.specs.Effects.IntegerEffects.{truth}
-use Rattle.store_sound.specs.Concretization.ValueMeaning.{Naming, StandsByLife, StandsPointer, StandsScalar}
+use Rattle.store_sound.specs.Concretization.ValueMeaning.{Naming, InGammaByLife, InGammaPointer, InGammaScalar}
 use Rattle.transfer_sound.proofs.values.NearScalars.{IsNearScalar}
 
 pub truth_near : (b : Bool) → IsNearScalar (truth b)
 truth_near true = record { from = omega (arith, ints); to = omega (arith, ints) }
 truth_near false = record { from = omega (arith, ints); to = omega (arith, ints) }
 
-module _ {I : Type 0} {l : LatticeOf I} {n : IntegersOf I} {stands : I → ℤ → Type 0} (q : BoundLaws l n stands) (flow : Flow) (row : List (Cell I)) (to : ℕ) where
-  pub number_row : (x : Value I) (z : ℤ) → stands x.num z → put_number n flow row to x ≡ Some (put_temp flow row to x)
+module _ {I : Type 0} {l : LatticeOf I} {n : IntegersOf I} {gamma : I → ℤ → Type 0} (q : BoundLaws l n gamma) (flow : Flow) (row : List (Cell I)) (to : ℕ) where
+  pub number_row : (x : Value I) (z : ℤ) → gamma x.num z → put_number n flow row to x ≡ Some (put_temp flow row to x)
   unfolding put_number
   number_row x z h = let i = q.inside x.num z h in rw i.2 refl
 
@@ -40,7 +40,7 @@ module _ {I : Type 0} {l : LatticeOf I} {n : IntegersOf I} {stands : I → ℤ �
     pub record TruthRow (t : Tri) (b : Bool) : Type 0 where
       pub value : Value I
       pub is : put_truth l n flow row to t ≡ Some (put_temp flow row to value)
-      pub stands_for : StandsScalar stands naming memory value (truth b)
+      pub stands_for : InGammaScalar gamma naming memory value (truth b)
 
     pub truth_row : (t : Tri) (b : Bool) → (b ≡ true → can_hold t ≡ true) → (b ≡ false → can_fail t ≡ true) → TruthRow t b
     unfolding put_truth
@@ -55,15 +55,15 @@ module _ {I : Type 0} {l : LatticeOf I} {n : IntegersOf I} {stands : I → ℤ �
 
     -- ---- pointers
 
-    life_there : (x : Pointers I) (life : Life) (i offset lo hi : ℕ) → StandsByLife stands naming memory x life i offset lo hi → (is_any x || x.ended) ≡ true
+    life_there : (x : Pointers I) (life : Life) (i offset lo hi : ℕ) → InGammaByLife gamma naming memory x life i offset lo hi → (is_any x || x.ended) ≡ true
     life_there x live i offset lo hi h = or_left (is_any x) x.ended (or_left (not (bases_empty x.bases)) x.null (ap not (has_some x.bases h.base h.among)))
     life_there x ended i offset lo hi h = or_right (is_any x) x.ended h
     life_there x freed i offset lo hi h = or_left (is_any x) x.ended (or_left (not (bases_empty x.bases)) x.null (ap not (has_some x.bases h.base h.among)))
 
-    pointer_there : (x : Pointers I) (p : MachinePointer) → StandsPointer stands naming memory x p → (is_any x || x.ended) ≡ true
+    pointer_there : (x : Pointers I) (p : MachinePointer) → InGammaPointer gamma naming memory x p → (is_any x || x.ended) ≡ true
     pointer_there x null h = or_left (is_any x) x.ended (or_right (not (bases_empty x.bases)) x.null h)
     pointer_there x (into i offset lo hi) h = life_there x (life_at memory i) i offset lo hi h
 
-    pub pointer_row : (x : Pointers I) (p : MachinePointer) → StandsPointer stands naming memory x p → put_pointer l flow row to x ≡ Some (put_temp flow row to (pointer_value l x))
+    pub pointer_row : (x : Pointers I) (p : MachinePointer) → InGammaPointer gamma naming memory x p → put_pointer l flow row to x ≡ Some (put_temp flow row to (pointer_value l x))
     unfolding put_pointer
     pointer_row x p h = rw (pointer_there x p h) refl

@@ -43,11 +43,11 @@ pub range_some : (r : Range) (z : ℤ) → RangeHas r z → is_some r ≡ true
 range_some None z h = absurd h
 range_some (Some p) z h = refl
 
-module _ {I : Type 0} {l : LatticeOf I} {n : IntegersOf I} {stands : I → ℤ → Type 0} (q : BoundLaws l n stands) where
-  pub bounds_number : (x : I) (z : ℤ) → stands x z → has_number (n.bounds x) z ≡ true
+module _ {I : Type 0} {l : LatticeOf I} {n : IntegersOf I} {gamma : I → ℤ → Type 0} (q : BoundLaws l n gamma) where
+  pub bounds_number : (x : I) (z : ℤ) → gamma x z → has_number (n.bounds x) z ≡ true
   bounds_number x z h = range_number (n.bounds x) z (bounds_have q x z h)
 
-  pub bounds_some : (x : I) (z : ℤ) → stands x z → is_some (n.bounds x) ≡ true
+  pub bounds_some : (x : I) (z : ℤ) → gamma x z → is_some (n.bounds x) ≡ true
   bounds_some x z h = range_some (n.bounds x) z (bounds_have q x z h)
 
 -- ---- types
@@ -68,7 +68,7 @@ type_near k a z b h e f i j =
       | inr d ↦ (let x : pos 0 ≤ℤ a = rw d at e in let y : b ≤ℤ pos (2 ^ (8 * k.bytes) - 1) = rw d at f in record { from = omega (arith, ints, x, i); to = omega (arith, ints, u, y, j) })
     ]
 
-module _ {I : Type 0} {l : LatticeOf I} {n : IntegersOf I} {stands : I → ℤ → Type 0} (q : BoundLaws l n stands) where
+module _ {I : Type 0} {l : LatticeOf I} {n : IntegersOf I} {gamma : I → ℤ → Type 0} (q : BoundLaws l n gamma) where
   -- a number of a value whose bounds lie in a type
-  pub value_near : (k : IntType) (x : I) (z : ℤ) → is_size k.bytes ≡ true → ((a b : ℤ) → n.bounds x ≡ Some (a, b) → (least_of k ≤ℤ a) × (b ≤ℤ greatest_of k)) → stands x z → IsNearNumber z
+  pub value_near : (k : IntType) (x : I) (z : ℤ) → is_size k.bytes ≡ true → ((a b : ℤ) → n.bounds x ≡ Some (a, b) → (least_of k ≤ℤ a) × (b ≤ℤ greatest_of k)) → gamma x z → IsNearNumber z
   value_near k x z size fits h = let i = q.inside x z h in let w = fits i.0 i.1 i.2 in type_near k i.0 z i.1 size w.0 w.1 i.3 i.4

@@ -54,7 +54,7 @@ use Rattle.memory_model.specs.Effects.IntegerEffects.{truth, plain_one, is_outsi
 use Rattle.semantics.specs.CfgMachine.FlowStates.{Standing}
 use Rattle.semantics.specs.CfgMachine.FlowActs.{giving, with_amount}
 use Rattle.store_sound.specs.Concretization.SeenLabels.{as_set}
-use Rattle.store_sound.specs.Concretization.ValueMeaning.{Naming, StandsScalar, StandsPointer}
+use Rattle.store_sound.specs.Concretization.ValueMeaning.{Naming, InGammaScalar, InGammaPointer}
 use Rattle.store_sound.specs.Concretization.SoundMemory.{IsPointerIn, IsScalarIn}
 use Rattle.store_sound.specs.Operations.Scalars.{IsOfKind}
 use Rattle.store_sound.specs.Programs.Premises.{HasPremises}
@@ -99,15 +99,15 @@ is_near z h =
 size_of : (f : Flow) (k : IntType) → is_int_type f.model k ≡ true → is_size k.bytes ≡ true
 size_of f k h = (and_parts (is_size k.bytes) _ h).0
 
-module _ {I : Type 0} {l : LatticeOf I} {n : IntegersOf I} {stands : I → ℤ → Type 0} (q : BoundLaws l n stands) (c : SoundLaws l n stands) (ranges : RangeLaws l n) (flow : Flow) (p : HasPremises flow) (naming : Naming) (row : List (Cell I)) (s : Standing) (r : IsReached l n stands flow naming row s) where
+module _ {I : Type 0} {l : LatticeOf I} {n : IntegersOf I} {gamma : I → ℤ → Type 0} (q : BoundLaws l n gamma) (c : SoundLaws l n gamma) (ranges : RangeLaws l n) (flow : Flow) (p : HasPremises flow) (naming : Naming) (row : List (Cell I)) (s : Standing) (r : IsReached l n gamma flow naming row s) where
   abbrev Sound : Operation → Type 0
-  Sound o = StepIsSound l n stands flow row o s
+  Sound o = StepIsSound l n gamma flow row o s
 
   -- what a temporary has
-  temp_stands : (t : ℕ) (v : Scalar) → s.temps t ≡ Some v → StandsScalar stands naming s.world.memory (temp_value l n flow row t) v
+  temp_stands : (t : ℕ) (v : Scalar) → s.temps t ≡ Some v → InGammaScalar gamma naming s.world.memory (temp_value l n flow row t) v
   temp_stands t v e = r.stands_for.temps t v e
 
-  number_result : (x : Value I) (z : ℤ) (labels : Labels) → IsNearNumber z → stands x.num z → labels_leq (as_set labels) x.labels ≡ true → IsResult q flow p naming s.world.memory x (integer z labels)
+  number_result : (x : Value I) (z : ℤ) (labels : Labels) → IsNearNumber z → gamma x.num z → labels_leq (as_set labels) x.labels ≡ true → IsResult q flow p naming s.world.memory x (integer z labels)
   number_result x z labels near h k = record { stands_for = (h, k); near = near; within = tt }
 
   few_temp : (t : ℕ) → has_temp (names_of flow) t ≡ true → t < flow.temps
@@ -126,19 +126,19 @@ module _ {I : Type 0} {l : LatticeOf I} {n : IntegersOf I} {stands : I → ℤ �
 
   -- ---- comparisons
 
-  truth_good : (to : ℕ) → to < flow.temps → (after : Option (List (Cell I))) (tri : Tri) (b : Bool) (t : TruthRow q flow row to naming s.world.memory tri b) → after ≡ Some (put_temp flow row to t.value) → IsStoodFor l n stands flow after no_violations (giving s to (goes (truth b) s.world))
+  truth_good : (to : ℕ) → to < flow.temps → (after : Option (List (Cell I))) (tri : Tri) (b : Bool) (t : TruthRow q flow row to naming s.world.memory tri b) → after ≡ Some (put_temp flow row to t.value) → IsStoodFor l n gamma flow after no_violations (giving s to (goes (truth b) s.world))
   truth_good to few after tri b t e = result_good q flow p naming row s r to few t.value (truth b) s.world (record { stands_for = t.stands_for; near = truth_near b; within = tt }) refl after no_violations e (same_admitted no_violations s.world.violated [] r.begun (none_admitted no_violations))
 
   compare_sound : (to : ℕ) (rel : Rel) (left right : ℕ) → fits_operation (names_of flow) (op.Compare to rel left right) ≡ true → Sound (op.Compare to rel left right)
   unfolding operate compare_step operation_violations
   compare_sound to rel left right fits =
       let few = few_temp to (and_parts (has_temp (names_of flow) to) (has_temp (names_of flow) left && has_temp (names_of flow) right) fits).0 in
-      if_some_good l n stands flow _ no_violations s r.begun (s.temps left) _ (λ v e.
-      if_some_good l n stands flow _ no_violations s r.begun (s.temps right) _ (λ w f.
-      number_good l n stands flow _ no_violations s to v s.world _ r.begun (λ a la g.
-      number_good l n stands flow _ no_violations s to w s.world _ r.begun (λ b lb h.
-      let x = subst (StandsScalar stands naming s.world.memory (temp_value l n flow row left)) g (temp_stands left v e) in
-      let y = subst (StandsScalar stands naming s.world.memory (temp_value l n flow row right)) h (temp_stands right w f) in
+      if_some_good l n gamma flow _ no_violations s r.begun (s.temps left) _ (λ v e.
+      if_some_good l n gamma flow _ no_violations s r.begun (s.temps right) _ (λ w f.
+      number_good l n gamma flow _ no_violations s to v s.world _ r.begun (λ a la g.
+      number_good l n gamma flow _ no_violations s to w s.world _ r.begun (λ b lb h.
+      let x = subst (InGammaScalar gamma naming s.world.memory (temp_value l n flow row left)) g (temp_stands left v e) in
+      let y = subst (InGammaScalar gamma naming s.world.memory (temp_value l n flow row right)) h (temp_stands right w f) in
       let t = truth_row q flow row to naming s.world.memory (n.compare rel (temp_value l n flow row left).num (temp_value l n flow row right).num) (holds rel a b)
       (λ i. c.compare_holds rel (temp_value l n flow row left).num (temp_value l n flow row right).num a b x.0 y.0 i)
       (λ i. c.compare_fails rel (temp_value l n flow row left).num (temp_value l n flow row right).num a b x.0 y.0 i) in
@@ -148,7 +148,7 @@ module _ {I : Type 0} {l : LatticeOf I} {n : IntegersOf I} {stands : I → ℤ �
   unfolding operate not_step operation_violations
   not_sound to from k fits =
       let few = few_temp to (and_parts (has_temp (names_of flow) to) (has_temp (names_of flow) from && is_scalar flow.model k) fits).0 in
-      if_some_good l n stands flow _ no_violations s r.begun (s.temps from) _ (λ v e.
+      if_some_good l n gamma flow _ no_violations s r.begun (s.temps from) _ (λ v e.
       let x = temp_value l n flow row from in
       let t = truth_row q flow row to naming s.world.memory (negated (value_truth n x)) (is_false v)
       (λ i. negated_holds (value_truth n x) ∙ false_fails q c naming s.world.memory x v (temp_stands from v e) i)
@@ -162,8 +162,8 @@ module _ {I : Type 0} {l : LatticeOf I} {n : IntegersOf I} {stands : I → ℤ �
 
   -- a result that there is has its number in a temporary; where there is none, the run stops
   computed_good : (to : ℕ) → to < flow.temps → (k : IntType) → is_size k.bytes ≡ true → (x : Value I) (v : Violations) (faults : List Rule) (labels : Labels) (result : Option ℤ) → AreAdmitted v faults → ((z : ℤ) → result ≡ Some z → IsResult q flow p naming s.world.memory x (integer z labels))
-      → IsStoodFor l n stands flow (cond (is_size k.bytes) (put_number n flow row to x) None) (cond (is_size k.bytes) v no_violations) (giving s to (computed faults result labels s.world))
-  computed_good to few k size x v faults labels None h f = stop_good l n stands flow _ _ (why_none faults) (violating s.world faults) (faults_begun _ faults (subst (λ b. AreAdmitted (cond b v no_violations) faults) (sym size) h))
+      → IsStoodFor l n gamma flow (cond (is_size k.bytes) (put_number n flow row to x) None) (cond (is_size k.bytes) v no_violations) (giving s to (computed faults result labels s.world))
+  computed_good to few k size x v faults labels None h f = stop_good l n gamma flow _ _ (why_none faults) (violating s.world faults) (faults_begun _ faults (subst (λ b. AreAdmitted (cond b v no_violations) faults) (sym size) h))
   computed_good to few k size x v faults labels (Some z) h f =
       let d = f z refl in
       let row_is : cond (is_size k.bytes) (put_number n flow row to x) None ≡ Some (put_temp flow row to x) = rw (size, number_row q flow row to x z d.stands_for.0) refl in
@@ -171,12 +171,12 @@ module _ {I : Type 0} {l : LatticeOf I} {n : IntegersOf I} {stands : I → ℤ �
 
   -- ---- operators on two integers
 
-  amount_good : (after : Option (List (Cell I))) (v : Violations) (by : Amount) (use_it : Scalar → Reply Standing) → ((w : Scalar) → StandsScalar stands naming s.world.memory (amount_value l n flow row by) w → IsStoodFor l n stands flow after v (use_it w)) → IsStoodFor l n stands flow after v (with_amount s by use_it)
-  amount_good after v (amount.Temp t) use_it h = if_some_good l n stands flow after v s r.begun (s.temps t) use_it (λ w e. h w (temp_stands t w e))
+  amount_good : (after : Option (List (Cell I))) (v : Violations) (by : Amount) (use_it : Scalar → Reply Standing) → ((w : Scalar) → InGammaScalar gamma naming s.world.memory (amount_value l n flow row by) w → IsStoodFor l n gamma flow after v (use_it w)) → IsStoodFor l n gamma flow after v (with_amount s by use_it)
+  amount_good after v (amount.Temp t) use_it h = if_some_good l n gamma flow after v s r.begun (s.temps t) use_it (λ w e. h w (temp_stands t w e))
   amount_good after v amount.One use_it h = h plain_one (near_number_stands q (n.one (pos 1)) (pos 1) (record { from = omega (arith, ints); to = omega (arith, ints) }) (q.one_stands (pos 1)), refl)
 
-  binary_good : (to : ℕ) → to < flow.temps → (o : IntOp) (k : IntType) → is_size k.bytes ≡ true → (x y : Value I) (a b : ℤ) (la lb : Labels) → StandsScalar stands naming s.world.memory x (integer a la) → StandsScalar stands naming s.world.memory y (integer b lb) → in_type k a ≡ true
-      → IsStoodFor l n stands flow (cond (is_size k.bytes) (put_number n flow row to (value_arith l n o x y k)) None) (cond (is_size k.bytes) (binary_violations n o k x y) no_violations) (giving s to (binary_numbers o k a la b lb s.world))
+  binary_good : (to : ℕ) → to < flow.temps → (o : IntOp) (k : IntType) → is_size k.bytes ≡ true → (x y : Value I) (a b : ℤ) (la lb : Labels) → InGammaScalar gamma naming s.world.memory x (integer a la) → InGammaScalar gamma naming s.world.memory y (integer b lb) → in_type k a ≡ true
+      → IsStoodFor l n gamma flow (cond (is_size k.bytes) (put_number n flow row to (value_arith l n o x y k)) None) (cond (is_size k.bytes) (binary_violations n o k x y) no_violations) (giving s to (binary_numbers o k a la b lb s.world))
   binary_good to few o k size x y a b la lb f g inside =
       computed_good to few k size (value_arith l n o x y k) (binary_violations n o k x y) (binary_faults o k a b) _ (binary_result o k a b) (faults_admitted q c k x y a b f.0 g.0 inside o)
       (λ z e. let h = c.arith_stands o k x.num y.num a b z size f.0 g.0 inside e in
@@ -188,16 +188,16 @@ module _ {I : Type 0} {l : LatticeOf I} {n : IntegersOf I} {stands : I → ℤ �
       let a = and_parts (has_temp (names_of flow) to) (has_temp (names_of flow) left && (has_amount (names_of flow) right && is_int_type flow.model k)) fits in
       let b = and_parts (has_temp (names_of flow) left) (has_amount (names_of flow) right && is_int_type flow.model k) a.1 in
       let size = size_of flow k (and_parts (has_amount (names_of flow) right) (is_int_type flow.model k) b.1).1 in
-      if_some_good l n stands flow _ _ s r.begun (s.temps left) _ (λ v e.
+      if_some_good l n gamma flow _ _ s r.begun (s.temps left) _ (λ v e.
       amount_good _ _ right _ (λ w sw.
-      number_good l n stands flow _ _ s to v s.world _ r.begun (λ z la g.
-      number_good l n stands flow _ _ s to w s.world _ r.begun (λ u lb h.
+      number_good l n gamma flow _ _ s to v s.world _ r.begun (λ z la g.
+      number_good l n gamma flow _ _ s to w s.world _ r.begun (λ u lb h.
       binary_good to (few_temp to a.0) o k size (temp_value l n flow row left) (amount_value l n flow row right) z u la lb
-      (subst (StandsScalar stands naming s.world.memory (temp_value l n flow row left)) g (temp_stands left v e)) (subst (StandsScalar stands naming s.world.memory (amount_value l n flow row right)) h sw) (typed z la (e ∙ ap Some g))))))
+      (subst (InGammaScalar gamma naming s.world.memory (temp_value l n flow row left)) g (temp_stands left v e)) (subst (InGammaScalar gamma naming s.world.memory (amount_value l n flow row right)) h sw) (typed z la (e ∙ ap Some g))))))
 
   -- ---- operators on one integer
 
-  unary_admitted : (o : UnOp) (k : IntType) (x : Value I) (a : ℤ) → stands x.num a → AreAdmitted (unary_violations n o k x) (overflow_faults k (unary_math o a))
+  unary_admitted : (o : UnOp) (k : IntType) (x : Value I) (a : ℤ) → gamma x.num a → AreAdmitted (unary_violations n o k x) (overflow_faults k (unary_math o a))
   unary_admitted o k x a h = fault_good (k.signed && is_outside k (unary_math o a)) (λ e.
       let d = and_parts k.signed (is_outside k (unary_math o a)) e in
       and_from _ _ d.0 (negated_more o k (Some (a, a)) (n.bounds x.num) (≤ℤ_refl a) (single q x.num a h) (sym (negation_is o k a) ∙ d.1)))
@@ -206,8 +206,8 @@ module _ {I : Type 0} {l : LatticeOf I} {n : IntegersOf I} {stands : I → ℤ �
       fault_good true f = one_admitted (unary_violations n o k x) rule.Intoflow (f refl)
       fault_good false f = none_admitted (unary_violations n o k x)
 
-  unary_good : (to : ℕ) → to < flow.temps → (o : UnOp) (k : IntType) → is_size k.bytes ≡ true → (x : Value I) (a : ℤ) (la : Labels) → StandsScalar stands naming s.world.memory x (integer a la) → in_type k a ≡ true
-      → IsStoodFor l n stands flow (cond (is_size k.bytes) (put_number n flow row to (value_unary l n o x k)) None) (cond (is_size k.bytes) (unary_violations n o k x) no_violations) (giving s to (unary_number o k a la s.world))
+  unary_good : (to : ℕ) → to < flow.temps → (o : UnOp) (k : IntType) → is_size k.bytes ≡ true → (x : Value I) (a : ℤ) (la : Labels) → InGammaScalar gamma naming s.world.memory x (integer a la) → in_type k a ≡ true
+      → IsStoodFor l n gamma flow (cond (is_size k.bytes) (put_number n flow row to (value_unary l n o x k)) None) (cond (is_size k.bytes) (unary_violations n o k x) no_violations) (giving s to (unary_number o k a la s.world))
   unary_good to few o k size x a la f inside =
       computed_good to few k size (value_unary l n o x k) (unary_violations n o k x) (overflow_faults k (unary_math o a)) _ (unary_result o k a) (unary_admitted o k x a f.0)
       (λ z e. let h = c.unary_stands o k x.num a z size f.0 inside e in
@@ -220,29 +220,29 @@ module _ {I : Type 0} {l : LatticeOf I} {n : IntegersOf I} {stands : I → ℤ �
   unary_sound to o from k fits typed =
       let a = and_parts (has_temp (names_of flow) to) (has_temp (names_of flow) from && is_int_type flow.model k) fits in
       let size = size_of flow k (and_parts (has_temp (names_of flow) from) (is_int_type flow.model k) a.1).1 in
-      if_some_good l n stands flow _ _ s r.begun (s.temps from) _ (λ v e.
-      number_good l n stands flow _ _ s to v s.world _ r.begun (λ z la g.
-      unary_good to (few_temp to a.0) o k size (temp_value l n flow row from) z la (subst (StandsScalar stands naming s.world.memory (temp_value l n flow row from)) g (temp_stands from v e)) (typed z la (e ∙ ap Some g))))
+      if_some_good l n gamma flow _ _ s r.begun (s.temps from) _ (λ v e.
+      number_good l n gamma flow _ _ s to v s.world _ r.begun (λ z la g.
+      unary_good to (few_temp to a.0) o k size (temp_value l n flow row from) z la (subst (InGammaScalar gamma naming s.world.memory (temp_value l n flow row from)) g (temp_stands from v e)) (typed z la (e ∙ ap Some g))))
 
   -- ---- conversions
 
-  to_integer : (to : ℕ) → to < flow.temps → (k : IntType) → is_size k.bytes ≡ true → (x : Value I) (v : Scalar) → StandsScalar stands naming s.world.memory x v → IsStoodFor l n stands flow (put_converted l n flow row to x k) no_violations (giving s to (convert (of.Int k) v s.world))
+  to_integer : (to : ℕ) → to < flow.temps → (k : IntType) → is_size k.bytes ≡ true → (x : Value I) (v : Scalar) → InGammaScalar gamma naming s.world.memory x v → IsStoodFor l n gamma flow (put_converted l n flow row to x k) no_violations (giving s to (convert (of.Int k) v s.world))
   unfolding put_converted
-  to_integer to few k size x v f = number_good l n stands flow _ _ s to v s.world _ r.begun (λ z la g.
-      let d = subst (StandsScalar stands naming s.world.memory x) g f in
+  to_integer to few k size x v f = number_good l n gamma flow _ _ s to v s.world _ r.begun (λ z la g.
+      let d = subst (InGammaScalar gamma naming s.world.memory x) g f in
       let h = c.convert_stands k x.num z size d.0 in
       let row_is : cond (is_size k.bytes) (put_number n flow row to (value_convert l n x k)) None ≡ Some (put_temp flow row to (value_convert l n x k)) = rw (size, number_row q flow row to (value_convert l n x k) (wrap_into k z) h) refl in
       result_good q flow p naming row s r to few (value_convert l n x k) (integer (wrap_into k z) (converted_labels la k (in_type k z))) s.world
       (number_result (value_convert l n x k) (wrap_into k z) (converted_labels la k (in_type k z)) (value_near q k (n.convert x.num k) (wrap_into k z) size (λ i j u. ranges.convert_fits x.num k i j size u) h) h ((label_meaning q).convert k x (as_set la) z d.0 d.1))
       refl _ no_violations row_is (same_admitted no_violations s.world.violated [] r.begun (none_admitted no_violations)))
 
-  pointer_good : (to : ℕ) → to < flow.temps → (x : Pointers I) (at : MachinePointer) → StandsPointer stands naming s.world.memory x at → IsPointerIn s.world.memory at → IsStoodFor l n stands flow (put_pointer l flow row to x) no_violations (giving s to (goes (pointer at) s.world))
+  pointer_good : (to : ℕ) → to < flow.temps → (x : Pointers I) (at : MachinePointer) → InGammaPointer gamma naming s.world.memory x at → IsPointerIn s.world.memory at → IsStoodFor l n gamma flow (put_pointer l flow row to x) no_violations (giving s to (goes (pointer at) s.world))
   pointer_good to few x at h within =
       result_good q flow p naming row s r to few (pointer_value l x) (pointer at) s.world (record { stands_for = h; near = tt; within = within }) refl _ no_violations (pointer_row q flow row to naming s.world.memory x at h) (same_admitted no_violations s.world.violated [] r.begun (none_admitted no_violations))
 
-  to_pointer : (to : ℕ) → to < flow.temps → (from : declared.Scalar) (x : Value I) (v : Scalar) → IsOfKind from v → StandsScalar stands naming s.world.memory x v → IsScalarIn s.world.memory v → IsStoodFor l n stands flow (put_pointer l flow row to (converted_pointer l from x)) no_violations (giving s to (pointer_from v s.world))
-  to_pointer to few (of.Int k) x (integer z labels) typed h within = cond_good l n stands flow _ no_violations s to (int_eq z (pos 0)) (goes (pointer null) s.world) (stops Stuck s.world)
-      (λ e. pointer_good to few (null_pointer l) null refl tt) (λ e. stop_good l n stands flow _ no_violations Stuck s.world (same_admitted no_violations s.world.violated [] r.begun (none_admitted no_violations)))
+  to_pointer : (to : ℕ) → to < flow.temps → (from : declared.Scalar) (x : Value I) (v : Scalar) → IsOfKind from v → InGammaScalar gamma naming s.world.memory x v → IsScalarIn s.world.memory v → IsStoodFor l n gamma flow (put_pointer l flow row to (converted_pointer l from x)) no_violations (giving s to (pointer_from v s.world))
+  to_pointer to few (of.Int k) x (integer z labels) typed h within = cond_good l n gamma flow _ no_violations s to (int_eq z (pos 0)) (goes (pointer null) s.world) (stops Stuck s.world)
+      (λ e. pointer_good to few (null_pointer l) null refl tt) (λ e. stop_good l n gamma flow _ no_violations Stuck s.world (same_admitted no_violations s.world.violated [] r.begun (none_admitted no_violations)))
   to_pointer to few (of.Int k) x (pointer at) typed h within = absurd (true≢false (sym typed))
   to_pointer to few of.Pointer x (integer z labels) typed h within = absurd (true≢false (sym typed))
   to_pointer to few of.Pointer x (pointer at) typed h within = pointer_good to few x.pointer at h within
@@ -253,10 +253,10 @@ module _ {I : Type 0} {l : LatticeOf I} {n : IntegersOf I} {stands : I → ℤ �
       let a = and_parts (has_temp (names_of flow) to) (has_temp (names_of flow) from && (is_scalar flow.model old && is_int_type flow.model k)) fits in
       let b = and_parts (has_temp (names_of flow) from) (is_scalar flow.model old && is_int_type flow.model k) a.1 in
       let size = size_of flow k (and_parts (is_scalar flow.model old) (is_int_type flow.model k) b.1).1 in
-      if_some_good l n stands flow _ no_violations s r.begun (s.temps from) _ (λ v e. to_integer to (few_temp to a.0) k size (temp_value l n flow row from) v (temp_stands from v e))
+      if_some_good l n gamma flow _ no_violations s r.begun (s.temps from) _ (λ v e. to_integer to (few_temp to a.0) k size (temp_value l n flow row from) v (temp_stands from v e))
   convert_sound to from old of.Pointer fits typed =
       let a = and_parts (has_temp (names_of flow) to) (has_temp (names_of flow) from && (is_scalar flow.model old && true)) fits in
-      if_some_good l n stands flow _ no_violations s r.begun (s.temps from) _ (λ v e. to_pointer to (few_temp to a.0) old (temp_value l n flow row from) v (typed v e) (temp_stands from v e) (r.stands_for.held.within from v e))
+      if_some_good l n gamma flow _ no_violations s r.begun (s.temps from) _ (λ v e. to_pointer to (few_temp to a.0) old (temp_value l n flow row from) v (typed v e) (temp_stands from v e) (r.stands_for.held.within from v e))
 
   -- ---- all of them
 

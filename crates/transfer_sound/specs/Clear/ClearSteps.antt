@@ -15,7 +15,7 @@ abbrev pub IsClear : Operation → Type 0
 IsClear (op.Clear b) = Unit {0}
 IsClear _ = ⊥
 
-module _ {I : Type 0} (l : LatticeOf I) (n : IntegersOf I) (stands : I → ℤ → Type 0) (flow : Flow) where
+module _ {I : Type 0} (l : LatticeOf I) (n : IntegersOf I) (gamma : I → ℤ → Type 0) (flow : Flow) where
   -- the arrays of first zeros of a well-formed program have bytes, of which the first one is 0 then
   abbrev pub ClearStepsAreSound : Type 0
-  ClearStepsAreSound = (limits : Limits) → is_well_formed limits flow ≡ true → HasPremises flow → AreSound l n stands flow IsClear
+  ClearStepsAreSound = (limits : Limits) → is_well_formed limits flow ≡ true → HasPremises flow → AreSound l n gamma flow IsClear

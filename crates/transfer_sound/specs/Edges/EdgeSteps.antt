@@ -29,16 +29,16 @@ IsPlainEnd (op.Switch temp int_type) = Unit {0}
 IsPlainEnd op.Stop = Unit {0}
 IsPlainEnd _ = ⊥
 
-module _ {I : Type 0} (l : LatticeOf I) (n : IntegersOf I) (stands : I → ℤ → Type 0) (flow : Flow) where
+module _ {I : Type 0} (l : LatticeOf I) (n : IntegersOf I) (gamma : I → ℤ → Type 0) (flow : Flow) where
   -- where a test agrees with memory, what it makes of the row stands for what it makes of memory
   abbrev pub TestIsSound : Option Test → Type 0
   TestIsSound None = Unit {0}
-  TestIsSound (Some test) = (naming : Naming) (row : List (Cell I)) (s : Standing) → IsReached l n stands flow naming row s → IsStoodFor l n stands flow (refine l n flow test row) no_violations (testing (flow_view flow) s (Some test))
+  TestIsSound (Some test) = (naming : Naming) (row : List (Cell I)) (s : Standing) → IsReached l n gamma flow naming row s → IsStoodFor l n gamma flow (refine l n flow test row) no_violations (testing (flow_view flow) s (Some test))
 
   -- where the object that is switched on has a label's value
   abbrev pub CaseIsSound : ℤ → Option ℕ → Type 0
   CaseIsSound value None = Unit {0}
-  CaseIsSound value (Some base) = (naming : Naming) (row : List (Cell I)) (s : Standing) → IsReached l n stands flow naming row s → IsStoodFor l n stands flow (refine_case l n flow base value row) no_violations (matching (flow_view flow) s value (Some base))
+  CaseIsSound value (Some base) = (naming : Naming) (row : List (Cell I)) (s : Standing) → IsReached l n gamma flow naming row s → IsStoodFor l n gamma flow (refine_case l n flow base value row) no_violations (matching (flow_view flow) s value (Some base))
 
   abbrev pub KindIsSound : EdgeKind → Type 0
   KindIsSound (kind.When truth test kept) = TestIsSound test
@@ -50,4 +50,4 @@ module _ {I : Type 0} (l : LatticeOf I) (n : IntegersOf I) (stands : I → ℤ �
   TestsAreSound = (number : ℕ) (e : Edge) → slice_get flow.edges.items number ≡ Some e → KindIsSound e.kind
 
   abbrev pub PlainEndsAreSound : Type 0
-  PlainEndsAreSound = (limits : Limits) → HasPremises flow → TestsAreSound → EndsAreSound l n stands flow limits IsPlainEnd
+  PlainEndsAreSound = (limits : Limits) → HasPremises flow → TestsAreSound → EndsAreSound l n gamma flow limits IsPlainEnd

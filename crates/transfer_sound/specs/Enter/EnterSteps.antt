@@ -13,6 +13,6 @@ abbrev pub IsEnter : Operation → Type 0
 IsEnter (op.Enter b) = Unit {0}
 IsEnter _ = ⊥
 
-module _ {I : Type 0} (l : LatticeOf I) (n : IntegersOf I) (stands : I → ℤ → Type 0) (flow : Flow) where
+module _ {I : Type 0} (l : LatticeOf I) (n : IntegersOf I) (gamma : I → ℤ → Type 0) (flow : Flow) where
   abbrev pub EnterStepsAreSound : Type 0
-  EnterStepsAreSound = HasPremises flow → AreSound l n stands flow IsEnter
+  EnterStepsAreSound = HasPremises flow → AreSound l n gamma flow IsEnter

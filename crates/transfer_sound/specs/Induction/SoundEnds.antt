@@ -23,7 +23,7 @@ use Rattle.lower_templates.specs.Views.ProgramViews.{flow_view}
 use Rattle.semantics.specs.CfgMachine.FlowStates.{Standing}
 use Rattle.semantics.specs.CfgMachine.FlowSteps.{act_step}
 use Rattle.store_sound.specs.Concretization.ValueMeaning.{Naming}
-use Rattle.transfer_sound.specs.Values.SoundSteps.{IsReached, StandsBehind, AreSound}
+use Rattle.transfer_sound.specs.Values.SoundSteps.{IsReached, InGammaAfter, AreSound}
 
 -- the instruction goes on in its block, or ends it
 abbrev pub GoesOn : Operation → Type 0
@@ -40,7 +40,7 @@ pub record IsDoneIn (flow : Flow) (o : Operation) : Type 0 where
 abbrev pub EndsBlock : Operation → Type 0
 EndsBlock o = leads o ≡ On → ⊥
 
-module _ {I : Type 0} (l : LatticeOf I) (n : IntegersOf I) (stands : I → ℤ → Type 0) (flow : Flow) where
+module _ {I : Type 0} (l : LatticeOf I) (n : IntegersOf I) (gamma : I → ℤ → Type 0) (flow : Flow) where
   -- along an edge from the block that is left, to the start of the block that is entered; the row at the end of the block is
   -- that before the instruction
   pub record EdgeBehind (row : List (Cell I)) (o : Operation) (from : ℕ) (s : Standing) : Type 0 where
@@ -51,7 +51,7 @@ module _ {I : Type 0} (l : LatticeOf I) (n : IntegersOf I) (stands : I → ℤ �
     pub leaves : taken.from ≡ from
     pub enters : s.block ≡ taken.to
     pub starts : s.at ≡ 0
-    pub behind : StandsBehind l n stands flow (edge l n flow row number) s
+    pub behind : InGammaAfter l n gamma flow (edge l n flow row number) s
 
   pub record EndIsSound (row : List (Cell I)) (o : Operation) (s : Standing) : Type 0 where
     pub goes_on : (t : Standing) (w : World) → act_step (flow_view flow) (act o) s ≡ goes t w → EdgeBehind row o s.block (record t { world = w })
@@ -59,10 +59,10 @@ module _ {I : Type 0} (l : LatticeOf I) (n : IntegersOf I) (stands : I → ℤ �
 
   -- instructions that end the blocks of a well-formed program
   abbrev pub EndsAreSound : Limits → (Operation → Type 0) → Type 0
-  EndsAreSound limits Is = is_well_formed limits flow ≡ true → (naming : Naming) (row : List (Cell I)) (s : Standing) (i : Instruction) → last_instruction flow s.block ≡ Some i → Is i.operation → IsReached l n stands flow naming row s → EndIsSound row i.operation s
+  EndsAreSound limits Is = is_well_formed limits flow ≡ true → (naming : Naming) (row : List (Cell I)) (s : Standing) (i : Instruction) → last_instruction flow s.block ≡ Some i → Is i.operation → IsReached l n gamma flow naming row s → EndIsSound row i.operation s
 
   abbrev pub StepsGoOnSoundly : Type 0
-  StepsGoOnSoundly = AreSound l n stands flow (λ o. GoesOn o × IsDoneIn flow o)
+  StepsGoOnSoundly = AreSound l n gamma flow (λ o. GoesOn o × IsDoneIn flow o)
 
   abbrev pub EndsGoOnSoundly : Limits → Type 0
   EndsGoOnSoundly limits = EndsAreSound limits EndsBlock

@@ -13,14 +13,14 @@ use Rattle.value_domain.specs.declared.values.row_cells.Cell.{Cell}
 use Rattle.value_domain.specs.declared.values.row_cells.Cell.TheVariants.{Nothing, Value, First, State, Mixed}
 use Rattle.value_domain.specs.Values.Cells.{cell_lattice}
 use Rattle.store_sound.specs.Concretization.ValueMeaning.{Naming}
-use Rattle.store_sound.specs.Concretization.RowMeaning.{MachineState, StandsFor}
+use Rattle.store_sound.specs.Concretization.RowMeaning.{MachineState, InGamma}
 use Rattle.transfer_system.specs.BoundedRows.OwnRows.{program_bases}
 use Rattle.transfer_system.specs.System.FlowMachines.{start_of, flow_machine}
 use Rattle.row_bounds.specs.LaidOut.{IsLaidOut}
 use Rattle.row_bounds.specs.ProgramLaws.{IsNamed, AreRising}
 use Rattle.transfer_system.specs.BoundedRows.NearLists.{IsNearList}
 use Rattle.row_bounds.specs.Edges.OwnLists.{ReachesTypes}
-use Rattle.transfer_sound.specs.Values.SoundSteps.{StandsBehind}
+use Rattle.transfer_sound.specs.Values.SoundSteps.{InGammaAfter}
 use Rattle.transfer_sound.specs.Induction.Covering.{Begins, Carries}
 
 module _ {I : Type 0} where
@@ -36,19 +36,19 @@ module _ {I : Type 0} where
   AreUnmixed [] = Unit {0}
   AreUnmixed (c ∷ cs) = IsUnmixed c × AreUnmixed cs
 
-module _ {I : Type 0} (l : LatticeOf I) (n : IntegersOf I) (stands : I → ℤ → Type 0) (flow : Flow) where
+module _ {I : Type 0} (l : LatticeOf I) (n : IntegersOf I) (gamma : I → ℤ → Type 0) (flow : Flow) where
   -- a larger row of which no cell is mixed
   abbrev pub LargerRowsStandForMore : Type 0
-  LargerRowsStandForMore = (naming : Naming) (row larger : List (Cell I)) (s : MachineState) → row_leq (cell_lattice l) row larger ≡ true → AreUnmixed larger → StandsFor l n stands flow naming row s → StandsFor l n stands flow naming larger s
+  LargerRowsStandForMore = (naming : Naming) (row larger : List (Cell I)) (s : MachineState) → row_leq (cell_lattice l) row larger ≡ true → AreUnmixed larger → InGamma l n gamma flow naming row s → InGamma l n gamma flow naming larger s
 
   abbrev pub InductiveMapsAreCarried : List ℤ → Type 0
   InductiveMapsAreCarried list = IsNearList l n list → ReachesTypes list → IsLaidOut (program_bases (length flow.bases.items)) flow → IsNamed flow → AreRising l n (program_bases (length flow.bases.items)) flow
-      → (rows : List (Option (List (Cell I)))) → IsInductive (cell_lattice l) (flow_machine l n flow list) rows → Carries l n stands flow rows
+      → (rows : List (Option (List (Cell I)))) → IsInductive (cell_lattice l) (flow_machine l n flow list) rows → Carries l n gamma flow rows
 
   -- the row of the system's entry stands for the states in which runs of a unit begin
-  abbrev pub EntryStands : List ℤ → UnitView → Type 0
-  EntryStands list u = (draws : List ℤ) (s : Standing) → flow_begin u (flow_view flow) draws ≡ running s [] → StandsBehind l n stands flow (Some (start_of l n flow list)) s
+  abbrev pub EntryInGamma : List ℤ → UnitView → Type 0
+  EntryInGamma list u = (draws : List ℤ) (s : Standing) → flow_begin u (flow_view flow) draws ≡ running s [] → InGammaAfter l n gamma flow (Some (start_of l n flow list)) s
 
   abbrev pub InductiveMapsBegin : List ℤ → Type 0
   InductiveMapsBegin list = IsNearList l n list → ReachesTypes list → IsLaidOut (program_bases (length flow.bases.items)) flow → IsNamed flow → AreRising l n (program_bases (length flow.bases.items)) flow
-      → (rows : List (Option (List (Cell I)))) → IsInductive (cell_lattice l) (flow_machine l n flow list) rows → (u : UnitView) → EntryStands list u → Begins l n stands flow u rows
+      → (rows : List (Option (List (Cell I)))) → IsInductive (cell_lattice l) (flow_machine l n flow list) rows → (u : UnitView) → EntryInGamma list u → Begins l n gamma flow u rows

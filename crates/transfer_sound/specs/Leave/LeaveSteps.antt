@@ -13,6 +13,6 @@ abbrev pub IsLeave : Operation → Type 0
 IsLeave (op.Leave b) = Unit {0}
 IsLeave _ = ⊥
 
-module _ {I : Type 0} (l : LatticeOf I) (n : IntegersOf I) (stands : I → ℤ → Type 0) (flow : Flow) where
+module _ {I : Type 0} (l : LatticeOf I) (n : IntegersOf I) (gamma : I → ℤ → Type 0) (flow : Flow) where
   abbrev pub LeaveStepsAreSound : Type 0
-  LeaveStepsAreSound = HasPremises flow → AreSound l n stands flow IsLeave
+  LeaveStepsAreSound = HasPremises flow → AreSound l n gamma flow IsLeave

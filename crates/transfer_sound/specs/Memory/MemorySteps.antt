@@ -16,9 +16,9 @@ abbrev pub IsStore : Operation → Type 0
 IsStore (op.Store to from kind kept) = Unit {0}
 IsStore _ = ⊥
 
-module _ {I : Type 0} (l : LatticeOf I) (n : IntegersOf I) (stands : I → ℤ → Type 0) (flow : Flow) where
+module _ {I : Type 0} (l : LatticeOf I) (n : IntegersOf I) (gamma : I → ℤ → Type 0) (flow : Flow) where
   abbrev pub LoadStepsAreSound : Type 0
-  LoadStepsAreSound = HasPremises flow → AreSound l n stands flow IsLoad
+  LoadStepsAreSound = HasPremises flow → AreSound l n gamma flow IsLoad
 
   abbrev pub StoreStepsAreSound : Type 0
-  StoreStepsAreSound = HasPremises flow → AreSound l n stands flow IsStore
+  StoreStepsAreSound = HasPremises flow → AreSound l n gamma flow IsStore

@@ -13,6 +13,6 @@ abbrev pub IsForget : Operation → Type 0
 IsForget (op.Forget b) = Unit {0}
 IsForget _ = ⊥
 
-module _ {I : Type 0} (l : LatticeOf I) (n : IntegersOf I) (stands : I → ℤ → Type 0) (flow : Flow) where
+module _ {I : Type 0} (l : LatticeOf I) (n : IntegersOf I) (gamma : I → ℤ → Type 0) (flow : Flow) where
   abbrev pub ForgetStepsAreSound : Type 0
-  ForgetStepsAreSound = HasPremises flow → AreSound l n stands flow IsForget
+  ForgetStepsAreSound = HasPremises flow → AreSound l n gamma flow IsForget

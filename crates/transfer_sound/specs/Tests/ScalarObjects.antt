@@ -66,15 +66,15 @@ pub record IsNullTest (flow : Flow) (test : Test) : Type 0 where
   pub right : test.right ≡ side.Null
   pub is : test.common ≡ None
 
-module _ {I : Type 0} (l : LatticeOf I) (n : IntegersOf I) (stands : I → ℤ → Type 0) (flow : Flow) where
+module _ {I : Type 0} (l : LatticeOf I) (n : IntegersOf I) (gamma : I → ℤ → Type 0) (flow : Flow) where
   abbrev pub IntegerTestsAreSound : Type 0
-  IntegerTestsAreSound = HasPremises flow → (test : Test) → IsIntegerTest flow test → TestIsSound l n stands flow (Some test)
+  IntegerTestsAreSound = HasPremises flow → (test : Test) → IsIntegerTest flow test → TestIsSound l n gamma flow (Some test)
 
   abbrev pub PointerTestsAreSound : Type 0
-  PointerTestsAreSound = (test : Test) → IsPointerTest test → TestIsSound l n stands flow (Some test)
+  PointerTestsAreSound = (test : Test) → IsPointerTest test → TestIsSound l n gamma flow (Some test)
 
   abbrev pub NullTestsAreSound : Type 0
-  NullTestsAreSound = HasPremises flow → (test : Test) → IsNullTest flow test → TestIsSound l n stands flow (Some test)
+  NullTestsAreSound = HasPremises flow → (test : Test) → IsNullTest flow test → TestIsSound l n gamma flow (Some test)
 
   abbrev pub CasesAreSound : Type 0
-  CasesAreSound = HasPremises flow → (value : ℤ) (b : ℕ) → IsCaseObject flow b → CaseIsSound l n stands flow value (Some b)
+  CasesAreSound = HasPremises flow → (value : ℤ) (b : ℕ) → IsCaseObject flow b → CaseIsSound l n gamma flow value (Some b)

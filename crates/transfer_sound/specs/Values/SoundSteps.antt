@@ -25,7 +25,7 @@ use Rattle.lower_templates.specs.Views.ProgramViews.{flow_view}
 use Rattle.semantics.specs.CfgMachine.FlowStates.{Standing}
 use Rattle.semantics.specs.CfgMachine.FlowSteps.{act_step}
 use Rattle.store_sound.specs.Concretization.ValueMeaning.{Naming}
-use Rattle.store_sound.specs.Concretization.RowMeaning.{StandsFor}
+use Rattle.store_sound.specs.Concretization.RowMeaning.{InGamma}
 use Rattle.store_sound.specs.Concretization.Coverage.{state_of}
 use Rattle.store_sound.specs.Programs.Premises.{HasPremises}
 use Rattle.transfer_sound.specs.Values.OperandTypes.{HasOperands}
@@ -34,26 +34,26 @@ use Rattle.transfer_sound.specs.Values.OperandTypes.{HasOperands}
 abbrev pub AreShort : Model → Memory → Type 0
 AreShort m memory = (i : ℕ) → pos (length (bytes_at memory i)) ≤ℤ greatest_of (kind_of m Pointer true)
 
-module _ {I : Type 0} (l : LatticeOf I) (n : IntegersOf I) (stands : I → ℤ → Type 0) (flow : Flow) where
+module _ {I : Type 0} (l : LatticeOf I) (n : IntegersOf I) (gamma : I → ℤ → Type 0) (flow : Flow) where
   -- a step begins: the row before it stands for the state, and it has violated nothing yet
   pub record IsReached (naming : Naming) (row : List (Cell I)) (s : Standing) : Type 0 where
     pub long : length row ≡ flow.width
-    pub stands_for : StandsFor l n stands flow naming row (state_of s)
+    pub stands_for : InGamma l n gamma flow naming row (state_of s)
     pub short : AreShort flow.model s.world.memory
     pub begun : s.world.violated ≡ []
 
   -- there is a row behind, and by some names it stands for the state there
-  pub record StandsBehind (after : Option (List (Cell I))) (s : Standing) : Type 0 where
+  pub record InGammaAfter (after : Option (List (Cell I))) (s : Standing) : Type 0 where
     pub row : List (Cell I)
     pub is : after ≡ Some row
     pub long : length row ≡ flow.width
     pub naming : Naming
-    pub stands_for : StandsFor l n stands flow naming row (state_of s)
+    pub stands_for : InGamma l n gamma flow naming row (state_of s)
     pub short : AreShort flow.model s.world.memory
 
   -- the row behind stands for the state where the run goes on, and what is violated is admitted
   pub record IsStoodFor (after : Option (List (Cell I))) (admitted : Violations) (reply : Reply Standing) : Type 0 where
-    pub goes_on : (s : Standing) (w : World) → reply ≡ goes s w → StandsBehind after (record s { world = w })
+    pub goes_on : (s : Standing) (w : World) → reply ≡ goes s w → InGammaAfter after (record s { world = w })
     pub admits : (r : Rule) → Contains (world_of reply).violated r → violates admitted r ≡ true
 
   abbrev pub StepIsSound : List (Cell I) → Operation → Standing → Type 0

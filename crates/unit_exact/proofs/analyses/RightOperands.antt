@@ -21,7 +21,7 @@ use Rattle.diagnose.specs.Operands.TypedRows.{is_within, has_right, has_operands
 use Rattle.memory_model.specs.Memory.Labels.{Labels}
 use Rattle.memory_model.specs.Memory.Scalars.{integer}
 use Rattle.store_sound.specs.Concretization.Coverage.{state_of, EachRunIsCovered}
-use Rattle.store_sound.specs.Concretization.RowMeaning.{MachineState, StandsFor}
+use Rattle.store_sound.specs.Concretization.RowMeaning.{MachineState, InGamma}
 use Rattle.store_sound.specs.Concretization.ValueMeaning.{Naming}
 use Rattle.transfer_sound.specs.Induction.Covering.{row_before, Admits}
 use Rattle.transfer_sound.proofs.operands.TypedOperands.{within_has}
@@ -29,7 +29,7 @@ use Rattle.transfer_sound.proofs.operands.TypedMaps.{typed_before}
 use Rattle.transfer_exact.specs.Values.SingleLaws.{FitsAmount, HasRight}
 use Rattle.run_exact.specs.Runs.SingleRuns.{HasRightOperands}
 
-module _ (flow : Flow) (naming : Naming) (row : List (Cell Interval)) (state : MachineState) (there : StandsFor interval_lattice interval_numbers Stands flow naming row state) where
+module _ (flow : Flow) (naming : Naming) (row : List (Cell Interval)) (state : MachineState) (there : InGamma interval_lattice interval_numbers Stands flow naming row state) where
   inside : (kind : IntType) (temp : ℕ) → is_within interval_numbers kind (temp_value interval_lattice interval_numbers flow row temp) ≡ true → (z : ℤ) (labels : Labels) → state.temps temp ≡ Some (integer z labels) → in_type kind z ≡ true
   inside kind temp h z labels e = within_has interval_bounding kind (temp_value interval_lattice interval_numbers flow row temp) z h (there.temps temp (integer z labels) e).0
 

@@ -42,14 +42,14 @@ use Rattle.analysis_determined.proofs.RegularSystems.{regular_rising}
 use Rattle.row_bounds.proofs.edges.OwnEdges.{fit_nothing, leaves_own}
 use Rattle.struct_copies_sound.specs.Structs.StructTables.{HasStructs}
 use Rattle.struct_copies_sound.proofs.ordered_structs.OrderedStructs.{has_structs}
-use Rattle.transfer_sound.specs.Values.SoundSteps.{StandsBehind}
+use Rattle.transfer_sound.specs.Values.SoundSteps.{InGammaAfter}
 use Rattle.run_exact.specs.OpenSteps.{TestIsProved, CaseIsProved, KindIsProved}
 use Rattle.run_exact.proofs.AllSteps.{tests_sound}
 use Rattle.run_exact.specs.SoundAnalyses.{Suffices}
 use Rattle.run_exact.proofs.SoundAnalyses.{standard_held, steps, ends, typed_runs, covered}
 use Rattle.run_exact.proofs.FoundRuns.{suffices, finds_each_pair}
 use Rattle.run_exact.proofs.ScalarTests.{kinds_proved}
-use Rattle.transfer_sound.specs.InvariantMaps.CarriedMaps.{EntryStands}
+use Rattle.transfer_sound.specs.InvariantMaps.CarriedMaps.{EntryInGamma}
 use Rattle.analysis_determined.specs.Analyses.{IsAnalysis}
 use Rattle.analysis_determined.specs.CheckedPrograms.{IsChecked}
 use Rattle.entry_sound.specs.Tables.UnitStarts.{StartsAs}
@@ -154,7 +154,7 @@ module _ (flow : Flow) (list : List ℤ) (found : List Diag) (a : IsAnalysis flo
   objects plain = has_objects standard_limits flow regular.well_formed plain
 
   module _ (u : UnitView) (starts : StartsAs u flow) where
-    stand : EntryStands interval_lattice interval_numbers Stands flow list u
+    stand : EntryInGamma interval_lattice interval_numbers Stands flow list u
     stand = entry_stands flow list a.regular enough.reaches a.started u starts
 
     -- a unit whose program takes no numbers begins

@@ -39,10 +39,10 @@ use Rattle.memory_model.specs.Memory.Tags.{tag_of}
 use Rattle.memory_model.specs.Effects.ScalarBytes.{refilled}
 use Rattle.semantics.specs.CfgMachine.FlowStates.{Standing}
 use Rattle.store_sound.specs.Concretization.Matching.{Matched, Holds, number_in}
-use Rattle.store_sound.specs.Concretization.RowMeaning.{IsLiveOf, StandsLeaf, StandsClass}
+use Rattle.store_sound.specs.Concretization.RowMeaning.{IsLiveOf, InGammaLeaf, InGammaClass}
 use Rattle.store_sound.specs.Concretization.SeenLabels.{as_set}
-use Rattle.store_sound.specs.Concretization.ValueMeaning.{Naming, StandsPointer, StandsContent, StandsZero}
-use Rattle.transfer_sound.specs.Values.SoundSteps.{StandsBehind}
+use Rattle.store_sound.specs.Concretization.ValueMeaning.{Naming, InGammaPointer, InGammaContent, InGammaZero}
+use Rattle.transfer_sound.specs.Values.SoundSteps.{InGammaAfter}
 
 abbrev none : Interval
 none = Of (record { lo = pos 0; hi = pos 0; ordered = le_z_yes tt })
@@ -64,7 +64,7 @@ left_memory = record { storage = automatic; life = ended; bytes = [] } ∷ []
 abbrev revived : Pointers Interval → Pointers Interval
 revived v = record v { ended = false }
 
-lives_again : ((naming : Naming) (memory : Memory) (v : Pointers Interval) (p : MachinePointer) → StandsPointer Stands naming memory v p → StandsPointer Stands naming memory (revived v) p) → ⊥
+lives_again : ((naming : Naming) (memory : Memory) (v : Pointers Interval) (p : MachinePointer) → InGammaPointer Stands naming memory v p → InGammaPointer Stands naming memory (revived v) p) → ⊥
 lives_again h = let e : false ≡ true = h nowhere left_memory (record ((value_of one).pointer) { ended = true }) (into 0 0 0 0) refl in cc
 
 -- ---- labels that any comparison drops: a number that is not 3 may still be too low
@@ -86,7 +86,7 @@ character n = record { content = number n no_labels; tag = tag_of Char 0 }
 abbrev kept : FirstZero Interval → FirstZero Interval
 kept f = f
 
-old_zero_is_kept : ((f : FirstZero Interval) (bytes : List Byte) (text : List Content) → StandsZero Stands nowhere [] f bytes → StandsZero Stands nowhere [] (kept f) (refilled bytes 0 text)) → ⊥
+old_zero_is_kept : ((f : FirstZero Interval) (bytes : List Byte) (text : List Content) → InGammaZero Stands nowhere [] f bytes → InGammaZero Stands nowhere [] (kept f) (refilled bytes 0 text)) → ⊥
 old_zero_is_kept h = let e : pos 1 ≤ℤ pos 0 = (h (record { at = one }) (character 97 ∷ (character 0 ∷ [])) (number 0 no_labels ∷ []) (le_z_yes tt, le_z_yes tt)).0 in omega (arith, ints)
 
 -- ---- a branch that says nothing behind one that exits: the run goes on in the other
@@ -105,7 +105,7 @@ no_base : (flow : Flow) → flow.bases.items ≡ [] → (b : ℕ) (base : BaseIn
 no_base flow e b base f = nothing base (subst (λ bases. slice_get bases b ≡ Some base) e f)
 
 -- without objects, instances and temporaries there is nothing that a row has to stand for
-stands_at_start : (flow : Flow) → flow.model ≡ lp64 → flow.bases.items ≡ [] → flow.width ≡ 0 → StandsBehind interval_lattice interval_numbers Stands flow (Some []) at_start
+stands_at_start : (flow : Flow) → flow.model ≡ lp64 → flow.bases.items ≡ [] → flow.width ≡ 0 → InGammaAfter interval_lattice interval_numbers Stands flow (Some []) at_start
 unfolding byte_at
 stands_at_start flow m e w = record {
   row = [];
@@ -141,7 +141,7 @@ stands_at_start flow m e w = record {
 }
 
 silent_branch : (flow : Flow) → flow.model ≡ lp64 → flow.bases.items ≡ [] → flow.width ≡ 0
-    → ((x y : Option (List (Cell Interval))) (s : Standing) → StandsBehind interval_lattice interval_numbers Stands flow y s → StandsBehind interval_lattice interval_numbers Stands flow (silent_join x y) s) → ⊥
+    → ((x y : Option (List (Cell Interval))) (s : Standing) → InGammaAfter interval_lattice interval_numbers Stands flow y s → InGammaAfter interval_lattice interval_numbers Stands flow (silent_join x y) s) → ⊥
 silent_branch flow m e w h = let r = h None (Some []) at_start (stands_at_start flow m e w) in let a : None ≡ Some r.row = r.is in cc
 
 -- ---- one base a call site with a strong store: what is written into one instance is not in the other
@@ -178,7 +178,7 @@ holds_one (suc zero) (suc offset) a tag p e = omega (arith)
 holds_one (suc (suc i)) offset a tag p e = omega (arith)
 
 -- an allocated byte that is 1 stands as it is in the cell of characters
-before_store : (flow : Flow) (site : BaseInfo) → StandsClass Stands flow one_site (two_instances 1 1) 0 site Char (value_of one)
+before_store : (flow : Flow) (site : BaseInfo) → InGammaClass Stands flow one_site (two_instances 1 1) 0 site Char (value_of one)
 unfolding byte_at
 before_store flow site = record { whole = whole; byte = byte }
   where
@@ -197,14 +197,14 @@ before_store flow site = record { whole = whole; byte = byte }
     seen (suc zero) (suc offset) content tag e = cc
     seen (suc (suc i)) offset content tag e = cc
 
-    byte : (i offset k : ℕ) (content : Content) → IsLiveOf one_site (two_instances 1 1) 0 i → OwnedByClass flow.model site.shape.cells Char offset k → Matched (two_instances 1 1) i offset Char k content → StandsContent Stands one_site (two_instances 1 1) (value_of one) Char content
-    byte i offset k content lives owned m = subst (StandsContent Stands one_site (two_instances 1 1) (value_of one) Char) (sym (seen i offset content m.tag m.here)) (refl, λ e. cc)
+    byte : (i offset k : ℕ) (content : Content) → IsLiveOf one_site (two_instances 1 1) 0 i → OwnedByClass flow.model site.shape.cells Char offset k → Matched (two_instances 1 1) i offset Char k content → InGammaContent Stands one_site (two_instances 1 1) (value_of one) Char content
+    byte i offset k content lives owned m = subst (InGammaContent Stands one_site (two_instances 1 1) (value_of one) Char) (sym (seen i offset content m.tag m.here)) (refl, λ e. cc)
 
 no_cell : (flow : Flow) (site : BaseInfo) (offset : ℕ) → site.shape.cells ≡ [] → IsLeafPlace site.shape.cells Char offset → ⊥
 no_cell flow site offset e p = let f : slice_get [] p.at ≡ Some p.leaf = subst (λ cells. slice_get cells p.at ≡ Some p.leaf) e p.among in cc
 
 strong_store : (flow : Flow) (site : BaseInfo) → site.shape.cells ≡ []
-    → ((naming : Naming) (memory : Memory) (i : ℕ) (old : Value Interval) → StandsClass Stands flow naming memory 0 site Char old → StandsClass Stands flow naming (set_bytes memory i (record { content = number 0 no_labels; tag = None } ∷ [])) 0 site Char (value_of none)) → ⊥
+    → ((naming : Naming) (memory : Memory) (i : ℕ) (old : Value Interval) → InGammaClass Stands flow naming memory 0 site Char old → InGammaClass Stands flow naming (set_bytes memory i (record { content = number 0 no_labels; tag = None } ∷ [])) 0 site Char (value_of none)) → ⊥
 unfolding byte_at
 strong_store flow site e h =
     let c = h one_site (two_instances 1 1) 0 (value_of one) (before_store flow site) in
@@ -236,7 +236,7 @@ zero_seen (suc i) offset content tag e = cc
 number_seen : (a : Labelled) → number a.number a.labels ≡ number 0 no_labels → a.number ≡ 0
 number_seen a e = cc
 
-before_character : (flow : Flow) → flow.model ≡ lp64 → StandsLeaf Stands flow one_site (int_object 0) 0 int_leaf (value_of none)
+before_character : (flow : Flow) → flow.model ≡ lp64 → InGammaLeaf Stands flow one_site (int_object 0) 0 int_leaf (value_of none)
 before_character flow m = record { whole = whole; byte = byte }
   where
     digit : (i offset : ℕ) (numbers : List Labelled) (holds : Holds flow.model (int_object 0) i offset Int numbers) (k : ℕ) (a : Labelled) → k < length numbers → slice_get numbers k ≡ Some a → a.number ≡ 0
@@ -262,8 +262,8 @@ before_character flow m = record { whole = whole; byte = byte }
     whole : (i offset : ℕ) (numbers : List Labelled) → IsLiveOf one_site (int_object 0) 0 i → IsPlaceOf int_leaf offset → is_pointer Int ≡ false → Holds flow.model (int_object 0) i offset Int numbers → Stands none (number_of true numbers)
     whole i offset numbers lives place np holds = by_digits numbers (four numbers holds.size) (digit i offset numbers holds)
 
-    byte : (i offset k : ℕ) (content : Content) → IsLiveOf one_site (int_object 0) 0 i → OwnedByLeaf flow.model int_leaf offset k → Matched (int_object 0) i offset Int k content → StandsContent Stands one_site (int_object 0) (value_of none) Int content
-    byte i offset k content lives owned x = subst (StandsContent Stands one_site (int_object 0) (value_of none) Int) (sym (zero_seen i offset content x.tag x.here)) (refl, λ e. cc)
+    byte : (i offset k : ℕ) (content : Content) → IsLiveOf one_site (int_object 0) 0 i → OwnedByLeaf flow.model int_leaf offset k → Matched (int_object 0) i offset Int k content → InGammaContent Stands one_site (int_object 0) (value_of none) Int content
+    byte i offset k content lives owned x = subst (InGammaContent Stands one_site (int_object 0) (value_of none) Int) (sym (zero_seen i offset content x.tag x.here)) (refl, λ e. cc)
 
 abbrev digits : List Labelled
 digits = record { number = 1; labels = no_labels } ∷ (record { number = 0; labels = no_labels } ∷ (record { number = 0; labels = no_labels } ∷ (record { number = 0; labels = no_labels } ∷ [])))
@@ -289,8 +289,8 @@ abbrev left_alone : Value Interval → Value Interval
 left_alone v = v
 
 character_is_unseen : (flow : Flow) → flow.model ≡ lp64
-    → ((naming : Naming) (memory : Memory) (i n : ℕ) (v : Value Interval) → StandsLeaf Stands flow naming memory 0 int_leaf v → StandsLeaf Stands flow naming (set_bytes memory i (refilled (bytes_at memory i) 0 (number n no_labels ∷ []))) 0 int_leaf (left_alone v)) → ⊥
+    → ((naming : Naming) (memory : Memory) (i n : ℕ) (v : Value Interval) → InGammaLeaf Stands flow naming memory 0 int_leaf v → InGammaLeaf Stands flow naming (set_bytes memory i (refilled (bytes_at memory i) 0 (number n no_labels ∷ []))) 0 int_leaf (left_alone v)) → ⊥
 character_is_unseen flow m h =
-    let c : StandsLeaf Stands flow one_site (int_object 1) 0 int_leaf (value_of none) = h one_site (int_object 0) 0 1 (value_of none) (before_character flow m) in
+    let c : InGammaLeaf Stands flow one_site (int_object 1) 0 int_leaf (value_of none) = h one_site (int_object 0) 0 1 (value_of none) (before_character flow m) in
     let p : pos 1 ≤ℤ pos 0 = (c.whole 0 0 digits (record { named = refl; alive = refl }) (record { turn = 0; few = omega (arith); there = refl }) refl (holds_digits flow.model m)).1 in
     omega (arith, ints)
