@@ -1,4 +1,4 @@
 pub mod StaticBytes
 pub mod NamedTargets
-pub mod ToldStatics
-pub mod ToldStarts
+pub mod ExactStatics
+pub mod ExactStarts

@@ -1,3 +1,3 @@
-pub mod ToldTouches
+pub mod ExactTouches
 pub mod MadeCopies
-pub mod ToldCopies
+pub mod ExactCopies

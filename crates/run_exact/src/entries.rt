@@ -2,4 +2,4 @@
 
 mod theorems;
 
-pub use theorems::start_is_told;
+pub use theorems::start_is_exact;

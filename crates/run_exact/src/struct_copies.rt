@@ -2,4 +2,4 @@
 
 mod theorems;
 
-pub use theorems::copies_are_told;
+pub use theorems::copies_are_exact;

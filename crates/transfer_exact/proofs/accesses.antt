@@ -1,6 +1,6 @@
-pub mod ToldLoads
+pub mod ExactLoads
 pub mod Moves
 pub mod StoredRows
-pub mod ToldStores
-pub mod ToldForgets
-pub mod ToldClears
+pub mod ExactStores
+pub mod ExactForgets
+pub mod ExactClears

@@ -1,4 +1,4 @@
-pub mod WaysTold
+pub mod EdgesExact
 pub mod PointerTests
 pub mod NullTests
 pub mod RelabelledObjects

@@ -1,5 +1,5 @@
-pub mod ToldEnters
+pub mod ExactEnters
 pub mod LeftBases
 pub mod LeftValues
 pub mod LeftRows
-pub mod ToldLeaves
+pub mod ExactLeaves

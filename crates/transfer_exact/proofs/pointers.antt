@@ -1,5 +1,5 @@
 pub mod Objects
-pub mod PointersTold
+pub mod PointersExact
 pub mod Addresses
 pub mod Moves
 pub mod SoleBases

@@ -1,5 +1,5 @@
 pub mod SpelledRows
 pub mod CharacterLeaves
 pub mod SpelledLeaves
-pub mod ToldSpells
-pub mod ToldLiterals
+pub mod ExactSpells
+pub mod ExactLiterals

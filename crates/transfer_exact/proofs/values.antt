@@ -1,6 +1,6 @@
 pub mod ExactIntervals
-pub mod NearTells
-pub mod PutTells
+pub mod NearExact
+pub mod PutExact
 pub mod Violated
 pub mod Told
 pub mod Faults

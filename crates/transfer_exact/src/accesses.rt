@@ -2,4 +2,4 @@
 
 mod theorems;
 
-pub use theorems::{clears_are_told, forgets_are_told, loads_are_told, stores_are_told};
+pub use theorems::{clears_are_exact, forgets_are_exact, loads_are_exact, stores_are_exact};

@@ -2,4 +2,4 @@
 
 mod theorems;
 
-pub use theorems::calls_are_told;
+pub use theorems::calls_are_exact;

@@ -3,4 +3,4 @@
 
 mod theorems;
 
-pub use theorems::{cases_are_told, null_tests_are_told, pointer_tests_are_told, ways_are_told};
+pub use theorems::{cases_are_exact, null_tests_are_exact, pointer_tests_are_exact, edges_are_exact};

@@ -2,4 +2,4 @@
 
 mod theorems;
 
-pub use theorems::{enters_are_told, leaves_are_told};
+pub use theorems::{enters_are_exact, leaves_are_exact};

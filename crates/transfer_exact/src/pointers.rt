@@ -3,4 +3,4 @@
 
 mod theorems;
 
-pub use theorems::pointer_steps_are_told;
+pub use theorems::pointer_steps_are_exact;

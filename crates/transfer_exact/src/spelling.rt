@@ -4,4 +4,4 @@
 
 mod theorems;
 
-pub use theorems::spells_are_told;
+pub use theorems::spells_are_exact;

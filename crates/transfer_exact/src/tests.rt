@@ -2,4 +2,4 @@
 
 mod theorems;
 
-pub use theorems::integer_tests_are_told;
+pub use theorems::integer_tests_are_exact;

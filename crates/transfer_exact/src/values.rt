@@ -3,4 +3,4 @@
 
 mod theorems;
 
-pub use theorems::{intervals_are_exact, value_steps_are_told};
+pub use theorems::{intervals_are_exact, value_steps_are_exact};

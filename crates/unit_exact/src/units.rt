@@ -2,4 +2,4 @@
 
 mod theorems;
 
-pub use theorems::plain_units_are_told_exactly;
+pub use theorems::plain_units_are_exact;

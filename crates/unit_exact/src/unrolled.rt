@@ -3,5 +3,5 @@
 mod theorems;
 
 pub use theorems::{
-    looped_units_are_told_exactly, turned_programs_are_single, turned_units_are_told_exactly,
+    looped_units_are_exact, turned_programs_are_single, unrolled_units_are_exact,
 };

@@ -19,8 +19,8 @@ use Rattle.typed_lowering.specs.Units.PlainUnits.{IsPlainUnit}
 use Rattle.typed_lowering.specs.Units.TypedUnitLaws.{TypedUnitsHaveTypedAccesses, IsLoopedFlow, LoopedUnitsHaveTypedPrograms}
 use Rattle.typed_lowering.specs.StandingTypes.{AreLaidOut}
 use Rattle.analysis_sound.proofs.units.CheckedUnits.{analysed_structs, same_structs}
-use Rattle.unit_exact.specs.Unrolled.TurnedUnits.{TurnedUnitsAreToldExactly}
-use Rattle.unit_exact.specs.Unrolled.TurnedLoops.{TakesTurns, IsSingleUpTo, LoopedUnitsAreToldExactly}
+use Rattle.unit_exact.specs.Unrolled.TurnedUnits.{UnrolledUnitsAreExact}
+use Rattle.unit_exact.specs.Unrolled.TurnedLoops.{TakesTurns, IsSingleUpTo, LoopedUnitsAreExact}
 use Rattle.simulation_units.specs.CheckedUnits.LookedRuns.{PassesLooks}
 use Rattle.cli_units.specs.Judging.{IsTurned}
 use Rattle.cli.specs.Command.DefinedRuns.{TypedUnitsPassLooks}
@@ -32,7 +32,7 @@ abbrev PlainUnitsAreTold : Type 0
 PlainUnitsAreTold = (flow : Flow) (list : List ℤ) (found : List Diag) → IsAnalysis flow list found → FindsJustUnitRuns flow found
 
 -- the analysis is of the unit's own program, or of that with turns unrolled
-finds_run : PlainUnitsAreTold → TurnedUnitsAreToldExactly → (turns : Option ℕ) (flow analysed : Flow) (list : List ℤ) (found : List Diag) → IsTurned turns flow analysed → IsAnalysis analysed list found → FindsJustUnitRuns flow found
+finds_run : PlainUnitsAreTold → UnrolledUnitsAreExact → (turns : Option ℕ) (flow analysed : Flow) (list : List ℤ) (found : List Diag) → IsTurned turns flow analysed → IsAnalysis analysed list found → FindsJustUnitRuns flow found
 finds_run told turned None flow analysed list found is own = told flow list found (subst (λ (p : Flow). IsAnalysis p list found) is own)
 finds_run told turned (Some turns) flow analysed list found is own = turned turns flow analysed list found is own
 
@@ -66,8 +66,8 @@ looped_program turns program u flow takes = record { plain = flow.plain; paramet
 pub record Laws : Type 0 where
   pub pass : TypedUnitsPassLooks
   pub told : PlainUnitsAreTold
-  pub turned : TurnedUnitsAreToldExactly
-  pub looped : LoopedUnitsAreToldExactly
+  pub turned : UnrolledUnitsAreExact
+  pub looped : LoopedUnitsAreExact
   pub lowered : PlainUnitsHavePlainPrograms
   pub typed : TypedUnitsHaveTypedAccesses
   pub looped_typed : LoopedUnitsHaveTypedPrograms

@@ -19,8 +19,8 @@ use cli_theorems::units::one_parse;
 use simulation_units::checked_units::{looked_runs_are_program_runs, looked_units_are_never_stuck};
 use typed_lowering::plain_programs::plain_units_have_plain_programs;
 use typed_lowering::units::typed_units_have_typed_accesses;
-use unit_exact::units::plain_units_are_told_exactly;
-use unit_exact::unrolled::{looped_units_are_told_exactly, turned_units_are_told_exactly};
+use unit_exact::units::plain_units_are_exact;
+use unit_exact::unrolled::{looped_units_are_exact, unrolled_units_are_exact};
 
 /// A unit that is typed from its tokens passes the looks at its terms and scopes, where tokens are of bytes and functions
 /// are regular.
@@ -65,9 +65,9 @@ pub fn judged_pairs_are_violated()
     ensures { JudgedPairsAreViolated }
 {
     typed_units_pass_looks();
-    plain_units_are_told_exactly();
-    turned_units_are_told_exactly();
-    looped_units_are_told_exactly();
+    plain_units_are_exact();
+    unrolled_units_are_exact();
+    looped_units_are_exact();
     plain_units_have_plain_programs();
     typed_units_have_typed_accesses();
 }

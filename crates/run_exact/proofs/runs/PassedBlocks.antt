@@ -37,8 +37,8 @@ use Rattle.transfer_sound.specs.Values.SoundSteps.{AreShort, InGammaAfter}
 use Rattle.transfer_sound.specs.Induction.Covering.{rows_behind}
 use Rattle.transfer_sound.proofs.induction.AdmittedPairs.{none_behind}
 use Rattle.transfer_sound.proofs.invariant_maps.EdgeEnds.{edge_there}
-use Rattle.transfer_exact.specs.Values.SingleRows.{TellsState}
-use Rattle.transfer_exact.specs.Values.SingleSteps.{TellsBehind}
+use Rattle.transfer_exact.specs.Values.SingleRows.{ExactState}
+use Rattle.transfer_exact.specs.Values.SingleSteps.{ExactAfter}
 use Rattle.run_exact.proofs.runs.Tables.{put_here, put_else}
 
 get_below : {X : Type 0} (xs : List X) (k : ℕ) (x : X) → slice_get xs k ≡ Some x → k < length xs
@@ -115,12 +115,12 @@ module _ {I : Type 0} (l : LatticeOf I) (n : IntegersOf I) (flow : Flow) where
       pub naming : Naming
       pub stands_for : InGamma l n gamma flow naming row (state_of s)
       pub short : AreShort flow.model s.world.memory
-      pub tells : TellsState l n flow row (state_of s)
+      pub tells : ExactState l n flow row (state_of s)
 
-    pub both : (after : Option (List (Cell I))) (s : Standing) → InGammaAfter l n gamma flow after s → TellsBehind l n flow after s → IsBoth after s
+    pub both : (after : Option (List (Cell I))) (s : Standing) → InGammaAfter l n gamma flow after s → ExactAfter l n flow after s → IsBoth after s
     both after s a b =
         let same : b.row ≡ a.row = same_Some b.row a.row (sym b.is ∙ a.is) in
-        record { row = a.row; is = a.is; long = a.long; naming = a.naming; stands_for = a.stands_for; short = a.short; tells = subst (λ z. TellsState l n flow z (state_of s)) same b.tells }
+        record { row = a.row; is = a.is; long = a.long; naming = a.naming; stands_for = a.stands_for; short = a.short; tells = subst (λ z. ExactState l n flow z (state_of s)) same b.tells }
 
     module _ (list : List ℤ) where
       abbrev pub machine : Machine (Cell I)

@@ -54,7 +54,7 @@ use Rattle.analysis_sound.specs.Programs.OpenSteps.{SpellsOverCharacters}
 use Rattle.transfer_sound.specs.Edges.EdgeSteps.{TestsAreSound}
 use Rattle.transfer_exact.specs.Values.SingleSteps.{IsDefined}
 use Rattle.transfer_exact.specs.Accesses.TypedAccesses.{HasObjects}
-use Rattle.transfer_exact.specs.Edges.WayLaws.{FitsWay, IsWay, TestsAreTold}
+use Rattle.transfer_exact.specs.Edges.WayLaws.{FitsWay, IsWay, TestsAreExact}
 use Rattle.transfer_exact.specs.Values.SingleLaws.{HasRight}
 use Rattle.run_exact.specs.Runs.SingleRuns.{SwitchesAreApart, IsTypedStep, HasRightOperands, IsNeverStuckAlone, IsSingleProgram, IsSingleRun, IsViolatedAlone, SingleLaws, AdmitOnlyRun, MapsAdmitOnlyRun}
 use Rattle.run_exact.proofs.runs.ApartWays.{ways_apart}
@@ -80,7 +80,7 @@ placed place (x ∷ xs) r (suc k, lt, e) = push_later (record { at = place; rule
 
 module _ {I : Type 0} {l : LatticeOf I} {n : IntegersOf I} {gamma : I → ℤ → Type 0} (o : OrderLaws l) (flow : Flow) (list : List ℤ) (limits : Limits) (good : is_well_formed limits flow ≡ true) (p : HasPremises flow)
     (steps_sound : StepsGoOnSoundly l n gamma flow) (ends_sound : EndsGoOnSoundly l n gamma flow limits) (tests_sound : TestsAreSound l n gamma flow)
-    (laws : SingleLaws l n gamma flow limits) (tests_told : TestsAreTold l n gamma flow)
+    (laws : SingleLaws l n gamma flow limits) (tests_told : TestsAreExact l n gamma flow)
     (leaves : (number : ℕ) (row : List (Cell I)) → is_own_row l n list flow.bases.items flow.width row ≡ true → through l n flow list number row ≡ edge_end l n flow (edge_at flow.edges.items number).from number row)
     (owns : (block number : ℕ) (row x : List (Cell I)) → is_own_row l n list flow.bases.items flow.width row ≡ true → edge_end l n flow block number row ≡ Some x → is_own_row l n list flow.bases.items flow.width x ≡ true)
     (start_own : is_own_row l n list flow.bases.items flow.width (start_of l n flow list) ≡ true)

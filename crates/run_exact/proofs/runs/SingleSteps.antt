@@ -22,17 +22,17 @@ use Rattle.struct_copies_sound.specs.Structs.StructTables.{HasStructs}
 use Rattle.transfer_sound.specs.Induction.SoundEnds.{IsDoneIn}
 use Rattle.analysis_sound.specs.Programs.OpenSteps.{SpellsOverCharacters}
 use Rattle.transfer_exact.specs.Values.SingleLaws.{HasRight}
-use Rattle.transfer_exact.specs.Values.SingleRows.{IsPlainProgram, TellsState}
-use Rattle.transfer_exact.specs.Values.SingleSteps.{IsDefined, StepIsTold}
+use Rattle.transfer_exact.specs.Values.SingleRows.{IsPlainProgram, ExactState}
+use Rattle.transfer_exact.specs.Values.SingleSteps.{IsDefined, StepIsExact}
 use Rattle.transfer_exact.specs.Accesses.TypedAccesses.{HasObjects}
 use Rattle.transfer_exact.specs.Edges.WayLaws.{IsWay}
 use Rattle.run_exact.specs.Runs.SingleRuns.{IsPlainOperation, IsTypedStep, SingleLaws}
 
-module _ {I : Type 0} (l : LatticeOf I) (n : IntegersOf I) (gamma : I → ℤ → Type 0) (flow : Flow) (limits : Limits) (laws : SingleLaws l n gamma flow limits) (p : HasPremises flow) (objects : HasObjects flow) (structs : HasStructs flow) (texts : SpellsOverCharacters flow) (plain : IsPlainProgram flow) (naming : Naming) (row : List (Cell I)) (s : Standing) (r : IsReached l n gamma flow naming row (begun s)) (t : TellsState l n flow row (state_of s)) where
-  abbrev IsToldHere : Operation → Type 0
-  IsToldHere o = leads o ≡ On → IsDoneIn flow o → IsPlainOperation o → IsTypedStep flow o s → fits_operation (names_of flow) o ≡ true → HasOperands o s.temps → HasRight o s.temps → IsDefined (act_step (flow_view flow) (act o) (begun s)) → StepIsTold l n flow row o (begun s)
+module _ {I : Type 0} (l : LatticeOf I) (n : IntegersOf I) (gamma : I → ℤ → Type 0) (flow : Flow) (limits : Limits) (laws : SingleLaws l n gamma flow limits) (p : HasPremises flow) (objects : HasObjects flow) (structs : HasStructs flow) (texts : SpellsOverCharacters flow) (plain : IsPlainProgram flow) (naming : Naming) (row : List (Cell I)) (s : Standing) (r : IsReached l n gamma flow naming row (begun s)) (t : ExactState l n flow row (state_of s)) where
+  abbrev IsExactHere : Operation → Type 0
+  IsExactHere o = leads o ≡ On → IsDoneIn flow o → IsPlainOperation o → IsTypedStep flow o s → fits_operation (names_of flow) o ≡ true → HasOperands o s.temps → HasRight o s.temps → IsDefined (act_step (flow_view flow) (act o) (begun s)) → StepIsExact l n flow row o (begun s)
 
-  pub step_told : (o : Operation) → IsToldHere o
+  pub step_told : (o : Operation) → IsExactHere o
   step_told (op.Constant to number kind) on g c is f a b d = laws.values p naming row (begun s) (op.Constant to number kind) refl f a b r t d
   step_told (op.Binary to operator left right kind) on g c is f a b d = laws.values p naming row (begun s) (op.Binary to operator left right kind) refl f a b r t d
   step_told (op.Unary to operator operand kind) on g c is f a b d = laws.values p naming row (begun s) (op.Unary to operator operand kind) refl f a b r t d

@@ -29,7 +29,7 @@ use Rattle.semantics.specs.CfgMachine.FlowSteps.{block_of, on_edge, switching, a
 use Rattle.transfer_sound.proofs.edges.TakenEdges.{FitsLead}
 use Rattle.transfer_exact.proofs.values.Violated.{none_violated}
 use Rattle.transfer_exact.specs.Edges.WayLaws.{FitsWay, IsWay}
-use Rattle.transfer_exact.proofs.edges.WaysTold.{lead_jump, lead_branch, lead_switch}
+use Rattle.transfer_exact.proofs.edges.EdgesExact.{lead_jump, lead_branch, lead_switch}
 
 -- ---- violations, and edges
 

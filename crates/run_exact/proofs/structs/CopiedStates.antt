@@ -33,8 +33,8 @@ use Rattle.struct_copies_sound.proofs.leaves.Structs.{owned_at}
 use Rattle.struct_copies_sound.specs.Leaves.StructLeaves.{IsStruct}
 use Rattle.struct_copies_sound.specs.Structs.StructTables.{IsListed}
 use Rattle.transfer_exact.specs.Values.ExactNumbers.{ExactLaws}
-use Rattle.transfer_exact.specs.Values.SingleRows.{IsPlainProgram, TellsLeaf, TellsState}
-use Rattle.transfer_exact.specs.Values.SingleValues.{TellsHeld}
+use Rattle.transfer_exact.specs.Values.SingleRows.{IsPlainProgram, ExactLeaf, ExactState}
+use Rattle.transfer_exact.specs.Values.SingleValues.{ExactHeld}
 use Rattle.transfer_exact.proofs.places.OneLeaf.{owned, place_is}
 use Rattle.transfer_exact.specs.Accesses.TypedAccesses.{HasObjects}
 use Rattle.transfer_exact.proofs.accesses.Moves.{held_moves, holds_moves, change_tells}
@@ -56,7 +56,7 @@ module _ {I : Type 0} {l : LatticeOf I} {n : IntegersOf I} {gamma : I → ℤ �
     (flow : Flow) (p : HasPremises flow) (objects : HasObjects flow) (plain : IsPlainProgram flow) (index : ℕ) (view : StructView) (listed : IsListed flow.model (structs_view flow.structs) index view)
     (b d : ℕ) (target source : BaseInfo) (o a : ℕ) (t : IsSide flow index view b target o) (s : IsSide flow index view d source a)
     (apart : (x : ℕ) → d ≡ b → o ≤ x → x < o + view.size → a ≤ x → x < a + view.size → o ≡ a)
-    (row : List (Cell I)) (wide : p.laid.behind ≤ length row) (state : MachineState) (st : TellsState l n flow row state) (sane : (i offset : ℕ) (byte : Byte) → byte_at state.memory i offset ≡ Some byte → IsContentIn state.memory byte.content byte.tag)
+    (row : List (Cell I)) (wide : p.laid.behind ≤ length row) (state : MachineState) (st : ExactState l n flow row state) (sane : (i offset : ℕ) (byte : Byte) → byte_at state.memory i offset ≡ Some byte → IsContentIn state.memory byte.content byte.tag)
     (i j : ℕ) (en : state.entered b ≡ Some i) (en_source : state.entered d ≡ Some j) (names : (c k : ℕ) → state.entered c ≡ Some k → (c ≡ b → ⊥) → k ≡ i → ⊥)
     (new : Memory) (region : IsRegion state.memory new i o view.size) (tagged : (x : ℕ) (was : Byte) → byte_at state.memory i x ≡ Some was → was.tag ≡ tag_at flow.model target.shape.cells x)
     (came : (x : ℕ) (y : Byte) → o ≤ x → x < o + view.size → byte_at new i x ≡ Some y → Came state.memory i o j a x y)
@@ -117,26 +117,26 @@ module _ {I : Type 0} {l : LatticeOf I} {n : IntegersOf I} {gamma : I → ℤ �
     place_from : IsPlaceOf own_from.own own_from.own.offset
     place_from = let c = single_source own_from.number own_from.own own_from.among in record { turn = 0; few = omega (arith, c); there = omega arith }
 
-    struct_leaf : TellsLeaf l n flow behind (value_at l n after (leaf_position target own_to.number)) i own_to.own.offset own_to.own
+    struct_leaf : ExactLeaf l n flow behind (value_at l n after (leaf_position target own_to.number)) i own_to.own.offset own_to.own
     struct_leaf =
         let was = st.leaves d own_from.number j own_from.own.offset source own_from.own s.at own_from.among en_source place_from in
         let tells = copied_tells order q ranges exact flow state.entered state.memory sane j own_from.own.offset own_from.own (value_at l n row (leaf_position source own_from.number)) (value_at_near order q row (leaf_position source own_from.number)) was.held was.holds was.tells in
-        let of_class : TellsHeld n state.entered state.memory (near_value l n (as_stored n flow.model (near_value l n (value_at l n row (leaf_position source own_from.number))) own_to.own.class own_to.own.signed)) was.held =
-        subst (λ z. TellsHeld n state.entered state.memory (near_value l n (as_stored n flow.model (near_value l n (value_at l n row (leaf_position source own_from.number))) own_to.own.class z)) was.held) signed
-        (subst (λ z. TellsHeld n state.entered state.memory (near_value l n (as_stored n flow.model (near_value l n (value_at l n row (leaf_position source own_from.number))) z own_from.own.signed)) was.held) class tells) in
+        let of_class : ExactHeld n state.entered state.memory (near_value l n (as_stored n flow.model (near_value l n (value_at l n row (leaf_position source own_from.number))) own_to.own.class own_to.own.signed)) was.held =
+        subst (λ z. ExactHeld n state.entered state.memory (near_value l n (as_stored n flow.model (near_value l n (value_at l n row (leaf_position source own_from.number))) own_to.own.class z)) was.held) signed
+        (subst (λ z. ExactHeld n state.entered state.memory (near_value l n (as_stored n flow.model (near_value l n (value_at l n row (leaf_position source own_from.number))) z own_from.own.signed)) was.held) class tells) in
         record {
           held = was.held;
           holds = copied_holds flow state.memory new j own_from.own.offset i own_to.own.offset own_from.own own_to.own class signed moves was.held was.holds;
-          tells = held_moves n state.entered state.memory new region.lives (value_at l n after (leaf_position target own_to.number)) was.held (subst (λ z. TellsHeld n state.entered state.memory z was.held) (sym value_is) of_class);
+          tells = held_moves n state.entered state.memory new region.lives (value_at l n after (leaf_position target own_to.number)) was.held (subst (λ z. ExactHeld n state.entered state.memory z was.held) (sym value_is) of_class);
         }
 
   -- ---- a leaf of the target
 
   module _ (k : ℕ) (leaf : Leaf) (at : slice_get target.shape.cells k ≡ Some leaf) where
-    abbrev IsTold : ℕ → Type 0
-    IsTold offset = TellsLeaf l n flow behind (value_at l n after (leaf_position target k)) i offset leaf
+    abbrev IsExact : ℕ → Type 0
+    IsExact offset = ExactLeaf l n flow behind (value_at l n after (leaf_position target k)) i offset leaf
 
-    in_struct : o ≤ leaf.offset → leaf.offset < o + view.size → IsTold leaf.offset
+    in_struct : o ≤ leaf.offset → leaf.offset < o + view.size → IsExact leaf.offset
     in_struct from below =
         let x = t.there.only k leaf.offset 0 leaf at from below (owned flow.model target.shape.cells target.size struct single k leaf.offset 0 leaf at (omega arith) (class_above flow.model leaf.class)) in
         let z = own flow p objects plain index view listed b target o t x.number x.leaf x.among in
@@ -147,17 +147,17 @@ module _ {I : Type 0} {l : LatticeOf I} {n : IntegersOf I} {gamma : I → ℤ �
         (owned flow.model target.shape.cells target.size struct single k leaf.offset 0 leaf at (omega arith) (class_above flow.model leaf.class)) in
         let leaf_same : z.own ≡ leaf = same_Some z.own leaf (sym z.among ∙ (ap (slice_get target.shape.cells) same ∙ at)) in
         let told = struct_leaf x.number x.leaf x.among in
-        subst (λ y. TellsLeaf l n flow behind (value_at l n after (leaf_position target y)) i leaf.offset leaf) same
-        (subst (λ y. TellsLeaf l n flow behind (value_at l n after (leaf_position target z.number)) i y.offset y) leaf_same told)
+        subst (λ y. ExactLeaf l n flow behind (value_at l n after (leaf_position target y)) i leaf.offset leaf) same
+        (subst (λ y. ExactLeaf l n flow behind (value_at l n after (leaf_position target z.number)) i y.offset y) leaf_same told)
 
-    outside : (leaf.offset < o + view.size → o ≤ leaf.offset → ⊥) → (offset : ℕ) → IsPlaceOf leaf offset → IsTold offset
+    outside : (leaf.offset < o + view.size → o ≤ leaf.offset → ⊥) → (offset : ℕ) → IsPlaceOf leaf offset → IsExact offset
     outside far offset placed =
         let begins = place_is flow.model target.shape.cells target.size struct single k offset leaf at placed in
         let was = st.leaves b k i offset target leaf t.at at en placed in
         let top = slice_get_within target.shape.cells k leaf at in
         let there = leaf_is target k (base_fits flow p objects plain index view listed b target t.at) top in
         let same = same_value l n row after (leaf_position target k) (kept (leaf_position target k) (λ f g. omega (arith, f, there, top)) (λ number y e f. not_place number y e f)) in
-        subst (λ z. TellsLeaf l n flow behind z i offset leaf) (sym same) (record {
+        subst (λ z. ExactLeaf l n flow behind z i offset leaf) (sym same) (record {
           held = was.held;
           holds = holds_moves flow state.memory new i offset leaf (λ y less. region.outside i (offset + y) (λ f from below.
               let x = t.there.only k (offset + y) y leaf at from below (owned flow.model target.shape.cells target.size struct single k (offset + y) y leaf at (omega (arith, begins)) less) in
@@ -181,16 +181,16 @@ module _ {I : Type 0} {l : LatticeOf I} {n : IntegersOf I} {gamma : I → ℤ �
             let small = inside flow p objects plain index view listed number y e in
             far (omega (arith, offset, g, small)) (omega (arith, offset, g))
 
-    any_leaf : (offset : ℕ) → IsPlaceOf leaf offset → IsTold offset
+    any_leaf : (offset : ℕ) → IsPlaceOf leaf offset → IsExact offset
     any_leaf offset placed = elim (cases_lt leaf.offset o) [
       | inl less ↦ outside (λ f g. omega (arith, less, g)) offset placed
       | inr from ↦ elim (cases_lt leaf.offset (o + view.size)) [
         | inr far ↦ outside (λ f g. omega (arith, far, f)) offset placed
-        | inl below ↦ subst IsTold (sym (place_is flow.model target.shape.cells target.size struct single k offset leaf at placed)) (in_struct from below)
+        | inl below ↦ subst IsExact (sym (place_is flow.model target.shape.cells target.size struct single k offset leaf at placed)) (in_struct from below)
       ]
     ]
 
-  pub copied_state : TellsState l n flow after behind
+  pub copied_state : ExactState l n flow after behind
   copied_state = change_tells l n flow p row after state new b i target t.at en st (record {
     lives = region.lives;
     others = λ c x ne. region.outside c x (λ f from below. ne f);
@@ -202,5 +202,5 @@ module _ {I : Type 0} {l : LatticeOf I} {n : IntegersOf I} {gamma : I → ℤ �
     apart = names;
   }) any_leaf_of
     where
-      any_leaf_of : (k : ℕ) (leaf : Leaf) (offset : ℕ) → slice_get target.shape.cells k ≡ Some leaf → IsPlaceOf leaf offset → TellsLeaf l n flow behind (value_at l n after (leaf_position target k)) i offset leaf
+      any_leaf_of : (k : ℕ) (leaf : Leaf) (offset : ℕ) → slice_get target.shape.cells k ≡ Some leaf → IsPlaceOf leaf offset → ExactLeaf l n flow behind (value_at l n after (leaf_position target k)) i offset leaf
       any_leaf_of k leaf offset e placed = any_leaf k leaf e offset placed

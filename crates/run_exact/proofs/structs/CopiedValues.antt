@@ -29,9 +29,9 @@ use Rattle.transfer_sound.proofs.values.NearScalars.{IsNearNumber}
 use Rattle.transfer_sound.proofs.values.TypeRanges.{type_near}
 use Rattle.transfer_exact.specs.Values.ExactNumbers.{ExactLaws}
 use Rattle.transfer_exact.specs.Values.SingleNumbers.{IsOne}
-use Rattle.transfer_exact.specs.Values.SingleValues.{TellsHeld}
+use Rattle.transfer_exact.specs.Values.SingleValues.{ExactHeld}
 use Rattle.transfer_exact.specs.Values.SingleRows.{HoldsNumber, HoldsScalar}
-use Rattle.transfer_exact.proofs.values.NearTells.{near_one, near_none}
+use Rattle.transfer_exact.proofs.values.NearExact.{near_one, near_none}
 use Rattle.transfer_exact.proofs.places.OneLeaf.{same_size}
 
 -- ---- bytes
@@ -85,8 +85,8 @@ module _ {I : Type 0} {l : LatticeOf I} {n : IntegersOf I} {gamma : I → ℤ �
       let f = ranges.convert_fits v.num (kind_of flow.model leaf.class leaf.signed) z z sized one in
       type_near (kind_of flow.model leaf.class leaf.signed) z z z sized f.0 f.1 (omega (arith, ints)) (omega (arith, ints))
 
-  by_class : (held : Option Scalar) → HoldsScalar flow memory i offset leaf held → TellsHeld n entered memory v held → (c : Bool) → is_pointer leaf.class ≡ c → TellsHeld n entered memory (near_value l n (cond c v (record v { num = n.convert v.num (kind_of flow.model leaf.class leaf.signed) }))) held
-  by_class held h t true e = subst (λ z. TellsHeld n entered memory z held) (sym (near_is o q v near)) t
+  by_class : (held : Option Scalar) → HoldsScalar flow memory i offset leaf held → ExactHeld n entered memory v held → (c : Bool) → is_pointer leaf.class ≡ c → ExactHeld n entered memory (near_value l n (cond c v (record v { num = n.convert v.num (kind_of flow.model leaf.class leaf.signed) }))) held
+  by_class held h t true e = subst (λ z. ExactHeld n entered memory z held) (sym (near_is o q v near)) t
   by_class None h t false e = record { number = near_none q (n.convert v.num (kind_of flow.model leaf.class leaf.signed)) (x.no_convert (kind_of flow.model leaf.class leaf.signed) v.num t.number); apart = record { bases = t.apart.bases; null = t.apart.null; ended = t.apart.ended }; indeterminate = t.indeterminate }
   by_class (Some (integer z la)) h t false e =
       let one = converted z la h t.number in
@@ -98,5 +98,5 @@ module _ {I : Type 0} {l : LatticeOf I} {n : IntegersOf I} {gamma : I → ℤ �
       }
   by_class (Some (pointer p)) h t false e = absurd (true≢false (sym h.pointing ∙ e))
 
-  pub copied_tells : (held : Option Scalar) → HoldsScalar flow memory i offset leaf held → TellsHeld n entered memory v held → TellsHeld n entered memory (near_value l n (as_stored n flow.model (near_value l n v) leaf.class leaf.signed)) held
-  copied_tells held h t = subst (λ z. TellsHeld n entered memory (near_value l n (as_stored n flow.model z leaf.class leaf.signed)) held) (sym (near_is o q v near)) (by_class held h t (is_pointer leaf.class) refl)
+  pub copied_tells : (held : Option Scalar) → HoldsScalar flow memory i offset leaf held → ExactHeld n entered memory v held → ExactHeld n entered memory (near_value l n (as_stored n flow.model (near_value l n v) leaf.class leaf.signed)) held
+  copied_tells held h t = subst (λ z. ExactHeld n entered memory (near_value l n (as_stored n flow.model z leaf.class leaf.signed)) held) (sym (near_is o q v near)) (by_class held h t (is_pointer leaf.class) refl)

@@ -37,13 +37,13 @@ use Rattle.transfer_sound.specs.Edges.EdgeSteps.{TestsAreSound}
 use Rattle.analysis_sound.specs.Programs.OpenSteps.{SpellsOverCharacters}
 use Rattle.transfer_sound.specs.Induction.SoundEnds.{IsDoneIn, StepsGoOnSoundly, EndsGoOnSoundly}
 use Rattle.transfer_sound.specs.Induction.Covering.{HasTypedRuns, Admits}
-use Rattle.transfer_exact.specs.Values.SingleLaws.{HasRight, IsPlainCall, ValueStepsAreTold, PointerStepsAreTold, CallsAreTold}
-use Rattle.transfer_exact.specs.Values.SingleRows.{IsPlainProgram, TellsState}
+use Rattle.transfer_exact.specs.Values.SingleLaws.{HasRight, IsPlainCall, ValueStepsAreExact, PointerStepsAreExact, CallsAreExact}
+use Rattle.transfer_exact.specs.Values.SingleRows.{IsPlainProgram, ExactState}
 use Rattle.transfer_exact.specs.Accesses.TypedAccesses.{HasObjects, IsTyped}
-use Rattle.transfer_exact.specs.Accesses.StoreLaws.{LoadsAreTold, StoresAreTold, EntersAreTold, LeavesAreTold, ForgetsAreTold, ClearsAreTold}
+use Rattle.transfer_exact.specs.Accesses.StoreLaws.{LoadsAreExact, StoresAreExact, EntersAreExact, LeavesAreExact, ForgetsAreExact, ClearsAreExact}
 use Rattle.transfer_exact.specs.Spelling.TypedCopies.{IsTypedCopy}
-use Rattle.transfer_exact.specs.Spelling.CopyLaws.{SpellsAreTold, CopiesAreTold}
-use Rattle.transfer_exact.specs.Edges.WayLaws.{WaysAreTold, TestsAreTold}
+use Rattle.transfer_exact.specs.Spelling.CopyLaws.{SpellsAreExact, CopiesAreExact}
+use Rattle.transfer_exact.specs.Edges.WayLaws.{EdgesAreExact, TestsAreExact}
 
 -- ---- programs
 
@@ -109,18 +109,18 @@ pub record IsViolatedAlone (flow : Flow) (u : UnitView) (place : Place) (rule : 
 
 module _ {I : Type 0} (l : LatticeOf I) (n : IntegersOf I) (gamma : I → ℤ → Type 0) (flow : Flow) where
   pub record SingleLaws (limits : Limits) : Type 0 where
-    pub values : ValueStepsAreTold l n gamma flow
-    pub pointers : PointerStepsAreTold l n gamma flow
-    pub calls : CallsAreTold l n gamma flow
-    pub loads : LoadsAreTold l n gamma flow
-    pub stores : StoresAreTold l n gamma flow
-    pub copies : CopiesAreTold l n gamma flow
-    pub spells : SpellsAreTold l n gamma flow
-    pub enters : EntersAreTold l n gamma flow
-    pub leaves : LeavesAreTold l n gamma flow
-    pub forgets : ForgetsAreTold l n gamma flow
-    pub clears : ClearsAreTold l n gamma flow
-    pub ways : WaysAreTold l n gamma flow limits
+    pub values : ValueStepsAreExact l n gamma flow
+    pub pointers : PointerStepsAreExact l n gamma flow
+    pub calls : CallsAreExact l n gamma flow
+    pub loads : LoadsAreExact l n gamma flow
+    pub stores : StoresAreExact l n gamma flow
+    pub copies : CopiesAreExact l n gamma flow
+    pub spells : SpellsAreExact l n gamma flow
+    pub enters : EntersAreExact l n gamma flow
+    pub leaves : LeavesAreExact l n gamma flow
+    pub forgets : ForgetsAreExact l n gamma flow
+    pub clears : ClearsAreExact l n gamma flow
+    pub ways : EdgesAreExact l n gamma flow limits
 
 -- ---- maps
 
@@ -143,7 +143,7 @@ module _ {I : Type 0} (l : LatticeOf I) (n : IntegersOf I) (gamma : I → ℤ �
     pub ends : EndsGoOnSoundly l n gamma flow limits
     pub sound : TestsAreSound l n gamma flow
     pub laws : SingleLaws l n gamma flow limits
-    pub told : TestsAreTold l n gamma flow
+    pub told : TestsAreExact l n gamma flow
     pub leaves : (number : ℕ) (row : List (Cell I)) → is_own_row l n list flow.bases.items flow.width row ≡ true → through l n flow list number row ≡ edge_end l n flow (edge_at flow.edges.items number).from number row
     pub owns : (block number : ℕ) (row x : List (Cell I)) → is_own_row l n list flow.bases.items flow.width row ≡ true → edge_end l n flow block number row ≡ Some x → is_own_row l n list flow.bases.items flow.width x ≡ true
     pub start : is_own_row l n list flow.bases.items flow.width (start_of l n flow list) ≡ true
@@ -151,4 +151,4 @@ module _ {I : Type 0} (l : LatticeOf I) (n : IntegersOf I) (gamma : I → ℤ �
   -- where the row of the entry stands for the state in which the run begins and tells it, and operands are of their types
   abbrev pub MapsAdmitOnlyRun : Type 0
   MapsAdmitOnlyRun = HasLaws → SwitchesAreApart flow → (u : UnitView) → HasTypedRuns flow u → HasRightOperands flow u → IsNeverStuckAlone flow u → IsSingleRun flow u → (first : Standing) → flow_begin u (flow_view flow) [] ≡ running first []
-      → InGammaAfter l n gamma flow (Some (start_of l n flow list)) first → TellsState l n flow (start_of l n flow list) (state_of first) → AdmitOnlyRun l n flow list u
+      → InGammaAfter l n gamma flow (Some (start_of l n flow list)) first → ExactState l n flow (start_of l n flow list) (state_of first) → AdmitOnlyRun l n flow list u

@@ -24,18 +24,18 @@ use Rattle.store_sound.specs.Concretization.RowMeaning.{MachineState}
 use Rattle.store_sound.proofs.operations.StoreRows.{leaf_is}
 use Rattle.store_sound.proofs.operations.StoreValues.{same_value}
 use Rattle.store_sound.specs.Programs.Premises.{HasPremises}
-use Rattle.transfer_exact.specs.Values.SingleRows.{HoldsScalar, TellsLeaf, TellsState}
-use Rattle.transfer_exact.specs.Values.SingleValues.{TellsByLife, TellsScalar, TellsHeld}
+use Rattle.transfer_exact.specs.Values.SingleRows.{HoldsScalar, ExactLeaf, ExactState}
+use Rattle.transfer_exact.specs.Values.SingleValues.{ExactByLife, ExactScalar, ExactHeld}
 
 -- ---- scalars
 
 module _ {I : Type 0} (n : IntegersOf I) (entered : ℕ → Option ℕ) (old new : Memory) (lives : (j : ℕ) → life_at new j ≡ life_at old j) where
-  pub scalar_moves : (v : Value I) (scalar : Scalar) → TellsScalar n entered old v scalar → TellsScalar n entered new v scalar
+  pub scalar_moves : (v : Value I) (scalar : Scalar) → ExactScalar n entered old v scalar → ExactScalar n entered new v scalar
   scalar_moves v (integer z labels) h = record { number = h.number; labels_are = h.labels_are; apart = h.apart; determinate = h.determinate }
   scalar_moves v (pointer null) h = record { apart = h.apart; points = h.points; determinate = h.determinate }
-  scalar_moves v (pointer (into i offset lo hi)) h = record { apart = h.apart; points = subst (λ z. TellsByLife n entered v.pointer z i offset lo hi) (sym (lives i)) h.points; determinate = h.determinate }
+  scalar_moves v (pointer (into i offset lo hi)) h = record { apart = h.apart; points = subst (λ z. ExactByLife n entered v.pointer z i offset lo hi) (sym (lives i)) h.points; determinate = h.determinate }
 
-  pub held_moves : (v : Value I) (held : Option Scalar) → TellsHeld n entered old v held → TellsHeld n entered new v held
+  pub held_moves : (v : Value I) (held : Option Scalar) → ExactHeld n entered old v held → ExactHeld n entered new v held
   held_moves v None h = h
   held_moves v (Some scalar) h = scalar_moves v scalar h
 
@@ -68,7 +68,7 @@ module _ {I : Type 0} (l : LatticeOf I) (n : IntegersOf I) (flow : Flow) (p : Ha
     -- the names of entered objects are different
     pub apart : (d j : ℕ) → entered d ≡ Some j → (d ≡ b → ⊥) → j ≡ i → ⊥
 
-  module _ (row after : List (Cell I)) (state : MachineState) (new : Memory) (b i : ℕ) (base : BaseInfo) (at : slice_get flow.bases.items b ≡ Some base) (named : state.entered b ≡ Some i) (t : TellsState l n flow row state) (c : IsChange row after state.entered state.memory new b i base) where
+  module _ (row after : List (Cell I)) (state : MachineState) (new : Memory) (b i : ℕ) (base : BaseInfo) (at : slice_get flow.bases.items b ≡ Some base) (named : state.entered b ≡ Some i) (t : ExactState l n flow row state) (c : IsChange row after state.entered state.memory new b i base) where
     abbrev behind : MachineState
     behind = record { memory = new; temps = state.temps; entered = state.entered }
 
@@ -89,17 +89,17 @@ module _ {I : Type 0} (l : LatticeOf I) (n : IntegersOf I) (flow : Flow) (p : Ha
         let sides = p.laid.laid.apart d b info base e at ne in
         same_value l n row after (leaf_position info j) (c.outside (leaf_position info j) (λ g h. elim sides [ inl u ↦ omega (arith, u, g, h, x, top) | inr u ↦ omega (arith, u, g, h, x, top) ]))
 
-    pub change_tells : ((j : ℕ) (leaf : Leaf) (offset : ℕ) → slice_get base.shape.cells j ≡ Some leaf → IsPlaceOf leaf offset → TellsLeaf l n flow behind (value_at l n after (leaf_position base j)) i offset leaf) → TellsState l n flow after behind
+    pub change_tells : ((j : ℕ) (leaf : Leaf) (offset : ℕ) → slice_get base.shape.cells j ≡ Some leaf → IsPlaceOf leaf offset → ExactLeaf l n flow behind (value_at l n after (leaf_position base j)) i offset leaf) → ExactState l n flow after behind
     change_tells own = record {
-      temps = λ x scalar e. subst (λ z. TellsScalar n state.entered new z scalar) (sym (temp_same x)) (scalar_moves n state.entered state.memory new c.lives (temp_value l n flow row x) scalar (t.temps x scalar e));
+      temps = λ x scalar e. subst (λ z. ExactScalar n state.entered new z scalar) (sym (temp_same x)) (scalar_moves n state.entered state.memory new c.lives (temp_value l n flow row x) scalar (t.temps x scalar e));
       leaves = λ d j k offset info leaf e f g place. elim (cases_eq d b) [
         | inl u ↦ (let same : base ≡ info = same_Some base info (sym at ∙ (ap (slice_get flow.bases.items) (sym u) ∙ e)) in
             let inst : i ≡ k = same_Some i k (sym named ∙ (ap state.entered (sym u) ∙ g)) in
-            subst (λ z. TellsLeaf l n flow behind (value_at l n after (leaf_position z j)) k offset leaf) same
-            (subst (λ z. TellsLeaf l n flow behind (value_at l n after (leaf_position base j)) z offset leaf) inst (own j leaf offset (subst (λ z. slice_get z.shape.cells j ≡ Some leaf) (sym same) f) place)))
+            subst (λ z. ExactLeaf l n flow behind (value_at l n after (leaf_position z j)) k offset leaf) same
+            (subst (λ z. ExactLeaf l n flow behind (value_at l n after (leaf_position base j)) z offset leaf) inst (own j leaf offset (subst (λ z. slice_get z.shape.cells j ≡ Some leaf) (sym same) f) place)))
         | inr u ↦ (let h = t.leaves d j k offset info leaf e f g place in
             let ne = c.apart d k g u in
-            subst (λ z. TellsLeaf l n flow behind z k offset leaf) (sym (other_same d j info leaf e f u)) (record {
+            subst (λ z. ExactLeaf l n flow behind z k offset leaf) (sym (other_same d j info leaf e f u)) (record {
               held = h.held;
               holds = holds_moves flow state.memory new k offset leaf (λ y small. c.others k (offset + y) ne) h.held h.holds;
               tells = held_moves n state.entered state.memory new c.lives (value_at l n row (leaf_position info j)) h.held h.tells;

@@ -39,9 +39,9 @@ use Rattle.transfer_sound.proofs.values.NearScalars.{IsNearScalar}
 use Rattle.transfer_sound.proofs.values.TypeRanges.{type_near}
 use Rattle.struct_copies_sound.specs.Leaves.StructLeaves.{IsStruct}
 use Rattle.transfer_exact.specs.Values.ExactNumbers.{ExactLaws}
-use Rattle.transfer_exact.specs.Values.SingleRows.{HoldsScalar, TellsLeaf, TellsState}
-use Rattle.transfer_exact.specs.Values.SingleValues.{TellsScalar}
-use Rattle.transfer_exact.proofs.values.NearTells.{near_scalar_tells}
+use Rattle.transfer_exact.specs.Values.SingleRows.{HoldsScalar, ExactLeaf, ExactState}
+use Rattle.transfer_exact.specs.Values.SingleValues.{ExactScalar}
+use Rattle.transfer_exact.proofs.values.NearExact.{near_scalar_tells}
 use Rattle.transfer_exact.proofs.accesses.Moves.{scalar_moves, held_moves, holds_moves, change_tells}
 use Rattle.transfer_exact.proofs.places.OneLeaf.{same_size, owned, place_is}
 use Rattle.transfer_exact.proofs.places.Written.{IsWritten, left_number, number_written, pointer_written}
@@ -60,7 +60,7 @@ module _ {I : Type 0} {l : LatticeOf I} {n : IntegersOf I} {gamma : I → ℤ �
     (h : IsStruct flow.model base.shape.cells base.size) (single : (j : ℕ) (leaf : Leaf) → slice_get base.shape.cells j ≡ Some leaf → leaf.count ≡ 1)
     (j : ℕ) (leaf : Leaf) (among : slice_get base.shape.cells j ≡ Some leaf) (v : Scalar) (fit : FitsLeaf leaf v) (in_new : IsScalarIn new v)
     (w : IsWritten state.memory new i leaf.offset leaf.class (class_bytes flow.model leaf.class) (scalar_bytes (class_bytes flow.model leaf.class) v))
-    (y : values.Value I) (tells : TellsScalar n state.entered state.memory y v) where
+    (y : values.Value I) (tells : ExactScalar n state.entered state.memory y v) where
   abbrev stored : values.Value I
   stored = as_stored n flow.model (stored_value leaf.class y) leaf.class leaf.signed
 
@@ -86,7 +86,7 @@ module _ {I : Type 0} {l : LatticeOf I} {n : IntegersOf I} {gamma : I → ℤ �
     sized : is_size (kind_of flow.model leaf.class leaf.signed).bytes ≡ true
     sized = subst (λ k. is_size k ≡ true) (sym (same_size flow.model leaf.class)) (class_size flow.model leaf.class)
 
-    stored_tells : (s : Scalar) → FitsLeaf leaf s → TellsScalar n state.entered state.memory y s → TellsScalar n state.entered new stored (left_in flow leaf s)
+    stored_tells : (s : Scalar) → FitsLeaf leaf s → ExactScalar n state.entered state.memory y s → ExactScalar n state.entered new stored (left_in flow leaf s)
     stored_tells (integer z la) f g =
         let one = x.convert (kind_of flow.model leaf.class leaf.signed) y.num z sized g.number in
         rw f (record { number = one; labels_are = g.labels_are; apart = g.apart; determinate = refl })
@@ -94,7 +94,7 @@ module _ {I : Type 0} {l : LatticeOf I} {n : IntegersOf I} {gamma : I → ℤ �
         let moved = scalar_moves n state.entered state.memory new w.lives y (pointer m) g in
         rw f (record { apart = moved.apart; points = moved.points; determinate = refl })
 
-    left_near : (s : Scalar) → TellsScalar n state.entered state.memory y s → IsNearScalar (left_in flow leaf s)
+    left_near : (s : Scalar) → ExactScalar n state.entered state.memory y s → IsNearScalar (left_in flow leaf s)
     left_near (integer z la) g =
         let k : IntType = kind_of flow.model leaf.class leaf.signed in
         let one = x.convert k y.num z sized g.number in
@@ -113,27 +113,27 @@ module _ {I : Type 0} {l : LatticeOf I} {n : IntegersOf I} {gamma : I → ℤ �
     abbrev behind : MachineState
     behind = record { memory = new; temps = state.temps; entered = state.entered }
 
-    own_leaf : TellsLeaf l n flow behind (value_at l n after (leaf_position base j)) i leaf.offset leaf
+    own_leaf : ExactLeaf l n flow behind (value_at l n after (leaf_position base j)) i leaf.offset leaf
     own_leaf = record {
       held = Some (left_in flow leaf v);
       holds = left_holds v fit w;
-      tells = subst (λ z. TellsScalar n state.entered new z (left_in flow leaf v)) (sym own_value)
+      tells = subst (λ z. ExactScalar n state.entered new z (left_in flow leaf v)) (sym own_value)
           (near_scalar_tells q state.entered new small stored (left_in flow leaf v) (left_within v in_new) (left_near v tells) (stored_tells v fit tells));
     }
 
     -- the row tells the object's leaves
-    abbrev pub AreTold : List (Cell I) → MachineState → Type 0
-    AreTold of in_state = (k : ℕ) (other : Leaf) (offset : ℕ) → slice_get base.shape.cells k ≡ Some other → IsPlaceOf other offset → TellsLeaf l n flow in_state (value_at l n of (leaf_position base k)) i offset other
+    abbrev pub AreExact : List (Cell I) → MachineState → Type 0
+    AreExact of in_state = (k : ℕ) (other : Leaf) (offset : ℕ) → slice_get base.shape.cells k ≡ Some other → IsPlaceOf other offset → ExactLeaf l n flow in_state (value_at l n of (leaf_position base k)) i offset other
 
-    module _ (told : AreTold row state) where
-      other_leaf : (k : ℕ) (other : Leaf) (offset : ℕ) → slice_get base.shape.cells k ≡ Some other → IsPlaceOf other offset → (k ≡ j → ⊥) → TellsLeaf l n flow behind (value_at l n after (leaf_position base k)) i offset other
+    module _ (told : AreExact row state) where
+      other_leaf : (k : ℕ) (other : Leaf) (offset : ℕ) → slice_get base.shape.cells k ≡ Some other → IsPlaceOf other offset → (k ≡ j → ⊥) → ExactLeaf l n flow behind (value_at l n after (leaf_position base k)) i offset other
       other_leaf k other offset e placed ne =
           let was = told k other offset e placed in
           let top = slice_get_within base.shape.cells k other e in
           let there = leaf_is base k fits top in
           let here = place in
           let same = same_value l n row after (leaf_position base k) (kept (leaf_position base k) (λ f. ne (omega (arith, f, there, here))) (λ f g. omega (arith, f, there, top))) in
-          subst (λ z. TellsLeaf l n flow behind z i offset other) (sym same) (record {
+          subst (λ z. ExactLeaf l n flow behind z i offset other) (sym same) (record {
             held = was.held;
             holds = holds_moves flow state.memory new i offset other (λ y less. w.outside i (offset + y) (λ d f g.
                 let begins = place_is flow.model base.shape.cells base.size h single k offset other e placed in
@@ -143,17 +143,17 @@ module _ {I : Type 0} {l : LatticeOf I} {n : IntegersOf I} {gamma : I → ℤ �
             tells = held_moves n state.entered state.memory new w.lives (value_at l n row (leaf_position base k)) was.held was.tells;
           })
 
-      pub stored_leaves : AreTold after behind
+      pub stored_leaves : AreExact after behind
       stored_leaves k other offset e placed = elim (cases_eq k j) [
         | inl f ↦ (let same : leaf ≡ other = same_Some leaf other (sym among ∙ (ap (slice_get base.shape.cells) (sym f) ∙ e)) in
             let begins : leaf.offset ≡ offset = ap (λ z. z.offset) same ∙ sym (place_is flow.model base.shape.cells base.size h single k offset other e placed) in
-            subst (λ z. TellsLeaf l n flow behind (value_at l n after (leaf_position base z)) i offset other) (sym f)
-            (subst (λ z. TellsLeaf l n flow behind (value_at l n after (leaf_position base j)) i z other) begins
-            (subst (λ z. TellsLeaf l n flow behind (value_at l n after (leaf_position base j)) i leaf.offset z) same own_leaf)))
+            subst (λ z. ExactLeaf l n flow behind (value_at l n after (leaf_position base z)) i offset other) (sym f)
+            (subst (λ z. ExactLeaf l n flow behind (value_at l n after (leaf_position base j)) i z other) begins
+            (subst (λ z. ExactLeaf l n flow behind (value_at l n after (leaf_position base j)) i leaf.offset z) same own_leaf)))
         | inr f ↦ other_leaf k other offset e placed f
       ]
 
-    pub stored_state : TellsState l n flow row state → state.entered b ≡ Some i → ((d j : ℕ) → state.entered d ≡ Some j → (d ≡ b → ⊥) → j ≡ i → ⊥) → TellsState l n flow after behind
+    pub stored_state : ExactState l n flow row state → state.entered b ≡ Some i → ((d j : ℕ) → state.entered d ≡ Some j → (d ≡ b → ⊥) → j ≡ i → ⊥) → ExactState l n flow after behind
     stored_state t named names = change_tells l n flow p row after state new b i base at named t (record {
       lives = w.lives;
       others = λ d o ne. w.outside d o (λ e f g. ne e);

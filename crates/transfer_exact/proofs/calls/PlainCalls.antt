@@ -63,12 +63,12 @@ use Rattle.transfer_sound.proofs.values.NearScalars.{IsNearNumber}
 use Rattle.struct_copies_sound.proofs.Calls.{first_argument}
 use Rattle.transfer_exact.specs.Values.SingleNumbers.{IsOne}
 use Rattle.transfer_exact.specs.Values.ExactNumbers.{ExactLaws}
-use Rattle.transfer_exact.specs.Values.SingleValues.{TellsNumber, TellsScalar}
-use Rattle.transfer_exact.specs.Values.SingleRows.{TellsState}
-use Rattle.transfer_exact.specs.Values.SingleSteps.{IsDefined, IsTold, StepIsTold}
+use Rattle.transfer_exact.specs.Values.SingleValues.{ExactNumber, ExactScalar}
+use Rattle.transfer_exact.specs.Values.SingleRows.{ExactState}
+use Rattle.transfer_exact.specs.Values.SingleSteps.{IsDefined, IsExact, StepIsExact}
 use Rattle.transfer_exact.specs.Values.SingleLaws.{IsPlainFunction, IsPlainCall}
 use Rattle.transfer_exact.proofs.values.Faults.{met_one, met_none}
-use Rattle.transfer_exact.proofs.values.PutTells.{IsToldResult}
+use Rattle.transfer_exact.proofs.values.PutExact.{IsExactResult}
 use Rattle.transfer_exact.proofs.values.Told.{stop_told, if_some_told, result_told}
 use Rattle.transfer_exact.proofs.values.ValueSteps.{tells_number}
 use Rattle.transfer_exact.proofs.values.Violated.{AreViolated, none_violated, none_at_all, each_violated, one_there, behind_there}
@@ -155,17 +155,17 @@ truth_near : (b : Bool) → IsNearNumber (cond b (pos 1) (pos 0))
 truth_near true = record { from = omega (arith, ints); to = omega (arith, ints) }
 truth_near false = record { from = omega (arith, ints); to = omega (arith, ints) }
 
-module _ {I : Type 0} {l : LatticeOf I} {n : IntegersOf I} {gamma : I → ℤ → Type 0} (q : BoundLaws l n gamma) (x : ExactLaws n) (flow : Flow) (p : HasPremises flow) (naming : Naming) (row : List (Cell I)) (s : Standing) (r : IsReached l n gamma flow naming row s) (t : TellsState l n flow row (state_of s)) where
+module _ {I : Type 0} {l : LatticeOf I} {n : IntegersOf I} {gamma : I → ℤ → Type 0} (q : BoundLaws l n gamma) (x : ExactLaws n) (flow : Flow) (p : HasPremises flow) (naming : Naming) (row : List (Cell I)) (s : Standing) (r : IsReached l n gamma flow naming row s) (t : ExactState l n flow row (state_of s)) where
   module _ (to : Option ℕ) (has : has_result (names_of flow) to ≡ true) (newest : Option ℕ) where
     -- what a plan makes of the row is told
     abbrev GoodPlan : Plan I → Reply (Option Scalar) → Type 0
-    GoodPlan plan reply = IsDefined (calling s to reply) → IsTold l n flow (apply l n flow to newest plan.effect row) plan.violations (calling s to reply)
+    GoodPlan plan reply = IsDefined (calling s to reply) → IsExact l n flow (apply l n flow to newest plan.effect row) plan.violations (calling s to reply)
 
-    gives : (told : Violations) (to : Option ℕ) → has_result (names_of flow) to ≡ true → (v : Value I) (c : Scalar) → IsToldResult q flow p s.bases s.world.memory v c → AreViolated told s.world.violated → IsDefined (calling s to (goes (Some c) s.world)) → IsTold l n flow (Some (put_result flow to v row)) told (calling s to (goes (Some c) s.world))
+    gives : (told : Violations) (to : Option ℕ) → has_result (names_of flow) to ≡ true → (v : Value I) (c : Scalar) → IsExactResult q flow p s.bases s.world.memory v c → AreViolated told s.world.violated → IsDefined (calling s to (goes (Some c) s.world)) → IsExact l n flow (Some (put_result flow to v row)) told (calling s to (goes (Some c) s.world))
     gives told None has v c result h d = absurd (d s.world refl)
     gives told (Some u) has v c result h d = result_told q flow p naming row s r t u (ltb-true u flow.temps has) v c s.world result refl (Some (put_result flow (Some u) v row)) told refl h
 
-    plan_gives : (told : Violations) (v : Value I) (c : Scalar) → IsToldResult q flow p s.bases s.world.memory v c → AreViolated told s.world.violated → GoodPlan (record { violations = told; effect = effect.Result v }) (goes (Some c) s.world)
+    plan_gives : (told : Violations) (v : Value I) (c : Scalar) → IsExactResult q flow p s.bases s.world.memory v c → AreViolated told s.world.violated → GoodPlan (record { violations = told; effect = effect.Result v }) (goes (Some c) s.world)
     unfolding apply
     plan_gives told v c result h d = gives told to has v c result h d
 
@@ -176,7 +176,7 @@ module _ {I : Type 0} {l : LatticeOf I} {n : IntegersOf I} {gamma : I → ℤ �
     plan_is : (plan other : Plan I) (reply : Reply (Option Scalar)) → plan ≡ other → GoodPlan other reply → GoodPlan plan reply
     plan_is plan other reply e h = subst (λ z. GoodPlan z reply) (sym e) h
 
-    number_result : (y : I) (labels : SetLabels) (z : ℤ) (la : Labels) → IsOne n y z → labels ≡ as_set la → IsNearNumber z → IsToldResult q flow p s.bases s.world.memory (number_value l y labels) (integer z la)
+    number_result : (y : I) (labels : SetLabels) (z : ℤ) (la : Labels) → IsOne n y z → labels ≡ as_set la → IsNearNumber z → IsExactResult q flow p s.bases s.world.memory (number_value l y labels) (integer z la)
     number_result y labels z la one same near = record { tells = tells_number l n s.bases s.world.memory y labels z la one same; near = near; within = tt }
 
     module _ (items : List ℕ) (wanted : Option ℕ) where
@@ -184,11 +184,11 @@ module _ {I : Type 0} {l : LatticeOf I} {n : IntegersOf I} {gamma : I → ℤ �
       first_value = argument_value l n (call_of flow items wanted) row 0
 
       -- the first argument tells what it has
-      first_tells : (v : Scalar) (vs : List Scalar) → values_of s.temps items ≡ Some (v ∷ vs) → TellsScalar n s.bases s.world.memory (argument_value l n (call_of flow items wanted) row 0) v
+      first_tells : (v : Scalar) (vs : List Scalar) → values_of s.temps items ≡ Some (v ∷ vs) → ExactScalar n s.bases s.world.memory (argument_value l n (call_of flow items wanted) row 0) v
       unfolding argument_value
       first_tells v vs e =
           let a = first_argument s.temps items v vs e in
-          subst (λ y. TellsScalar n s.bases s.world.memory (value_of_argument l n flow row y) v) (sym a.first) (t.temps a.temp v a.has)
+          subst (λ y. ExactScalar n s.bases s.world.memory (value_of_argument l n flow row y) v) (sym a.first) (t.temps a.temp v a.has)
 
       -- ---- `putchar`
 
@@ -214,12 +214,12 @@ module _ {I : Type 0} {l : LatticeOf I} {n : IntegersOf I} {gamma : I → ℤ �
 
       -- what is asked of a function: its answer for a number
       abbrev AnswersWell : LibFn → Type 0
-      AnswersWell function = (z : ℤ) (la : Labels) → negsuc 0 ≤ℤ z → z ≤ℤ pos 255 → TellsNumber n s.bases s.world.memory first_value z la → IsToldResult q flow p s.bases s.world.memory (characters.answer l n function first_value z z) (machine.answer function z la)
+      AnswersWell function = (z : ℤ) (la : Labels) → negsuc 0 ≤ℤ z → z ≤ℤ pos 255 → ExactNumber n s.bases s.world.memory first_value z la → IsExactResult q flow p s.bases s.world.memory (characters.answer l n function first_value z z) (machine.answer function z la)
 
       told_is : (z : ℤ) → IsOne n first_value.num z → (inside : Bool) → lies_in (negsuc 0) (pos 255) z ≡ inside → told ≡ record no_violations { chrsgnext = not inside }
       told_is z one inside e = ap (λ b. record no_violations { chrsgnext = b }) (ap is_no_character one ∙ (no_character z ∙ ap not e))
 
-      by_range : (function : LibFn) → AnswersWell function → (z : ℤ) (la : Labels) → TellsNumber n s.bases s.world.memory first_value z la → (inside : Bool) → lies_in (negsuc 0) (pos 255) z ≡ inside
+      by_range : (function : LibFn) → AnswersWell function → (z : ℤ) (la : Labels) → ExactNumber n s.bases s.world.memory first_value z la → (inside : Bool) → lies_in (negsuc 0) (pos 255) z ≡ inside
           → GoodPlan (plan_in l n function first_value (range_met (n.bounds first_value.num) (negsuc 0) (pos 255))) (with_result (cond (not inside) (stopped_by s.world Chrsgnext) (goes (machine.answer function z la) s.world)))
       unfolding apply
       by_range function well z la h true e =
@@ -242,7 +242,7 @@ module _ {I : Type 0} {l : LatticeOf I} {n : IntegersOf I} {gamma : I → ℤ �
       characters_good function well (integer z la ∷ []) e d = by_range function well z la (first_tells (integer z la) [] e) (lies_in (negsuc 0) (pos 255) z) refl d
 
       -- a test
-      test_well : (function : LibFn) (z : ℤ) (b : Bool) → b ≡ characters.has_class function z → IsToldResult q flow p s.bases s.world.memory (number_value l (characters.tested_number l n function z z) sets.no_labels) (truth b)
+      test_well : (function : LibFn) (z : ℤ) (b : Bool) → b ≡ characters.has_class function z → IsExactResult q flow p s.bases s.world.memory (number_value l (characters.tested_number l n function z z) sets.no_labels) (truth b)
       test_well function z b e = number_result (characters.tested_number l n function z z) sets.no_labels (cond b (pos 1) (pos 0)) no_labels (subst (λ y. IsOne n (characters.tested_number l n function z z) (cond y (pos 1) (pos 0))) (sym e) (tested_one q function z)) refl (truth_near b)
 
       by_name : (name : LibFn) → IsPlainFunction name → (vs : List Scalar) → values_of s.temps items ≡ Some vs → GoodPlan (plan_call l n name (call_of flow items wanted) row) (library flow.model wanted name vs s.world)
@@ -260,12 +260,12 @@ module _ {I : Type 0} {l : LatticeOf I} {n : IntegersOf I} {gamma : I → ℤ �
       by_name f.Tolower h vs e = characters_good f.Tolower (λ z la a b w. number_result (characters.lowered l n z z) first_value.labels (cond (is_upper z) (z +ℤ pos 32) z) la (lowered_one q z a b) w.labels_are (letter_near (is_upper z) (z +ℤ pos 32) z (omega (arith, ints)) (omega (arith, ints)) (omega (arith, ints)) (omega (arith, ints)))) vs e
       by_name _ h vs e = absurd h
 
-  library_told : (to : Option ℕ) (name : LibFn) (arguments : _) (newest size : Option ℕ) → IsPlainFunction name → fits_operation (names_of flow) (op.Library to name arguments newest size) ≡ true → IsDefined (act_step (flow_view flow) (act (op.Library to name arguments newest size)) s) → StepIsTold l n flow row (op.Library to name arguments newest size) s
+  library_told : (to : Option ℕ) (name : LibFn) (arguments : _) (newest size : Option ℕ) → IsPlainFunction name → fits_operation (names_of flow) (op.Library to name arguments newest size) ≡ true → IsDefined (act_step (flow_view flow) (act (op.Library to name arguments newest size)) s) → StepIsExact l n flow row (op.Library to name arguments newest size) s
   unfolding operate call_step operation_violations
   library_told to name arguments newest size is fits d =
       let has = (and_parts (has_result (names_of flow) to) (list_all (has_temp (names_of flow)) arguments.items && (is_site flow.bases.items newest && is_optional_extent size)) fits).0 in
       if_some_told l n flow _ _ s (values_of s.temps arguments.items) _ d (λ vs e d. by_name to has newest arguments.items size name is vs e d)
 
-  pub call_told : (o : Operation) → IsPlainCall o → fits_operation (names_of flow) o ≡ true → IsDefined (act_step (flow_view flow) (act o) s) → StepIsTold l n flow row o s
+  pub call_told : (o : Operation) → IsPlainCall o → fits_operation (names_of flow) o ≡ true → IsDefined (act_step (flow_view flow) (act o) s) → StepIsExact l n flow row o s
   call_told (op.Library to name arguments newest size) is fits d = library_told to name arguments newest size is fits d
   call_told o is fits d = absurd is

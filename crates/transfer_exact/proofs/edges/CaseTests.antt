@@ -39,8 +39,8 @@ use Rattle.transfer_sound.proofs.tests.Relabelling.{IsRelabelling, set_relabels}
 use Rattle.transfer_sound.proofs.tests.ScalarCells.{size_is}
 use Rattle.transfer_sound.proofs.tests.TestSteps.{object_has}
 use Rattle.transfer_exact.specs.Values.SingleNumbers.{IsOne}
-use Rattle.transfer_exact.specs.Values.SingleRows.{TellsState}
-use Rattle.transfer_exact.specs.Values.SingleSteps.{IsDefined, TellsBehind, IsTold}
+use Rattle.transfer_exact.specs.Values.SingleRows.{ExactState}
+use Rattle.transfer_exact.specs.Values.SingleSteps.{IsDefined, ExactAfter, IsExact}
 use Rattle.transfer_exact.proofs.values.Told.{if_some_told}
 use Rattle.transfer_exact.proofs.values.Violated.{none_violated}
 use Rattle.transfer_exact.proofs.edges.RelabelledObjects.{IsNumberHeld, number_held, relabelled_tells}
@@ -70,7 +70,7 @@ case_scalar value (Some (pointer p)) h = absurd (true≢false (sym h))
 
 -- ---- the object
 
-module _ {I : Type 0} {l : LatticeOf I} {n : IntegersOf I} {gamma : I → ℤ → Type 0} (o : OrderLaws l) (q : BoundLaws l n gamma) (flow : Flow) (p : HasPremises flow) (naming : Naming) (row : List (Cell I)) (s : Standing) (r : IsReached l n gamma flow naming row s) (st : TellsState l n flow row (state_of s)) where
+module _ {I : Type 0} {l : LatticeOf I} {n : IntegersOf I} {gamma : I → ℤ → Type 0} (o : OrderLaws l) (q : BoundLaws l n gamma) (flow : Flow) (p : HasPremises flow) (naming : Naming) (row : List (Cell I)) (s : Standing) (r : IsReached l n gamma flow naming row s) (st : ExactState l n flow row (state_of s)) where
   module _ (b i : ℕ) (kind : IntType) (t : IsScalarObject flow b (of.Int kind)) (en : s.bases b ≡ Some i) (value : ℤ) where
     abbrev memory : Memory
     memory = s.world.memory
@@ -115,14 +115,14 @@ module _ {I : Type 0} {l : LatticeOf I} {n : IntegersOf I} {gamma : I → ℤ �
       one : IsOne n x value
       one = met_one q v.num value held.tells.number
 
-      case_tells : TellsState l n flow case_row (record { memory = after; temps = s.temps; entered = s.bases })
+      case_tells : ExactState l n flow case_row (record { memory = after; temps = s.temps; entered = s.bases })
       case_tells = relabelled_tells q flow p naming row r.long (state_of s) r.stands_for.lives.named st b i (of.Int kind) t en after (λ z. no_labels) relabelling value held x set.no_labels one refl
 
-    case_told : IsDefined (in_world s (pass_case flow.model i kind value s.world)) → IsTold l n flow (refine_case l n flow b value row) no_violations (in_world s (pass_case flow.model i kind value s.world))
+    case_told : IsDefined (in_world s (pass_case flow.model i kind value s.world)) → IsExact l n flow (refine_case l n flow b value row) no_violations (in_world s (pass_case flow.model i kind value s.world))
     unfolding refine_case refine_value put_case
     case_told d = by_truth (is_number value (side_scalar flow.model memory (object i (of.Int kind)))) refl d
       where
-        by_truth : (c : Bool) → is_number value (side_scalar flow.model memory (object i (of.Int kind))) ≡ c → IsDefined (in_world s (passing c (with_memory s.world after))) → IsTold l n flow (refine_case l n flow b value row) no_violations (in_world s (passing c (with_memory s.world after)))
+        by_truth : (c : Bool) → is_number value (side_scalar flow.model memory (object i (of.Int kind))) ≡ c → IsDefined (in_world s (passing c (with_memory s.world after))) → IsExact l n flow (refine_case l n flow b value row) no_violations (in_world s (passing c (with_memory s.world after)))
         by_truth false e d = absurd (d (with_memory s.world after) refl)
         by_truth true e d =
             let k = case_scalar value (side_scalar flow.model memory (object i (of.Int kind))) e in
@@ -134,8 +134,8 @@ module _ {I : Type 0} {l : LatticeOf I} {n : IntegersOf I} {gamma : I → ℤ �
                   let now : Standing = record s { world = new } in
                   let a : now ≡ y = cc in
                   let g : new ≡ u = cc in
-                  let there : TellsBehind l n flow (refine_case l n flow b value row) (record now { world = new }) = record { row = case_row; is = is; tells = case_tells k.0 k.1 } in
-                  subst (λ z. TellsBehind l n flow (refine_case l n flow b value row) (record z { world = u })) a (subst (λ z. TellsBehind l n flow (refine_case l n flow b value row) (record now { world = z })) g there);
+                  let there : ExactAfter l n flow (refine_case l n flow b value row) (record now { world = new }) = record { row = case_row; is = is; tells = case_tells k.0 k.1 } in
+                  subst (λ z. ExactAfter l n flow (refine_case l n flow b value row) (record z { world = u })) a (subst (λ z. ExactAfter l n flow (refine_case l n flow b value row) (record now { world = z })) g there);
               ends = λ why u f. cc;
               violated = none_violated s.world.violated;
             }
@@ -146,12 +146,12 @@ module _ {I : Type 0} {l : LatticeOf I} {n : IntegersOf I} {gamma : I → ℤ �
       ap (λ z. pass_case flow.model i (record { bytes = z; signed = a.signed; rank = a.rank }) value w) e
       ∙ ap (λ z. pass_case flow.model i (record { bytes = k.bytes; signed = z; rank = a.rank }) value w) f
 
-  pub case_test_told : (value : ℤ) (b : ℕ) → IsCaseObject flow b → IsDefined (matching (flow_view flow) s value (Some b)) → IsTold l n flow (refine_case l n flow b value row) no_violations (matching (flow_view flow) s value (Some b))
+  pub case_test_told : (value : ℤ) (b : ℕ) → IsCaseObject flow b → IsDefined (matching (flow_view flow) s value (Some b)) → IsExact l n flow (refine_case l n flow b value row) no_violations (matching (flow_view flow) s value (Some b))
   case_test_told value b t d = if_some_told l n flow (refine_case l n flow b value row) no_violations s (slice_get flow.bases.items b) (λ base. with_instance s b (λ i. in_world s (pass_case flow.model i (integer_in base) value s.world))) d (λ base e d.
       if_some_told l n flow (refine_case l n flow b value row) no_violations s (s.bases b) (λ i. in_world s (pass_case flow.model i (integer_in base) value s.world)) d (λ i en d.
       let same : base ≡ t.scalar.info = sym (same_Some t.scalar.info base (sym t.scalar.is ∙ e)) in
       let bytes : base.size ≡ t.kind.bytes = ap (λ z. z.size) same ∙ (t.scalar.size ∙ sym t.scalar.bytes) in
       let signed : first_signed base.shape.cells ≡ t.kind.signed = ap (λ z. first_signed z.shape.cells) same ∙ (ap first_signed t.scalar.cells ∙ t.scalar.signed) in
       let reply = same_case i value s.world (integer_in base) t.kind bytes signed in
-      subst (λ z. IsTold l n flow (refine_case l n flow b value row) no_violations (in_world s z)) (sym reply)
+      subst (λ z. IsExact l n flow (refine_case l n flow b value row) no_violations (in_world s z)) (sym reply)
       (case_told b i t.kind t.scalar en value (subst (λ z. IsDefined (in_world s z)) reply d))))

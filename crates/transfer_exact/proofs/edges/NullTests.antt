@@ -52,10 +52,10 @@ use Rattle.transfer_sound.specs.Values.SoundSteps.{IsReached}
 use Rattle.transfer_sound.proofs.values.NearScalars.{IsNearNumber}
 use Rattle.transfer_sound.specs.Tests.ScalarObjects.{IsScalarObject, IsNullTest}
 use Rattle.transfer_exact.specs.Values.SingleNumbers.{IsOne}
-use Rattle.transfer_exact.specs.Values.SingleValues.{IsNowhere, TellsByLife, TellsPointer, TellsHeld}
-use Rattle.transfer_exact.specs.Values.SingleRows.{HoldsPointing, HoldsScalar, TellsLeaf, TellsState}
-use Rattle.transfer_exact.specs.Values.SingleSteps.{IsDefined, TellsBehind, IsTold}
-use Rattle.transfer_exact.proofs.values.NearTells.{near_one, near_none}
+use Rattle.transfer_exact.specs.Values.SingleValues.{IsNowhere, ExactByLife, ExactPointer, ExactHeld}
+use Rattle.transfer_exact.specs.Values.SingleRows.{HoldsPointing, HoldsScalar, ExactLeaf, ExactState}
+use Rattle.transfer_exact.specs.Values.SingleSteps.{IsDefined, ExactAfter, IsExact}
+use Rattle.transfer_exact.proofs.values.NearExact.{near_one, near_none}
 use Rattle.transfer_exact.proofs.values.Told.{if_some_told}
 use Rattle.transfer_exact.proofs.values.Violated.{none_violated}
 use Rattle.transfer_exact.proofs.accesses.Moves.{change_tells}
@@ -113,7 +113,7 @@ module _ {I : Type 0} {l : LatticeOf I} {n : IntegersOf I} {gamma : I → ℤ �
   apart_stays Ge v h = record { bases = h.bases; null = h.null; ended = h.ended }
 
   module _ (entered : ℕ → Option ℕ) (memory : Memory) where
-    by_life : (w : Pointers I) (life : Life) (i offset lo hi : ℕ) → TellsByLife n entered (near_pointer l n w) life i offset lo hi → TellsByLife n entered (near_pointer l n (not_null (near_pointer l n w))) life i offset lo hi
+    by_life : (w : Pointers I) (life : Life) (i offset lo hi : ℕ) → ExactByLife n entered (near_pointer l n w) life i offset lo hi → ExactByLife n entered (near_pointer l n (not_null (near_pointer l n w))) life i offset lo hi
     by_life w live i offset lo hi h = record {
       base = h.base;
       few = h.few;
@@ -128,7 +128,7 @@ module _ {I : Type 0} {l : LatticeOf I} {n : IntegersOf I} {gamma : I → ℤ �
     by_life w ended i offset lo hi h = record { bases = h.bases; null = refl; ended = h.ended }
     by_life w freed i offset lo hi h = absurd h
 
-    points_tells : (w : Pointers I) (rel : Rel) (x : MachinePointer) → pointers_hold rel x null ≡ true → TellsPointer n entered memory (near_pointer l n w) x → TellsPointer n entered memory (near_pointer l n (tested_pointer l (near_pointer l n w) rel)) x
+    points_tells : (w : Pointers I) (rel : Rel) (x : MachinePointer) → pointers_hold rel x null ≡ true → ExactPointer n entered memory (near_pointer l n w) x → ExactPointer n entered memory (near_pointer l n (tested_pointer l (near_pointer l n w) rel)) x
     points_tells w Eq null f h = record { bases = refl; null = h.null; ended = refl }
     points_tells w Ne (into i offset lo hi) f h = by_life w (life_at memory i) i offset lo hi h
     points_tells w Eq (into i offset lo hi) f h = absurd (true≢false (sym f))
@@ -138,14 +138,14 @@ module _ {I : Type 0} {l : LatticeOf I} {n : IntegersOf I} {gamma : I → ℤ �
     points_tells w Gt x f h = absurd (true≢false (sym f))
     points_tells w Ge x f h = absurd (true≢false (sym f))
 
-    held_tells : (w : values.Value I) (rel : Rel) (held : Option Scalar) → ((x : MachinePointer) → held ≡ Some (pointer x) → pointers_hold rel x null ≡ true) → TellsHeld n entered memory (near_value l n w) held → TellsHeld n entered memory (near_value l n (tested_value l (near_value l n w) rel)) held
+    held_tells : (w : values.Value I) (rel : Rel) (held : Option Scalar) → ((x : MachinePointer) → held ≡ Some (pointer x) → pointers_hold rel x null ≡ true) → ExactHeld n entered memory (near_value l n w) held → ExactHeld n entered memory (near_value l n (tested_value l (near_value l n w) rel)) held
     held_tells w rel None hold h = record { number = near_none q (near_number l n w.num) h.number; apart = apart_stays rel (near_pointer l n w.pointer) h.apart; indeterminate = h.indeterminate }
     held_tells w rel (Some (integer z la)) hold h = record { number = near_again w.num z h.number; labels_are = h.labels_are; apart = apart_stays rel (near_pointer l n w.pointer) h.apart; determinate = h.determinate }
     held_tells w rel (Some (pointer x)) hold h = record { apart = near_none q (near_number l n w.num) h.apart; points = points_tells w.pointer rel x (hold x refl) h.points; determinate = h.determinate }
 
 -- ---- the object
 
-module _ {I : Type 0} {l : LatticeOf I} {n : IntegersOf I} {gamma : I → ℤ → Type 0} (q : BoundLaws l n gamma) (flow : Flow) (p : HasPremises flow) (naming : Naming) (row : List (Cell I)) (s : Standing) (r : IsReached l n gamma flow naming row s) (st : TellsState l n flow row (state_of s))
+module _ {I : Type 0} {l : LatticeOf I} {n : IntegersOf I} {gamma : I → ℤ → Type 0} (q : BoundLaws l n gamma) (flow : Flow) (p : HasPremises flow) (naming : Naming) (row : List (Cell I)) (s : Standing) (r : IsReached l n gamma flow naming row s) (st : ExactState l n flow row (state_of s))
     (b i : ℕ) (t : IsScalarObject flow b of.Pointer) (en : s.bases b ≡ Some i) (rel : Rel) where
   abbrev memory : Memory
   memory = s.world.memory
@@ -224,28 +224,28 @@ module _ {I : Type 0} {l : LatticeOf I} {n : IntegersOf I} {gamma : I → ℤ �
         let k = head_is (scalar_size flow.model of.Pointer) (bytes_at memory i) (record { content = part (into j o lo hi) 0; tag = m.tag }) above m.here in
         head_part (into j o lo hi) 0 k.0 x (ap pointer_in (sym k.1) ∙ read)
 
-    own_leaf : TellsLeaf l n flow (state_of s) (value_at l n after place) i 0 t.leaf
+    own_leaf : ExactLeaf l n flow (state_of s) (value_at l n after place) i 0 t.leaf
     unfolding value_at
     own_leaf =
         let was = st.leaves b 0 i 0 t.info t.leaf t.is leaf_there en place_here in
         record {
           held = was.held;
           holds = was.holds;
-          tells = subst (λ z. TellsHeld n s.bases memory z was.held) (sym own_value)
+          tells = subst (λ z. ExactHeld n s.bases memory z was.held) (sym own_value)
               (held_tells q s.bases memory (value_in l (cell_at row place)) rel was.held (λ y e. subst (λ z. pointers_hold rel z null ≡ true) (sym (is_read y (subst (HoldsScalar flow memory i 0 t.leaf) e was.holds))) hold) was.tells);
         }
 
-    own : (j : ℕ) (leaf : Leaf) (o : ℕ) → slice_get t.info.shape.cells j ≡ Some leaf → IsPlaceOf leaf o → TellsLeaf l n flow (state_of s) (value_at l n after (leaf_position t.info j)) i o leaf
+    own : (j : ℕ) (leaf : Leaf) (o : ℕ) → slice_get t.info.shape.cells j ≡ Some leaf → IsPlaceOf leaf o → ExactLeaf l n flow (state_of s) (value_at l n after (leaf_position t.info j)) i o leaf
     own j leaf o e there = by_index j (sym (ap (λ z. slice_get z j) t.cells) ∙ e)
       where
-        by_index : (j : ℕ) → slice_get (t.leaf ∷ []) j ≡ Some leaf → TellsLeaf l n flow (state_of s) (value_at l n after (leaf_position t.info j)) i o leaf
+        by_index : (j : ℕ) → slice_get (t.leaf ∷ []) j ≡ Some leaf → ExactLeaf l n flow (state_of s) (value_at l n after (leaf_position t.info j)) i o leaf
         by_index zero f =
             let same : t.leaf ≡ leaf = same_Some t.leaf leaf f in
             let begins : 0 ≡ o = sym (place_zero o (subst (λ z. IsPlaceOf z o) (sym same) there)) in
-            subst (λ z. TellsLeaf l n flow (state_of s) (value_at l n after place) i z leaf) begins (subst (TellsLeaf l n flow (state_of s) (value_at l n after place) i 0) same own_leaf)
+            subst (λ z. ExactLeaf l n flow (state_of s) (value_at l n after place) i z leaf) begins (subst (ExactLeaf l n flow (state_of s) (value_at l n after place) i 0) same own_leaf)
         by_index (suc j) f = cc
 
-    refined_tells : TellsState l n flow after (state_of s)
+    refined_tells : ExactState l n flow after (state_of s)
     refined_tells = change_tells l n flow p row after (state_of s) memory b i t.info t.is en st (record {
       lives = λ j. refl;
       others = λ j o ne. refl;
@@ -268,7 +268,7 @@ module _ {I : Type 0} {l : LatticeOf I} {n : IntegersOf I} {gamma : I → ℤ �
   abbrev this : SideTest
   this = record { left = object i of.Pointer; rel = rel; right = nothing; common = None }
 
-  null_told : (goal : Option (List (Cell I))) → goal ≡ Some after → (c : Bool) → test_holds flow.model memory this ≡ c → IsDefined (in_world s (passing c (with_memory s.world memory))) → IsTold l n flow goal no_violations (in_world s (passing c (with_memory s.world memory)))
+  null_told : (goal : Option (List (Cell I))) → goal ≡ Some after → (c : Bool) → test_holds flow.model memory this ≡ c → IsDefined (in_world s (passing c (with_memory s.world memory))) → IsExact l n flow goal no_violations (in_world s (passing c (with_memory s.world memory)))
   null_told goal is false e d = absurd (d (with_memory s.world memory) refl)
   null_told goal is true e d =
       let k = is_held (side_scalar flow.model memory (object i of.Pointer)) e in
@@ -278,19 +278,19 @@ module _ {I : Type 0} {l : LatticeOf I} {n : IntegersOf I} {gamma : I → ℤ �
             let now : Standing = record s { world = new } in
             let a : now ≡ y = cc in
             let g : new ≡ u = cc in
-            let there : TellsBehind l n flow goal (record now { world = new }) = record { row = after; is = is; tells = refined_tells k.at k.is k.hold } in
-            subst (λ z. TellsBehind l n flow goal (record z { world = u })) a (subst (λ z. TellsBehind l n flow goal (record now { world = z })) g there);
+            let there : ExactAfter l n flow goal (record now { world = new }) = record { row = after; is = is; tells = refined_tells k.at k.is k.hold } in
+            subst (λ z. ExactAfter l n flow goal (record z { world = u })) a (subst (λ z. ExactAfter l n flow goal (record now { world = z })) g there);
         ends = λ why u f. cc;
         violated = none_violated s.world.violated;
       }
 
-module _ {I : Type 0} {l : LatticeOf I} {n : IntegersOf I} {gamma : I → ℤ → Type 0} (q : BoundLaws l n gamma) (flow : Flow) (p : HasPremises flow) (naming : Naming) (row : List (Cell I)) (s : Standing) (r : IsReached l n gamma flow naming row s) (st : TellsState l n flow row (state_of s)) where
-  pub null_test_told : (test : Test) → IsNullTest flow test → IsDefined (testing (flow_view flow) s (Some test)) → IsTold l n flow (refine l n flow test row) no_violations (testing (flow_view flow) s (Some test))
+module _ {I : Type 0} {l : LatticeOf I} {n : IntegersOf I} {gamma : I → ℤ → Type 0} (q : BoundLaws l n gamma) (flow : Flow) (p : HasPremises flow) (naming : Naming) (row : List (Cell I)) (s : Standing) (r : IsReached l n gamma flow naming row s) (st : ExactState l n flow row (state_of s)) where
+  pub null_test_told : (test : Test) → IsNullTest flow test → IsDefined (testing (flow_view flow) s (Some test)) → IsExact l n flow (refine l n flow test row) no_violations (testing (flow_view flow) s (Some test))
   unfolding refine refine_named refine_pointer
   null_test_told test t =
       let goal : Option (List (Cell I)) = Some (refine_named l n flow (named_by (side.Object t.base of.Pointer) side.Null) test.rel row) in
-      subst (λ z. IsDefined (with_side s test.left (λ left. with_side s test.right (λ right. in_world s (machine.pass_test flow.model (record { left = left; rel = test.rel; right = right; common = z }) s.world)))) → IsTold l n flow (refine_in l n flow test z row) no_violations (with_side s test.left (λ left. with_side s test.right (λ right. in_world s (machine.pass_test flow.model (record { left = left; rel = test.rel; right = right; common = z }) s.world))))) (sym t.is)
-      (subst (λ z. IsDefined (with_side s z (λ left. with_side s test.right (λ right. in_world s (machine.pass_test flow.model (record { left = left; rel = test.rel; right = right; common = None }) s.world)))) → IsTold l n flow (Some (refine_named l n flow (named_by z test.right) test.rel row)) no_violations (with_side s z (λ left. with_side s test.right (λ right. in_world s (machine.pass_test flow.model (record { left = left; rel = test.rel; right = right; common = None }) s.world))))) (sym t.left)
-      (subst (λ z. IsDefined (with_side s (side.Object t.base of.Pointer) (λ left. with_side s z (λ right. in_world s (machine.pass_test flow.model (record { left = left; rel = test.rel; right = right; common = None }) s.world)))) → IsTold l n flow (Some (refine_named l n flow (named_by (side.Object t.base of.Pointer) z) test.rel row)) no_violations (with_side s (side.Object t.base of.Pointer) (λ left. with_side s z (λ right. in_world s (machine.pass_test flow.model (record { left = left; rel = test.rel; right = right; common = None }) s.world))))) (sym t.right)
+      subst (λ z. IsDefined (with_side s test.left (λ left. with_side s test.right (λ right. in_world s (machine.pass_test flow.model (record { left = left; rel = test.rel; right = right; common = z }) s.world)))) → IsExact l n flow (refine_in l n flow test z row) no_violations (with_side s test.left (λ left. with_side s test.right (λ right. in_world s (machine.pass_test flow.model (record { left = left; rel = test.rel; right = right; common = z }) s.world))))) (sym t.is)
+      (subst (λ z. IsDefined (with_side s z (λ left. with_side s test.right (λ right. in_world s (machine.pass_test flow.model (record { left = left; rel = test.rel; right = right; common = None }) s.world)))) → IsExact l n flow (Some (refine_named l n flow (named_by z test.right) test.rel row)) no_violations (with_side s z (λ left. with_side s test.right (λ right. in_world s (machine.pass_test flow.model (record { left = left; rel = test.rel; right = right; common = None }) s.world))))) (sym t.left)
+      (subst (λ z. IsDefined (with_side s (side.Object t.base of.Pointer) (λ left. with_side s z (λ right. in_world s (machine.pass_test flow.model (record { left = left; rel = test.rel; right = right; common = None }) s.world)))) → IsExact l n flow (Some (refine_named l n flow (named_by (side.Object t.base of.Pointer) z) test.rel row)) no_violations (with_side s (side.Object t.base of.Pointer) (λ left. with_side s z (λ right. in_world s (machine.pass_test flow.model (record { left = left; rel = test.rel; right = right; common = None }) s.world))))) (sym t.right)
       (λ d. if_some_told l n flow goal no_violations s (s.bases t.base) (λ i. in_world s (machine.pass_test flow.model (record { left = object i of.Pointer; rel = test.rel; right = nothing; common = None }) s.world)) d (λ i en d.
       null_told q flow p naming row s r st t.base i t.object en test.rel goal (ap (λ z. Some (refine_pointer_at l n (position_of z) test.rel row)) t.object.is) (test_holds flow.model s.world.memory (record { left = object i of.Pointer; rel = test.rel; right = nothing; common = None })) refl d))))

@@ -18,18 +18,18 @@ use Rattle.semantics.specs.CfgMachine.FlowEdges.{with_side, in_world, testing}
 use Rattle.lower_templates.specs.Views.ProgramViews.{flow_view}
 use Rattle.store_sound.specs.Concretization.Coverage.{state_of}
 use Rattle.transfer_sound.specs.Tests.ScalarObjects.{IsPointerTest}
-use Rattle.transfer_exact.specs.Values.SingleRows.{TellsState}
-use Rattle.transfer_exact.specs.Values.SingleSteps.{IsDefined, TellsBehind, IsTold}
+use Rattle.transfer_exact.specs.Values.SingleRows.{ExactState}
+use Rattle.transfer_exact.specs.Values.SingleSteps.{IsDefined, ExactAfter, IsExact}
 use Rattle.transfer_exact.proofs.values.Told.{if_some_told}
 use Rattle.transfer_exact.proofs.values.Violated.{none_violated}
 
-module _ {I : Type 0} (l : LatticeOf I) (n : IntegersOf I) (flow : Flow) (row : List (Cell I)) (s : Standing) (t : TellsState l n flow row (state_of s)) where
-  any_side_told : (after : Option (List (Cell I))) (x : Side) (use_it : TestedSide → Reply Standing) → IsDefined (with_side s x use_it) → ((ts : TestedSide) → IsDefined (use_it ts) → IsTold l n flow after no_violations (use_it ts)) → IsTold l n flow after no_violations (with_side s x use_it)
+module _ {I : Type 0} (l : LatticeOf I) (n : IntegersOf I) (flow : Flow) (row : List (Cell I)) (s : Standing) (t : ExactState l n flow row (state_of s)) where
+  any_side_told : (after : Option (List (Cell I))) (x : Side) (use_it : TestedSide → Reply Standing) → IsDefined (with_side s x use_it) → ((ts : TestedSide) → IsDefined (use_it ts) → IsExact l n flow after no_violations (use_it ts)) → IsExact l n flow after no_violations (with_side s x use_it)
   any_side_told after (side.Object b kind) use_it d h = if_some_told l n flow after no_violations s (s.bases b) (λ i. use_it (object i kind)) d (λ i e d. h (object i kind) d)
   any_side_told after (side.Number z) use_it d h = h (constant z) d
   any_side_told after side.Null use_it d h = h nothing d
 
-  stays_told : (after : Option (List (Cell I))) → after ≡ Some row → (c : Bool) → IsDefined (in_world s (passing c (with_memory s.world s.world.memory))) → IsTold l n flow after no_violations (in_world s (passing c (with_memory s.world s.world.memory)))
+  stays_told : (after : Option (List (Cell I))) → after ≡ Some row → (c : Bool) → IsDefined (in_world s (passing c (with_memory s.world s.world.memory))) → IsExact l n flow after no_violations (in_world s (passing c (with_memory s.world s.world.memory)))
   stays_told after is false d = absurd (d (with_memory s.world s.world.memory) refl)
   stays_told after is true d = record {
     goes_on = λ u w f.
@@ -37,8 +37,8 @@ module _ {I : Type 0} (l : LatticeOf I) (n : IntegersOf I) (flow : Flow) (row : 
         let now : Standing = record s { world = new } in
         let a : now ≡ u = cc in
         let e : new ≡ w = cc in
-        let there : TellsBehind l n flow after (record now { world = new }) = record { row = row; is = is; tells = t } in
-        subst (λ z. TellsBehind l n flow after (record z { world = w })) a (subst (λ z. TellsBehind l n flow after (record now { world = z })) e there);
+        let there : ExactAfter l n flow after (record now { world = new }) = record { row = row; is = is; tells = t } in
+        subst (λ z. ExactAfter l n flow after (record z { world = w })) a (subst (λ z. ExactAfter l n flow after (record now { world = z })) e there);
     ends = λ why w f. cc;
     violated = none_violated s.world.violated;
   }
@@ -47,11 +47,11 @@ module _ {I : Type 0} (l : LatticeOf I) (n : IntegersOf I) (flow : Flow) (row : 
   abbrev asked : Test → Option IntType → Reply Standing
   asked test z = with_side s test.left (λ left. with_side s test.right (λ right. in_world s (machine.pass_test flow.model (record { left = left; rel = test.rel; right = right; common = z }) s.world)))
 
-  pub pointer_test_told : (test : Test) → IsPointerTest test → IsDefined (testing (flow_view flow) s (Some test)) → IsTold l n flow (refine l n flow test row) no_violations (testing (flow_view flow) s (Some test))
+  pub pointer_test_told : (test : Test) → IsPointerTest test → IsDefined (testing (flow_view flow) s (Some test)) → IsExact l n flow (refine l n flow test row) no_violations (testing (flow_view flow) s (Some test))
   unfolding refine refine_named
   pointer_test_told test h d =
       let is : refine_in l n flow test None row ≡ Some row = ap (λ z. Some (refine_named l n flow z test.rel row)) h.plain in
-      subst (λ z. IsTold l n flow (refine_in l n flow test z row) no_violations (asked test z)) (sym h.is)
+      subst (λ z. IsExact l n flow (refine_in l n flow test z row) no_violations (asked test z)) (sym h.is)
       (any_side_told (refine_in l n flow test None row) test.left _ (subst (λ z. IsDefined (asked test z)) h.is d) (λ left d.
       any_side_told (refine_in l n flow test None row) test.right _ d (λ right d.
       stays_told (refine_in l n flow test None row) is (test_holds flow.model s.world.memory (record { left = left; rel = test.rel; right = right; common = None })) d)))

@@ -37,9 +37,9 @@ use Rattle.transfer_sound.specs.Tests.ScalarObjects.{IsScalarObject}
 use Rattle.transfer_sound.proofs.tests.Relabelling.{IsRelabelling}
 use Rattle.transfer_sound.proofs.tests.ScalarCells.{same_numbers}
 use Rattle.transfer_exact.specs.Values.SingleNumbers.{IsOne}
-use Rattle.transfer_exact.specs.Values.SingleValues.{TellsNumber, TellsHeld, TellsScalar}
-use Rattle.transfer_exact.specs.Values.SingleRows.{HoldsNumber, HoldsScalar, TellsLeaf, TellsState}
-use Rattle.transfer_exact.proofs.values.NearTells.{near_one}
+use Rattle.transfer_exact.specs.Values.SingleValues.{ExactNumber, ExactHeld, ExactScalar}
+use Rattle.transfer_exact.specs.Values.SingleRows.{HoldsNumber, HoldsScalar, ExactLeaf, ExactState}
+use Rattle.transfer_exact.proofs.values.NearExact.{near_one}
 use Rattle.transfer_exact.proofs.accesses.Moves.{change_tells}
 use Rattle.transfer_exact.proofs.edges.NullTests.{near_of}
 
@@ -85,7 +85,7 @@ module _ {old new : Memory} {i : ℕ} {g : Labels → Labels} (w : IsRelabelling
 
 -- ---- the object
 
-module _ {I : Type 0} {l : LatticeOf I} {n : IntegersOf I} {gamma : I → ℤ → Type 0} (q : BoundLaws l n gamma) (flow : Flow) (p : HasPremises flow) (naming : Naming) (row : List (Cell I)) (long : length row ≡ flow.width) (state : MachineState) (names : (d j : ℕ) → state.entered d ≡ Some j → naming j ≡ Some d) (st : TellsState l n flow row state)
+module _ {I : Type 0} {l : LatticeOf I} {n : IntegersOf I} {gamma : I → ℤ → Type 0} (q : BoundLaws l n gamma) (flow : Flow) (p : HasPremises flow) (naming : Naming) (row : List (Cell I)) (long : length row ≡ flow.width) (state : MachineState) (names : (d j : ℕ) → state.entered d ≡ Some j → naming j ≡ Some d) (st : ExactState l n flow row state)
     (b i : ℕ) (kind : _) (t : IsScalarObject flow b kind) (en : state.entered b ≡ Some i) where
   abbrev place : ℕ
   place = leaf_position t.info 0
@@ -122,7 +122,7 @@ module _ {I : Type 0} {l : LatticeOf I} {n : IntegersOf I} {gamma : I → ℤ �
   pub record IsNumberHeld (a : ℤ) : Type 0 where
     pub la : Labels
     pub holds : HoldsNumber flow state.memory i 0 t.leaf a la
-    pub tells : TellsNumber n state.entered state.memory v a la
+    pub tells : ExactNumber n state.entered state.memory v a la
 
   pub number_held : (a : ℤ) → gamma v.num a → IsNumberHeld a
   number_held a h = let was = st.leaves b 0 i 0 t.info t.leaf t.is leaf_there en place_here in by_held was.held was.holds was.tells
@@ -130,7 +130,7 @@ module _ {I : Type 0} {l : LatticeOf I} {n : IntegersOf I} {gamma : I → ℤ �
       has : RangeHas (n.bounds v.num) a
       has = bounds_have q v.num a h
 
-      by_held : (held : Option Scalar) → HoldsScalar flow state.memory i 0 t.leaf held → TellsHeld n state.entered state.memory v held → IsNumberHeld a
+      by_held : (held : Option Scalar) → HoldsScalar flow state.memory i 0 t.leaf held → ExactHeld n state.entered state.memory v held → IsNumberHeld a
       by_held None holds tells = absurd (subst (λ z. RangeHas z a) tells.number has)
       by_held (Some (pointer x)) holds tells = absurd (subst (λ z. RangeHas z a) tells.apart has)
       by_held (Some (integer z la)) holds tells =
@@ -141,7 +141,7 @@ module _ {I : Type 0} {l : LatticeOf I} {n : IntegersOf I} {gamma : I → ℤ �
           record {
             la = la;
             holds = subst (λ y. HoldsNumber flow state.memory i 0 t.leaf y la) same holds;
-            tells = subst (λ y. TellsNumber n state.entered state.memory v y la) same tells;
+            tells = subst (λ y. ExactNumber n state.entered state.memory v y la) same tells;
           }
 
   module _ (new : Memory) (g : Labels → Labels) (w : IsRelabelling state.memory new i g) (a : ℤ) (held : IsNumberHeld a) (num : I) (labels : sets.Labels) (one : IsOne n num a) (labels_are : labels ≡ as_set (g held.la)) where
@@ -169,7 +169,7 @@ module _ {I : Type 0} {l : LatticeOf I} {n : IntegersOf I} {gamma : I → ℤ �
         let d = place_is in
         ap (λ z. near_value l n (value_in l z)) (cell_put row place (Value changed) (omega (arith, k, far, long, c, d)))
 
-    changed_tells : TellsScalar n state.entered new (near_value l n changed) (integer a (g held.la))
+    changed_tells : ExactScalar n state.entered new (near_value l n changed) (integer a (g held.la))
     unfolding value_at
     changed_tells = record {
       number = near_one q num a (near_of q (value_in l (cell_at row place)).num a held.tells.number) one;
@@ -178,24 +178,24 @@ module _ {I : Type 0} {l : LatticeOf I} {n : IntegersOf I} {gamma : I → ℤ �
       determinate = held.tells.determinate;
     }
 
-    own_leaf : TellsLeaf l n flow behind (value_at l n after place) i 0 t.leaf
+    own_leaf : ExactLeaf l n flow behind (value_at l n after place) i 0 t.leaf
     own_leaf = record {
       held = Some (integer a (g held.la));
       holds = holds_relabels w flow 0 t.leaf a held.la held.holds;
-      tells = subst (λ z. TellsScalar n state.entered new z (integer a (g held.la))) (sym own_value) changed_tells;
+      tells = subst (λ z. ExactScalar n state.entered new z (integer a (g held.la))) (sym own_value) changed_tells;
     }
 
-    own : (j : ℕ) (leaf : Leaf) (o : ℕ) → slice_get t.info.shape.cells j ≡ Some leaf → IsPlaceOf leaf o → TellsLeaf l n flow behind (value_at l n after (leaf_position t.info j)) i o leaf
+    own : (j : ℕ) (leaf : Leaf) (o : ℕ) → slice_get t.info.shape.cells j ≡ Some leaf → IsPlaceOf leaf o → ExactLeaf l n flow behind (value_at l n after (leaf_position t.info j)) i o leaf
     own j leaf o e there = by_index j (sym (ap (λ z. slice_get z j) t.cells) ∙ e)
       where
-        by_index : (j : ℕ) → slice_get (t.leaf ∷ []) j ≡ Some leaf → TellsLeaf l n flow behind (value_at l n after (leaf_position t.info j)) i o leaf
+        by_index : (j : ℕ) → slice_get (t.leaf ∷ []) j ≡ Some leaf → ExactLeaf l n flow behind (value_at l n after (leaf_position t.info j)) i o leaf
         by_index zero f =
             let same : t.leaf ≡ leaf = same_Some t.leaf leaf f in
             let begins : 0 ≡ o = sym (place_zero o (subst (λ z. IsPlaceOf z o) (sym same) there)) in
-            subst (λ z. TellsLeaf l n flow behind (value_at l n after place) i z leaf) begins (subst (TellsLeaf l n flow behind (value_at l n after place) i 0) same own_leaf)
+            subst (λ z. ExactLeaf l n flow behind (value_at l n after place) i z leaf) begins (subst (ExactLeaf l n flow behind (value_at l n after place) i 0) same own_leaf)
         by_index (suc j) f = cc
 
-    pub relabelled_tells : TellsState l n flow after behind
+    pub relabelled_tells : ExactState l n flow after behind
     relabelled_tells = change_tells l n flow p row after state new b i t.info t.is en st (record {
       lives = w.rewrite.alike.lives;
       others = w.rewrite.others;

@@ -18,7 +18,7 @@ use Rattle.memory_model.specs.Memory.Scalars.{Scalar, integer, pointer}
 use Rattle.memory_model.specs.Effects.NumberedTables.{clear_at}
 use Rattle.transfer_sound.proofs.leave.LeftMemory.{IsEnded}
 use Rattle.transfer_sound.proofs.leave.EndedValues.{left_value}
-use Rattle.transfer_exact.specs.Values.SingleValues.{IsNowhere, IsIntoOne, TellsByLife, TellsPointer, TellsScalar, TellsHeld}
+use Rattle.transfer_exact.specs.Values.SingleValues.{IsNowhere, IsIntoOne, ExactByLife, ExactPointer, ExactScalar, ExactHeld}
 use Rattle.transfer_exact.proofs.objects.LeftBases.{sole_without, sole_has, sole_lacks}
 
 clear_keeps : {A : Type 0} (f : ℕ → Option A) (b d : ℕ) (x : A) → (d ≡ b → ⊥) → f d ≡ Some x → clear_at f b d ≡ Some x
@@ -68,23 +68,23 @@ module _ {I : Type 0} (l : LatticeOf I) (n : IntegersOf I) (names : ℕ → Opti
       subst (λ z. IsIntoOne n left_names (near_pointer l n z) j offset lo hi) (sym (stays v lacks))
       (record { base = h.base; few = h.few; names = clear_keeps names b h.base j apart h.names; bases = h.bases; lower = h.lower; relative = h.relative; room = h.room; null = h.null; ended = h.ended })
 
-  other_life : (v : Pointers I) (life : Life) (j offset lo hi : ℕ) → (j ≡ i → ⊥) → TellsByLife n names (before v) life j offset lo hi → TellsByLife n left_names (after v) life j offset lo hi
+  other_life : (v : Pointers I) (life : Life) (j offset lo hi : ℕ) → (j ≡ i → ⊥) → ExactByLife n names (before v) life j offset lo hi → ExactByLife n left_names (after v) life j offset lo hi
   other_life v live j offset lo hi ne h = other_stays v j offset lo hi ne h
   other_life v ended j offset lo hi ne h = nowhere_left v false true h
   other_life v freed j offset lo hi ne h = h
 
-  pointer_left : (v : Pointers I) (x : MachinePointer) → TellsPointer n names old (before v) x → TellsPointer n left_names new (after v) x
+  pointer_left : (v : Pointers I) (x : MachinePointer) → ExactPointer n names old (before v) x → ExactPointer n left_names new (after v) x
   pointer_left v null h = nowhere_left v true false h
   pointer_left v (into j offset lo hi) h = elim (cases_eq j i) [
-    | inl d ↦ subst (λ z. TellsByLife n left_names (after v) z j offset lo hi) (sym (ap (life_at new) d ∙ w.own))
-        (own_ends v offset lo hi (subst (λ z. TellsByLife n names (before v) z i offset lo hi) alive (subst (λ z. TellsByLife n names (before v) (life_at old z) z offset lo hi) d h)))
-    | inr ne ↦ subst (λ z. TellsByLife n left_names (after v) z j offset lo hi) (sym (w.others j ne)) (other_life v (life_at old j) j offset lo hi ne h)
+    | inl d ↦ subst (λ z. ExactByLife n left_names (after v) z j offset lo hi) (sym (ap (life_at new) d ∙ w.own))
+        (own_ends v offset lo hi (subst (λ z. ExactByLife n names (before v) z i offset lo hi) alive (subst (λ z. ExactByLife n names (before v) (life_at old z) z offset lo hi) d h)))
+    | inr ne ↦ subst (λ z. ExactByLife n left_names (after v) z j offset lo hi) (sym (w.others j ne)) (other_life v (life_at old j) j offset lo hi ne h)
   ]
 
-  pub scalar_left : (v : Value I) (x : Scalar) → TellsScalar n names old (near_value l n v) x → TellsScalar n left_names new (near_value l n (left_value l b v)) x
+  pub scalar_left : (v : Value I) (x : Scalar) → ExactScalar n names old (near_value l n v) x → ExactScalar n left_names new (near_value l n (left_value l b v)) x
   scalar_left v (integer z labels) h = record { number = h.number; labels_are = h.labels_are; apart = nowhere_left v.pointer false false h.apart; determinate = h.determinate }
   scalar_left v (pointer x) h = record { apart = h.apart; points = pointer_left v.pointer x h.points; determinate = h.determinate }
 
-  pub held_left : (v : Value I) (held : Option Scalar) → TellsHeld n names old (near_value l n v) held → TellsHeld n left_names new (near_value l n (left_value l b v)) held
+  pub held_left : (v : Value I) (held : Option Scalar) → ExactHeld n names old (near_value l n v) held → ExactHeld n left_names new (near_value l n (left_value l b v)) held
   held_left v None h = record { number = h.number; apart = nowhere_left v.pointer false false h.apart; indeterminate = h.indeterminate }
   held_left v (Some scalar) h = scalar_left v scalar h

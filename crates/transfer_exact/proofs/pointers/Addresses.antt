@@ -31,13 +31,13 @@ use Rattle.store_sound.specs.Programs.Premises.{HasPremises}
 use Rattle.transfer_sound.specs.Values.SoundSteps.{IsReached}
 use Rattle.transfer_sound.proofs.values.PartSteps.{kind_is}
 use Rattle.transfer_exact.specs.Values.SingleNumbers.{IsOne}
-use Rattle.transfer_exact.specs.Values.SingleValues.{IsIntoOne, TellsByLife}
-use Rattle.transfer_exact.specs.Values.SingleRows.{TellsState}
-use Rattle.transfer_exact.specs.Values.SingleSteps.{IsDefined, IsTold, StepIsTold}
+use Rattle.transfer_exact.specs.Values.SingleValues.{IsIntoOne, ExactByLife}
+use Rattle.transfer_exact.specs.Values.SingleRows.{ExactState}
+use Rattle.transfer_exact.specs.Values.SingleSteps.{IsDefined, IsExact, StepIsExact}
 use Rattle.transfer_exact.proofs.values.Told.{if_some_told}
 use Rattle.transfer_exact.proofs.values.Violated.{none_violated}
 use Rattle.transfer_exact.proofs.pointers.Objects.{IsObject, object_is, base_small}
-use Rattle.transfer_exact.proofs.pointers.PointersTold.{pointer_given}
+use Rattle.transfer_exact.proofs.pointers.PointersExact.{pointer_given}
 
 -- an object that an offset lies in, or at whose end
 record IsReachedBy (offset : ℕ) (o : Option BaseInfo) : Type 0 where
@@ -49,7 +49,7 @@ reached_by : (offset : ℕ) (o : Option BaseInfo) → reaches offset o ≡ true 
 reached_by offset None h = absurd (true≢false (sym h))
 reached_by offset (Some info) h = record { info = info; is = refl; inside = leb-true offset info.size h }
 
-pub live_tells : {I : Type 0} {n : IntegersOf I} (entered : ℕ → Option ℕ) (x : _) (life : Life) (i offset lo hi : ℕ) → life ≡ live → IsIntoOne {I = I} n entered x i offset lo hi → TellsByLife n entered x life i offset lo hi
+pub live_tells : {I : Type 0} {n : IntegersOf I} (entered : ℕ → Option ℕ) (x : _) (life : Life) (i offset lo hi : ℕ) → life ≡ live → IsIntoOne {I = I} n entered x i offset lo hi → ExactByLife n entered x life i offset lo hi
 live_tells entered x live i offset lo hi e h = h
 live_tells entered x ended i offset lo hi e h = cc
 live_tells entered x freed i offset lo hi e h = cc
@@ -58,7 +58,7 @@ module _ {I : Type 0} {l : LatticeOf I} {n : IntegersOf I} {gamma : I → ℤ �
   pub one_is : (a z : ℤ) → a ≡ z → IsOne n (n.one a) z
   one_is a z e = subst (IsOne n (n.one a)) e (q.one_bounds a)
 
-  module _ (flow : Flow) (p : HasPremises flow) (naming : Naming) (row : List (Cell I)) (s : Standing) (r : IsReached l n gamma flow naming row s) (t : TellsState l n flow row (state_of s)) where
+  module _ (flow : Flow) (p : HasPremises flow) (naming : Naming) (row : List (Cell I)) (s : Standing) (r : IsReached l n gamma flow naming row s) (t : ExactState l n flow row (state_of s)) where
     address_into : (b i offset : ℕ) (info : BaseInfo) → slice_get flow.bases.items b ≡ Some info → s.bases b ≡ Some i → IsIntoOne n s.bases (address_of n b offset info.size) i offset 0 info.size
     address_into b i offset info e k = record {
       base = b;
@@ -73,7 +73,7 @@ module _ {I : Type 0} {l : LatticeOf I} {n : IntegersOf I} {gamma : I → ℤ �
     }
 
     address_good : (to b i offset : ℕ) (info : BaseInfo) → to < flow.temps → slice_get flow.bases.items b ≡ Some info → s.bases b ≡ Some i → IsObject flow p naming row s r b i info → offset ≤ info.size → (size : ℕ) → size ≡ info.size → (after : Option (List (Cell I))) → after ≡ put_pointer l flow row to (address_of n b offset info.size)
-        → IsTold l n flow after no_violations (giving s to (goes (pointer (into i offset 0 size)) s.world))
+        → IsExact l n flow after no_violations (giving s to (goes (pointer (into i offset 0 size)) s.world))
     address_good to b i offset info few e names k inside size same after is =
         let st = address_into b i offset info e names in
         let total = k.size in
@@ -82,7 +82,7 @@ module _ {I : Type 0} {l : LatticeOf I} {n : IntegersOf I} {gamma : I → ℤ �
         (live_tells s.bases (address_of n b offset info.size) (life_at s.world.memory i) i offset 0 size k.alive (subst (λ z. IsIntoOne n s.bases (address_of n b offset info.size) i offset 0 z) (sym same) st))
         within refl is (none_violated s.world.violated)
 
-    pub address_told : (to b offset : ℕ) → fits_operation (names_of flow) (op.Address to b offset) ≡ true → IsDefined (act_step (flow_view flow) (act (op.Address to b offset)) s) → StepIsTold l n flow row (op.Address to b offset) s
+    pub address_told : (to b offset : ℕ) → fits_operation (names_of flow) (op.Address to b offset) ≡ true → IsDefined (act_step (flow_view flow) (act (op.Address to b offset)) s) → StepIsExact l n flow row (op.Address to b offset) s
     unfolding operate address_step operation_violations
     address_told to b offset fits d =
         let a = and_parts (has_temp (names_of flow) to) (is_declared (kind_at flow.bases.items b) && reaches offset (slice_get flow.bases.items b)) fits in

@@ -69,9 +69,9 @@ use Rattle.transfer_sound.specs.Values.SoundSteps.{IsReached}
 use Rattle.transfer_sound.proofs.values.ResultRows.{truth_near}
 use Rattle.transfer_exact.specs.Values.SingleNumbers.{IsOne}
 use Rattle.transfer_exact.specs.Values.ExactNumbers.{truth_of, ExactLaws}
-use Rattle.transfer_exact.specs.Values.SingleValues.{IsNowhere, IsIntoOne, TellsByLife, TellsPointer, TellsScalar}
-use Rattle.transfer_exact.specs.Values.SingleRows.{TellsState, IsPlainProgram}
-use Rattle.transfer_exact.specs.Values.SingleSteps.{IsDefined, IsTold, StepIsTold}
+use Rattle.transfer_exact.specs.Values.SingleValues.{IsNowhere, IsIntoOne, ExactByLife, ExactPointer, ExactScalar}
+use Rattle.transfer_exact.specs.Values.SingleRows.{ExactState, IsPlainProgram}
+use Rattle.transfer_exact.specs.Values.SingleSteps.{IsDefined, IsExact, StepIsExact}
 use Rattle.transfer_exact.proofs.values.Faults.{met_one}
 use Rattle.transfer_exact.proofs.values.Told.{if_some_told, pointer_told, result_told}
 use Rattle.transfer_exact.proofs.values.ValueSteps.{only_has, negated_truth, tells_truth, truth_put, tells_number, number_put}
@@ -79,7 +79,7 @@ use Rattle.transfer_exact.proofs.values.Violated.{AreViolated, pointing, pointin
 use Rattle.transfer_exact.proofs.places.OneBase.{not_empty}
 use Rattle.transfer_exact.proofs.places.OneTouch.{one_range}
 use Rattle.transfer_exact.proofs.pointers.Objects.{same_base}
-use Rattle.transfer_exact.proofs.pointers.PointersTold.{rule_told}
+use Rattle.transfer_exact.proofs.pointers.PointersExact.{rule_told}
 use Rattle.transfer_exact.proofs.pointers.SoleBases.{sole_count, sole_meets, sole_within, single_has, sole_apart, sole_none}
 
 -- ---- quotients
@@ -148,7 +148,7 @@ ranges_met a b = both_ways (pos a) (pos b) ∙ same_numbers a b
 ranges_one : (a b : ℕ) → ranges_same_one (Some (pos a, pos a)) (Some (pos b, pos b)) ≡ (a == b)
 ranges_one a b = ap₂ (λ x y. x && (y && int_eq (pos a) (pos b))) (some_same (pos a)) (some_same (pos b)) ∙ same_numbers a b
 
-module _ {I : Type 0} {l : LatticeOf I} {n : IntegersOf I} {gamma : I → ℤ → Type 0} (q : BoundLaws l n gamma) (ex : ExactLaws n) (flow : Flow) (p : HasPremises flow) (plain : IsPlainProgram flow) (naming : Naming) (row : List (Cell I)) (s : Standing) (r : IsReached l n gamma flow naming row s) (t : TellsState l n flow row (state_of s)) where
+module _ {I : Type 0} {l : LatticeOf I} {n : IntegersOf I} {gamma : I → ℤ → Type 0} (q : BoundLaws l n gamma) (ex : ExactLaws n) (flow : Flow) (p : HasPremises flow) (plain : IsPlainProgram flow) (naming : Naming) (row : List (Cell I)) (s : Standing) (r : IsReached l n gamma flow naming row s) (t : ExactState l n flow row (state_of s)) where
   abbrev single : Bases
   single = single_bases flow.bases.items
 
@@ -158,12 +158,12 @@ module _ {I : Type 0} {l : LatticeOf I} {n : IntegersOf I} {gamma : I → ℤ �
     at_ended : is_ended s.world.memory at ≡ true → IsNowhere x false true → Known x at
     at_object : (i offset lo hi : ℕ) → at ≡ into i offset lo hi → is_ended s.world.memory at ≡ false → IsIntoOne n s.bases x i offset lo hi → IsWithin s.world.memory i offset lo hi → Known x at
 
-  by_life : (x : Pointers I) (i offset lo hi : ℕ) (life : Life) → life_at s.world.memory i ≡ life → TellsByLife n s.bases x life i offset lo hi → IsWithin s.world.memory i offset lo hi → Known x (into i offset lo hi)
+  by_life : (x : Pointers I) (i offset lo hi : ℕ) (life : Life) → life_at s.world.memory i ≡ life → ExactByLife n s.bases x life i offset lo hi → IsWithin s.world.memory i offset lo hi → Known x (into i offset lo hi)
   by_life x i offset lo hi live e h w = at_object i offset lo hi refl (ap is_ended_life e) h w
   by_life x i offset lo hi ended e h w = at_ended (ap is_ended_life e) h
   by_life x i offset lo hi freed e h w = absurd h
 
-  known : (x : Pointers I) (at : MachinePointer) → TellsPointer n s.bases s.world.memory x at → IsPointerIn s.world.memory at → Known x at
+  known : (x : Pointers I) (at : MachinePointer) → ExactPointer n s.bases s.world.memory x at → IsPointerIn s.world.memory at → Known x at
   known x null h w = at_null refl h
   known x (into i offset lo hi) h w = by_life x i offset lo hi (life_at s.world.memory i) refl h w
 
@@ -371,7 +371,7 @@ module _ {I : Type 0} {l : LatticeOf I} {n : IntegersOf I} {gamma : I → ℤ �
       alive : (x.ended || y.ended) ≡ false
 
     abbrev Told : Option (List (Cell I)) → Violations → Reply Scalar → Type 0
-    Told after v reply = IsTold l n flow after v (giving s to reply)
+    Told after v reply = IsExact l n flow after v (giving s to reply)
 
     no_any : (is_any x && is_any y) ≡ false → (b : Bool) → (is_any x && (is_any y && b)) ≡ true → ⊥
     no_any e b f =
@@ -475,9 +475,9 @@ module _ {I : Type 0} {l : LatticeOf I} {n : IntegersOf I} {gamma : I → ℤ �
   temp_at u = (temp_value l n flow row u).pointer
 
   known_temp : (u : ℕ) (v : Scalar) (at : MachinePointer) → s.temps u ≡ Some v → v ≡ pointer at → Known (temp_at u) at
-  known_temp u v at e g = known (temp_at u) at (subst (TellsScalar n s.bases s.world.memory (temp_value l n flow row u)) g (t.temps u v e)).points (r.stands_for.held.within u (pointer at) (e ∙ ap Some g))
+  known_temp u v at e g = known (temp_at u) at (subst (ExactScalar n s.bases s.world.memory (temp_value l n flow row u)) g (t.temps u v e)).points (r.stands_for.held.within u (pointer at) (e ∙ ap Some g))
 
-  pub difference_told : (to left right size : ℕ) → fits_operation (names_of flow) (op.Difference to left right size) ≡ true → IsDefined (act_step (flow_view flow) (act (op.Difference to left right size)) s) → StepIsTold l n flow row (op.Difference to left right size) s
+  pub difference_told : (to left right size : ℕ) → fits_operation (names_of flow) (op.Difference to left right size) ≡ true → IsDefined (act_step (flow_view flow) (act (op.Difference to left right size)) s) → StepIsExact l n flow row (op.Difference to left right size) s
   unfolding operate difference_step operation_violations
   difference_told to left right size fits d =
       let named = and_parts (has_temp (names_of flow) to) (has_temp (names_of flow) left && (has_temp (names_of flow) right && (is_extent size && nat_lt 0 size))) fits in
@@ -492,7 +492,7 @@ module _ {I : Type 0} {l : LatticeOf I} {n : IntegersOf I} {gamma : I → ℤ �
       difference_good to few (temp_at left) (temp_at right) pa pb size some (pair_of (temp_at left) (temp_at right) pa pb (known_temp left v pa e g) (known_temp right u pb f h))))))
 
   relation_good : (rel : Rel) (to : ℕ) → to < flow.temps → (left right : ℕ) (pa pb : MachinePointer) → Pair (temp_at left) (temp_at right) pa pb
-      → IsTold l n flow (put_truth l n flow row to (relation l n flow rel (temp_at left) (temp_at right))) (relation_violations l n flow row rel left right) (giving s to (pointers_compared rel pa pb s.world))
+      → IsExact l n flow (put_truth l n flow row to (relation l n flow rel (temp_at left) (temp_at right))) (relation_violations l n flow row rel left right) (giving s to (pointers_compared rel pa pb s.world))
   relation_good Eq to few left right pa pb pair = equal_by to few (temp_at left) (temp_at right) pa pb pair (λ z. z) (λ z. z) refl (λ b. refl)
   relation_good Ne to few left right pa pb pair = equal_by to few (temp_at left) (temp_at right) pa pb pair negated not refl negated_truth
   relation_good Lt to few left right pa pb pair = ordered_good to few (temp_at left) (temp_at right) pa pb pair Lt
@@ -500,7 +500,7 @@ module _ {I : Type 0} {l : LatticeOf I} {n : IntegersOf I} {gamma : I → ℤ �
   relation_good Gt to few left right pa pb pair = ordered_good to few (temp_at left) (temp_at right) pa pb pair Gt
   relation_good Ge to few left right pa pb pair = ordered_good to few (temp_at left) (temp_at right) pa pb pair Ge
 
-  pub relation_told : (to : ℕ) (rel : Rel) (left right : ℕ) → fits_operation (names_of flow) (op.ComparePointers to rel left right) ≡ true → IsDefined (act_step (flow_view flow) (act (op.ComparePointers to rel left right)) s) → StepIsTold l n flow row (op.ComparePointers to rel left right) s
+  pub relation_told : (to : ℕ) (rel : Rel) (left right : ℕ) → fits_operation (names_of flow) (op.ComparePointers to rel left right) ≡ true → IsDefined (act_step (flow_view flow) (act (op.ComparePointers to rel left right)) s) → StepIsExact l n flow row (op.ComparePointers to rel left right) s
   unfolding operate relation_step operation_violations
   relation_told to rel left right fits d =
       let few = ltb-true to flow.temps (and_parts (has_temp (names_of flow) to) (has_temp (names_of flow) left && has_temp (names_of flow) right) fits).0 in

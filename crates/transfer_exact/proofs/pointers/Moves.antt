@@ -55,17 +55,17 @@ use Rattle.transfer_sound.specs.Values.SoundSteps.{IsReached}
 use Rattle.transfer_sound.proofs.values.MoveSteps.{abs_is, near_has}
 use Rattle.transfer_sound.proofs.values.NearScalars.{IsNearNumber}
 use Rattle.transfer_exact.specs.Values.SingleNumbers.{IsOne}
-use Rattle.transfer_exact.specs.Values.SingleValues.{IsNowhere, IsIntoOne, TellsByLife, TellsPointer, TellsScalar}
-use Rattle.transfer_exact.specs.Values.SingleRows.{TellsState}
-use Rattle.transfer_exact.specs.Values.SingleSteps.{IsDefined, IsTold, StepIsTold}
+use Rattle.transfer_exact.specs.Values.SingleValues.{IsNowhere, IsIntoOne, ExactByLife, ExactPointer, ExactScalar}
+use Rattle.transfer_exact.specs.Values.SingleRows.{ExactState}
+use Rattle.transfer_exact.specs.Values.SingleSteps.{IsDefined, IsExact, StepIsExact}
 use Rattle.transfer_exact.proofs.values.Faults.{met_one, met_none}
-use Rattle.transfer_exact.proofs.values.NearTells.{near_one}
+use Rattle.transfer_exact.proofs.values.NearExact.{near_one}
 use Rattle.transfer_exact.proofs.values.Told.{if_some_told, number_told, pointer_told}
 use Rattle.transfer_exact.proofs.values.Violated.{pointing_violated, never, one_there, behind_there}
 use Rattle.transfer_exact.proofs.places.OneBase.{not_empty}
 use Rattle.transfer_exact.proofs.places.OneTouch.{one_range}
 use Rattle.transfer_exact.proofs.pointers.Addresses.{live_tells}
-use Rattle.transfer_exact.proofs.pointers.PointersTold.{rule_told, pointer_given}
+use Rattle.transfer_exact.proofs.pointers.PointersExact.{rule_told, pointer_given}
 
 le_from : (a b : ℤ) → int_le a b ≡ true → a ≤ℤ b
 le_from a b h = grind (arith, ints)
@@ -100,14 +100,14 @@ noted_there : (before : List Rule) (b : Bool) (r : Rule) → b ≡ true → Cont
 noted_there before true r e = behind_there before (r ∷ []) r (one_there r)
 noted_there before false r e = cc
 
-module _ {I : Type 0} {l : LatticeOf I} {n : IntegersOf I} {gamma : I → ℤ → Type 0} (q : BoundLaws l n gamma) (flow : Flow) (p : HasPremises flow) (naming : Naming) (row : List (Cell I)) (s : Standing) (r : IsReached l n gamma flow naming row s) (t : TellsState l n flow row (state_of s)) where
+module _ {I : Type 0} {l : LatticeOf I} {n : IntegersOf I} {gamma : I → ℤ → Type 0} (q : BoundLaws l n gamma) (flow : Flow) (p : HasPremises flow) (naming : Naming) (row : List (Cell I)) (s : Standing) (r : IsReached l n gamma flow naming row s) (t : ExactState l n flow row (state_of s)) where
   -- ---- amounts
 
   near_temp : (u : ℕ) (z : ℤ) → gamma (temp_value l n flow row u).num z → IsNearNumber z
   unfolding value_at
   near_temp u z h = near_has q _ z h
 
-  amount_told : (after : Option (List (Cell I))) (w : Violations) (by : Amount) (use_it : Scalar → Reply Standing) → IsDefined (with_amount s by use_it) → ((v : Scalar) → TellsScalar n s.bases s.world.memory (amount_value l n flow row by) v → ((z : ℤ) (la : Labels) → v ≡ integer z la → IsNearNumber z) → IsDefined (use_it v) → IsTold l n flow after w (use_it v)) → IsTold l n flow after w (with_amount s by use_it)
+  amount_told : (after : Option (List (Cell I))) (w : Violations) (by : Amount) (use_it : Scalar → Reply Standing) → IsDefined (with_amount s by use_it) → ((v : Scalar) → ExactScalar n s.bases s.world.memory (amount_value l n flow row by) v → ((z : ℤ) (la : Labels) → v ≡ integer z la → IsNearNumber z) → IsDefined (use_it v) → IsExact l n flow after w (use_it v)) → IsExact l n flow after w (with_amount s by use_it)
   amount_told after w (amount.Temp u) use_it d h = if_some_told l n flow after w s (s.temps u) use_it d (λ v e d. h v (t.temps u v e) (λ z la g. near_temp u z (subst (InGammaScalar gamma naming s.world.memory (temp_value l n flow row u)) g (r.stands_for.temps u v e)).0) d)
   amount_told after w amount.One use_it d h =
       let near : IsNearNumber (pos 1) = record { from = omega (arith, ints); to = omega (arith, ints) } in
@@ -155,7 +155,7 @@ module _ {I : Type 0} {l : LatticeOf I} {n : IntegersOf I} {gamma : I → ℤ �
     sink_there e = noted_there s.world.violated (not (is_unlabelled labels)) rule.Taintsink (sym (ap not (unlabelled_is labels la same_labels)) ∙ e)
 
     -- where no base is, nothing moves
-    nowhere_good : (a b : Bool) → IsNowhere x a b → IsTold l n flow after told (giving s to (stopped_by noted_world rule.Nullref))
+    nowhere_good : (a b : Bool) → IsNowhere x a b → IsExact l n flow after told (giving s to (stopped_by noted_world rule.Nullref))
     nowhere_good a b h =
         rule_told l n flow s to after told noted_world rule.Nullref (nothing_moved to (shifted l n x by scale) (nowhere_moved x h.bases (range_met (range_sum (n.bounds x.rel) (range_times (n.bounds by) scale)) (pos 0) (length_above n x)))) (λ there.
         pointing_violated _ _ _ _ _ (λ e. there) (λ e. let f : (not true && moves_outside n x by scale) ≡ true = subst (λ z. (not z && moves_outside n x by scale) ≡ true) h.bases e in never f)
@@ -184,7 +184,7 @@ module _ {I : Type 0} {l : LatticeOf I} {n : IntegersOf I} {gamma : I → ℤ �
       met_is : range_met (range_sum (n.bounds x.rel) (range_times (n.bounds by) scale)) (pos 0) (length_above n x) ≡ range_met (Some (place, place)) (pos 0) room
       met_is = ap₂ (λ a b. range_met a (pos 0) b) place_range (ap (upper_or (pos 0)) h.room)
 
-      inside_good : (int_le (pos lo) z && int_le z (pos hi)) ≡ true → IsTold l n flow after told (giving s to (as_pointer (goes (into i (unsigned_abs z) lo hi) noted_world)))
+      inside_good : (int_le (pos lo) z && int_le z (pos hi)) ≡ true → IsExact l n flow after told (giving s to (as_pointer (goes (into i (unsigned_abs z) lo hi) noted_world)))
       inside_good f =
           let g = and_parts (int_le (pos lo) z) (int_le z (pos hi)) f in
           let above = le_from (pos lo) z g.0 in
@@ -211,7 +211,7 @@ module _ {I : Type 0} {l : LatticeOf I} {n : IntegersOf I} {gamma : I → ℤ �
           (pointing_violated _ _ _ _ _ (λ e. absurd (true≢false (sym e ∙ not_null)))
           (λ e. absurd (true≢false (sym (and_parts (not (bases_empty x.bases)) (moves_outside n x by scale) e).1 ∙ (outside_is ∙ within_bounds)))) sink_there never)
 
-      outside_good : (int_le (pos lo) z && int_le z (pos hi)) ≡ false → IsTold l n flow after told (giving s to (stopped_by noted_world rule.Invptr))
+      outside_good : (int_le (pos lo) z && int_le z (pos hi)) ≡ false → IsExact l n flow after told (giving s to (stopped_by noted_world rule.Invptr))
       outside_good f =
           let low = same_le (pos 0) place (pos lo) z (omega (arith, ints, is)) in
           let high = same_le place room z (pos hi) (omega (arith, ints, is)) in
@@ -219,11 +219,11 @@ module _ {I : Type 0} {l : LatticeOf I} {n : IntegersOf I} {gamma : I → ℤ �
           rule_told l n flow s to after told noted_world rule.Invptr (ap (λ y. put_moved l flow row to (moved_to l n x y)) (met_is ∙ none) ∙ nothing_moved to (moved_to l n x None) refl) (λ there.
           pointing_violated _ _ _ _ _ (λ e. absurd (true≢false (sym e ∙ not_null))) (λ e. there) (λ e. Contains-append_left _ _ rule.Taintsink (sink_there e)) never)
 
-      by_bounds : (b : Bool) → (int_le (pos lo) z && int_le z (pos hi)) ≡ b → IsTold l n flow after told (giving s to (as_pointer (cond b (goes (into i (unsigned_abs z) lo hi) noted_world) (stopped_by noted_world rule.Invptr))))
+      by_bounds : (b : Bool) → (int_le (pos lo) z && int_le z (pos hi)) ≡ b → IsExact l n flow after told (giving s to (as_pointer (cond b (goes (into i (unsigned_abs z) lo hi) noted_world) (stopped_by noted_world rule.Invptr))))
       by_bounds true f = inside_good f
       by_bounds false f = outside_good f
 
-    life_good : (life : Life) (i offset lo hi : ℕ) (z : ℤ) → z ≡ (pos offset +ℤ (k *ℤ pos scale)) → life_at s.world.memory i ≡ life → TellsByLife n s.bases x life i offset lo hi → IsWithin s.world.memory i offset lo hi → IsTold l n flow after told (giving s to (as_pointer (unless noted_world (is_ended_life life) rule.Nullref (moved_into noted_world i z lo hi))))
+    life_good : (life : Life) (i offset lo hi : ℕ) (z : ℤ) → z ≡ (pos offset +ℤ (k *ℤ pos scale)) → life_at s.world.memory i ≡ life → ExactByLife n s.bases x life i offset lo hi → IsWithin s.world.memory i offset lo hi → IsExact l n flow after told (giving s to (as_pointer (unless noted_world (is_ended_life life) rule.Nullref (moved_into noted_world i z lo hi))))
     life_good live i offset lo hi z e now st inside = by_bounds i offset lo hi st now inside z e (int_le (pos lo) z && int_le z (pos hi)) refl
     life_good ended i offset lo hi z e now st inside = nowhere_good false true st
     life_good freed i offset lo hi z e now st inside = absurd st
@@ -231,11 +231,11 @@ module _ {I : Type 0} {l : LatticeOf I} {n : IntegersOf I} {gamma : I → ℤ �
   -- ---- the instruction
 
   module _ (to : ℕ) (few : to < flow.temps) (x : Pointers I) (by : I) (la : declared.Labels) (scale : ℕ) (back : Bool) (z : ℤ) (labels : Labels) (one : IsOne n by (directed back z)) (same : la ≡ as_set labels) where
-    shift_good : (at : MachinePointer) → TellsPointer n s.bases s.world.memory x at → IsPointerIn s.world.memory at → IsTold l n flow (put_moved l flow row to (shifted l n x by scale)) (shift_violations n x by la scale) (giving s to (as_pointer (shift_pointer scale back at z labels s.world)))
+    shift_good : (at : MachinePointer) → ExactPointer n s.bases s.world.memory x at → IsPointerIn s.world.memory at → IsExact l n flow (put_moved l flow row to (shifted l n x by scale)) (shift_violations n x by la scale) (giving s to (as_pointer (shift_pointer scale back at z labels s.world)))
     shift_good null st inside = nowhere_good to few x by la scale (directed back z) one labels same true false st
     shift_good (into i offset lo hi) st inside = life_good to few x by la scale (directed back z) one labels same (life_at s.world.memory i) i offset lo hi (pos offset +ℤ distance_of back z scale) (ap (λ y. pos offset +ℤ y) (distance_is back z scale)) refl st inside
 
-  pub shift_told : (to from : ℕ) (by : Amount) (scale : ℕ) (back : Bool) → fits_operation (names_of flow) (op.Shift to from by scale back) ≡ true → IsDefined (act_step (flow_view flow) (act (op.Shift to from by scale back)) s) → StepIsTold l n flow row (op.Shift to from by scale back) s
+  pub shift_told : (to from : ℕ) (by : Amount) (scale : ℕ) (back : Bool) → fits_operation (names_of flow) (op.Shift to from by scale back) ≡ true → IsDefined (act_step (flow_view flow) (act (op.Shift to from by scale back)) s) → StepIsExact l n flow row (op.Shift to from by scale back) s
   unfolding operate shift_step shift_by operation_violations
   shift_told to from by scale back fits d =
       let a = and_parts (has_temp (names_of flow) to) (has_temp (names_of flow) from && (has_amount (names_of flow) by && is_extent scale)) fits in
@@ -247,7 +247,7 @@ module _ {I : Type 0} {l : LatticeOf I} {n : IntegersOf I} {gamma : I → ℤ �
       amount_told _ _ by _ d (λ u su near d.
       pointer_told l n flow _ _ s to v s.world _ d (λ at g d.
       number_told l n flow _ _ s to u s.world _ d (λ z labels h d.
-      let k = subst (TellsScalar n s.bases s.world.memory y) h su in
+      let k = subst (ExactScalar n s.bases s.world.memory y) h su in
       shift_good to (ltb-true to flow.temps a.0) x.pointer (signed_amount l n y.num back) y.labels scale back z labels (signed_one back y.num z (near z labels h) k.number) k.labels_are at
-      (subst (TellsScalar n s.bases s.world.memory x) g (t.temps from v e)).points
+      (subst (ExactScalar n s.bases s.world.memory x) g (t.temps from v e)).points
       (r.stands_for.held.within from (pointer at) (e ∙ ap Some g)))))))

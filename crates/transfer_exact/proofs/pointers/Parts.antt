@@ -48,17 +48,17 @@ use Rattle.store_sound.specs.Programs.Premises.{HasPremises}
 use Rattle.transfer_sound.specs.Values.SoundSteps.{IsReached}
 use Rattle.transfer_sound.proofs.values.NearScalars.{near_offset, near_distance}
 use Rattle.transfer_exact.specs.Values.SingleNumbers.{IsOne}
-use Rattle.transfer_exact.specs.Values.SingleValues.{IsNowhere, IsIntoOne, TellsByLife, TellsPointer, TellsScalar}
-use Rattle.transfer_exact.specs.Values.SingleRows.{TellsState, IsPlainProgram}
-use Rattle.transfer_exact.specs.Values.SingleSteps.{IsDefined, IsTold, StepIsTold}
+use Rattle.transfer_exact.specs.Values.SingleValues.{IsNowhere, IsIntoOne, ExactByLife, ExactPointer, ExactScalar}
+use Rattle.transfer_exact.specs.Values.SingleRows.{ExactState, IsPlainProgram}
+use Rattle.transfer_exact.specs.Values.SingleSteps.{IsDefined, IsExact, StepIsExact}
 use Rattle.transfer_exact.proofs.values.Faults.{met_one, met_none}
-use Rattle.transfer_exact.proofs.values.NearTells.{near_one, near_none}
+use Rattle.transfer_exact.proofs.values.NearExact.{near_one, near_none}
 use Rattle.transfer_exact.proofs.values.Told.{if_some_told, pointer_told}
 use Rattle.transfer_exact.proofs.values.Violated.{AreViolated, pointing, pointing_violated, never}
 use Rattle.transfer_exact.proofs.places.OneBase.{not_empty, live_is, none_live, none_freed}
 use Rattle.transfer_exact.proofs.places.OneTouch.{one_range}
 use Rattle.transfer_exact.proofs.pointers.Addresses.{live_tells, one_is}
-use Rattle.transfer_exact.proofs.pointers.PointersTold.{rule_told, nothing_there, pointer_given}
+use Rattle.transfer_exact.proofs.pointers.PointersExact.{rule_told, nothing_there, pointer_given}
 
 or_true : (b : Bool) → (b || true) ≡ true
 or_true true = refl
@@ -73,7 +73,7 @@ within_is a b c h k = grind (arith, ints)
 too_far : (z c : ℤ) → (c +ℤ pos 1) ≤ℤ z → (int_le (pos 0) z && int_le z c) ≡ false
 too_far z c h = grind (arith, ints)
 
-module _ {I : Type 0} {l : LatticeOf I} {n : IntegersOf I} {gamma : I → ℤ → Type 0} (q : BoundLaws l n gamma) (flow : Flow) (p : HasPremises flow) (plain : IsPlainProgram flow) (naming : Naming) (row : List (Cell I)) (s : Standing) (r : IsReached l n gamma flow naming row s) (t : TellsState l n flow row (state_of s)) (x : Pointers I) (from size : ℕ) where
+module _ {I : Type 0} {l : LatticeOf I} {n : IntegersOf I} {gamma : I → ℤ → Type 0} (q : BoundLaws l n gamma) (flow : Flow) (p : HasPremises flow) (plain : IsPlainProgram flow) (naming : Naming) (row : List (Cell I)) (s : Standing) (r : IsReached l n gamma flow naming row s) (t : ExactState l n flow row (state_of s)) (x : Pointers I) (from size : ℕ) where
   abbrev bases : List BaseInfo
   bases = flow.bases.items
 
@@ -110,7 +110,7 @@ module _ {I : Type 0} {l : LatticeOf I} {n : IntegersOf I} {gamma : I → ℤ �
     violated_by : (a b : Bool) → (x.null || x.ended) ≡ a → (not (bases_empty live_set) && leaves_bounds n x from size) ≡ b → (rules : _) → AreViolated (pointing a b false false) rules → AreViolated part_told rules
     violated_by a b e f rules h = subst (λ z. AreViolated z rules) (sym (told_is ∙ ap₂ (λ u v. pointing u v false false) e f)) h
 
-    nowhere_good : (a b : Bool) → (a || b) ≡ true → IsNowhere x a b → IsTold l n flow (put_pointer l flow row to (narrowed l n part_rest from size)) part_told (giving s to (stopped_by s.world rule.Nullref))
+    nowhere_good : (a b : Bool) → (a || b) ≡ true → IsNowhere x a b → IsExact l n flow (put_pointer l flow row to (narrowed l n part_rest from size)) part_told (giving s to (stopped_by s.world rule.Nullref))
     nowhere_good a b some h =
         let set : live_set ≡ no_base = none_live bases x.bases h.bases l n row in
         let inside : inside_part ≡ no_pointer l = ap (λ z. touched_inside l n x z from size) set in
@@ -142,7 +142,7 @@ module _ {I : Type 0} {l : LatticeOf I} {n : IntegersOf I} {gamma : I → ℤ �
       leaves_is : leaves_bounds n x from size ≡ (int_lt (place +ℤ pos from) (pos 0) || int_lt room (place +ℤ pos (from + size)))
       leaves_is = ap₂ (λ a b. leaves_bounds_at (range_sum a (span_of from size)) b) h.relative h.room
 
-      outside_good : hi < (offset + from) + size → IsTold l n flow (put_pointer l flow row to (narrowed l n part_rest from size)) part_told (giving s to (stopped_by s.world rule.Invptr))
+      outside_good : hi < (offset + from) + size → IsExact l n flow (put_pointer l flow row to (narrowed l n part_rest from size)) part_told (giving s to (stopped_by s.world rule.Invptr))
       outside_good past =
           let none : places_within l n x from size ≡ l.least = ap (of_range l n) (met_is ∙ met_none place (pos 0) ((room -ℤ pos from) -ℤ pos size) (too_far place ((room -ℤ pos from) -ℤ pos size) (omega (arith, ints, past)))) in
           let out : (int_lt (place +ℤ pos from) (pos 0) || int_lt room (place +ℤ pos (from + size))) ≡ true = ap (λ z. int_lt (place +ℤ pos from) (pos 0) || z) (beyond room (place +ℤ pos (from + size)) (omega (arith, ints, past))) ∙ or_true (int_lt (place +ℤ pos from) (pos 0)) in
@@ -157,7 +157,7 @@ module _ {I : Type 0} {l : LatticeOf I} {n : IntegersOf I} {gamma : I → ℤ �
       abbrev reached : Pointers I
       reached = record x { bases = only_base h.base; rel = of_range l n (Some (place, place)); null = false; ended = false }
 
-      inside_good : (offset + from) + size ≤ hi → IsTold l n flow (put_pointer l flow row to (narrowed l n part_rest from size)) part_told (giving s to (goes (pointer (into i (offset + from) (offset + from) ((offset + from) + size))) s.world))
+      inside_good : (offset + from) + size ≤ hi → IsExact l n flow (put_pointer l flow row to (narrowed l n part_rest from size)) part_told (giving s to (goes (pointer (into i (offset + from) (offset + from) ((offset + from) + size))) s.world))
       inside_good below =
           let above = inside.above in
           let top = inside.within in
@@ -195,21 +195,21 @@ module _ {I : Type 0} {l : LatticeOf I} {n : IntegersOf I} {gamma : I → ℤ �
           (live_tells s.bases y (life_at s.world.memory i) i (offset + from) (offset + from) ((offset + from) + size) alive into_one) within refl (ap (put_pointer l flow row to) is)
           (violated_by false false not_null (ap₂ (λ a b. not a && b) some_live (leaves_is ∙ stays)) _ (pointing_violated _ _ _ _ _ never never never never))
 
-      by_bounds : (b : Bool) → (nat_le lo (offset + from) && nat_le ((offset + from) + size) hi) ≡ b → IsTold l n flow (put_pointer l flow row to (narrowed l n part_rest from size)) part_told (giving s to (as_pointer (behind (cond b (goes (record { instance = i; offset = offset + from }) s.world) (stopped_by s.world rule.Invptr)) (narrowed_by size))))
+      by_bounds : (b : Bool) → (nat_le lo (offset + from) && nat_le ((offset + from) + size) hi) ≡ b → IsExact l n flow (put_pointer l flow row to (narrowed l n part_rest from size)) part_told (giving s to (as_pointer (behind (cond b (goes (record { instance = i; offset = offset + from }) s.world) (stopped_by s.world rule.Invptr)) (narrowed_by size))))
       by_bounds true e = inside_good (leb-true ((offset + from) + size) hi (and_parts (nat_le lo (offset + from)) (nat_le ((offset + from) + size) hi) e).1)
       by_bounds false e = let a = inside.above in outside_good (past_end lo (offset + from) ((offset + from) + size) hi e (omega (arith, a)))
 
-    life_good : (life : Life) (i offset lo hi : ℕ) → life_at s.world.memory i ≡ life → TellsByLife n s.bases x life i offset lo hi → IsWithin s.world.memory i offset lo hi → IsTold l n flow (put_pointer l flow row to (narrowed l n part_rest from size)) part_told (giving s to (as_pointer (behind (touched_by s.world life i (offset + from) lo hi size false) (narrowed_by size))))
+    life_good : (life : Life) (i offset lo hi : ℕ) → life_at s.world.memory i ≡ life → ExactByLife n s.bases x life i offset lo hi → IsWithin s.world.memory i offset lo hi → IsExact l n flow (put_pointer l flow row to (narrowed l n part_rest from size)) part_told (giving s to (as_pointer (behind (touched_by s.world life i (offset + from) lo hi size false) (narrowed_by size))))
     life_good live i offset lo hi e st inside = by_bounds i offset lo hi st e inside (nat_le lo (offset + from) && nat_le ((offset + from) + size) hi) refl
     life_good ended i offset lo hi e st inside = nowhere_good false true refl st
     life_good freed i offset lo hi e st inside = absurd st
 
-    part_good : (at : MachinePointer) → TellsPointer n s.bases s.world.memory x at → IsPointerIn s.world.memory at → IsTold l n flow (put_pointer l flow row to (narrowed l n part_rest from size)) part_told (giving s to (as_pointer (narrow_pointer from size at s.world)))
+    part_good : (at : MachinePointer) → ExactPointer n s.bases s.world.memory x at → IsPointerIn s.world.memory at → IsExact l n flow (put_pointer l flow row to (narrowed l n part_rest from size)) part_told (giving s to (as_pointer (narrow_pointer from size at s.world)))
     part_good null st inside = nowhere_good true false refl st
     part_good (into i offset lo hi) st inside = life_good (life_at s.world.memory i) i offset lo hi refl st inside
 
-module _ {I : Type 0} {l : LatticeOf I} {n : IntegersOf I} {gamma : I → ℤ → Type 0} (q : BoundLaws l n gamma) (flow : Flow) (p : HasPremises flow) (plain : IsPlainProgram flow) (naming : Naming) (row : List (Cell I)) (s : Standing) (r : IsReached l n gamma flow naming row s) (t : TellsState l n flow row (state_of s)) where
-  pub narrow_told : (to from offset size : ℕ) → fits_operation (names_of flow) (op.Narrow to from offset size) ≡ true → IsDefined (act_step (flow_view flow) (act (op.Narrow to from offset size)) s) → StepIsTold l n flow row (op.Narrow to from offset size) s
+module _ {I : Type 0} {l : LatticeOf I} {n : IntegersOf I} {gamma : I → ℤ → Type 0} (q : BoundLaws l n gamma) (flow : Flow) (p : HasPremises flow) (plain : IsPlainProgram flow) (naming : Naming) (row : List (Cell I)) (s : Standing) (r : IsReached l n gamma flow naming row s) (t : ExactState l n flow row (state_of s)) where
+  pub narrow_told : (to from offset size : ℕ) → fits_operation (names_of flow) (op.Narrow to from offset size) ≡ true → IsDefined (act_step (flow_view flow) (act (op.Narrow to from offset size)) s) → StepIsExact l n flow row (op.Narrow to from offset size) s
   unfolding operate narrow_step narrow_touched operation_violations
   narrow_told to from offset size fits d =
       let a = and_parts (has_temp (names_of flow) to) (has_temp (names_of flow) from && (is_extent offset && is_extent size)) fits in
@@ -221,5 +221,5 @@ module _ {I : Type 0} {l : LatticeOf I} {n : IntegersOf I} {gamma : I → ℤ �
       rw (short, small) (if_some_told l n flow _ _ s (s.temps from) _ d (λ v e d.
       pointer_told l n flow _ _ s to v s.world _ d (λ at g d.
       part_good q flow p plain naming row s r t x offset size to (ltb-true to flow.temps a.0) at
-      (subst (TellsScalar n s.bases s.world.memory (temp_value l n flow row from)) g (t.temps from v e)).points
+      (subst (ExactScalar n s.bases s.world.memory (temp_value l n flow row from)) g (t.temps from v e)).points
       (r.stands_for.held.within from (pointer at) (e ∙ ap Some g)))))

@@ -19,15 +19,15 @@ use Rattle.store_sound.specs.Concretization.Coverage.{state_of}
 use Rattle.store_sound.specs.Programs.Premises.{HasPremises}
 use Rattle.transfer_sound.specs.Values.SoundSteps.{IsReached}
 use Rattle.transfer_exact.specs.Values.ExactNumbers.{ExactLaws}
-use Rattle.transfer_exact.specs.Values.SingleRows.{TellsState, IsPlainProgram}
-use Rattle.transfer_exact.specs.Values.SingleSteps.{IsDefined, StepIsTold}
+use Rattle.transfer_exact.specs.Values.SingleRows.{ExactState, IsPlainProgram}
+use Rattle.transfer_exact.specs.Values.SingleSteps.{IsDefined, StepIsExact}
 use Rattle.transfer_exact.proofs.pointers.Addresses.{address_told}
 use Rattle.transfer_exact.proofs.pointers.Comparisons.{difference_told, relation_told}
 use Rattle.transfer_exact.proofs.pointers.Moves.{shift_told}
 use Rattle.transfer_exact.proofs.pointers.Parts.{narrow_told}
 
-module _ {I : Type 0} {l : LatticeOf I} {n : IntegersOf I} {gamma : I → ℤ → Type 0} (q : BoundLaws l n gamma) (ex : ExactLaws n) (flow : Flow) (p : HasPremises flow) (plain : IsPlainProgram flow) (naming : Naming) (row : List (Cell I)) (s : Standing) (r : IsReached l n gamma flow naming row s) (t : TellsState l n flow row (state_of s)) where
-  pub pointer_step_told : (o : Operation) → is_on_pointers o ≡ true → fits_operation (names_of flow) o ≡ true → IsDefined (act_step (flow_view flow) (act o) s) → StepIsTold l n flow row o s
+module _ {I : Type 0} {l : LatticeOf I} {n : IntegersOf I} {gamma : I → ℤ → Type 0} (q : BoundLaws l n gamma) (ex : ExactLaws n) (flow : Flow) (p : HasPremises flow) (plain : IsPlainProgram flow) (naming : Naming) (row : List (Cell I)) (s : Standing) (r : IsReached l n gamma flow naming row s) (t : ExactState l n flow row (state_of s)) where
+  pub pointer_step_told : (o : Operation) → is_on_pointers o ≡ true → fits_operation (names_of flow) o ≡ true → IsDefined (act_step (flow_view flow) (act o) s) → StepIsExact l n flow row o s
   pointer_step_told (op.Address to base offset) is fits d = address_told q flow p naming row s r t to base offset fits d
   pointer_step_told (op.Narrow to from offset size) is fits d = narrow_told q flow p plain naming row s r t to from offset size fits d
   pointer_step_told (op.Shift to from by scale back) is fits d = shift_told q flow p naming row s r t to from by scale back fits d

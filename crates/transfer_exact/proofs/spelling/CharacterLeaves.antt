@@ -23,8 +23,8 @@ use Rattle.store_sound.specs.Concretization.Matching.{Matched}
 use Rattle.store_sound.specs.Concretization.RowMeaning.{MachineState}
 use Rattle.transfer_sound.proofs.values.NearScalars.{IsNearNumber}
 use Rattle.struct_copies_sound.proofs.Texts.{byte_small, one_number}
-use Rattle.transfer_exact.specs.Values.SingleRows.{TellsLeaf}
-use Rattle.transfer_exact.proofs.values.NearTells.{near_one}
+use Rattle.transfer_exact.specs.Values.SingleRows.{ExactLeaf}
+use Rattle.transfer_exact.proofs.values.NearExact.{near_one}
 
 -- a tag of a byte of a class is that of a character for characters alone
 pub tag_of_character : (class : Class) (k : ℕ) → tag_of class k ≡ tag_of Char 0 → (class ≡ Char) × (k ≡ 0)
@@ -58,7 +58,7 @@ module _ {I : Type 0} {l : LatticeOf I} {n : IntegersOf I} {gamma : I → ℤ �
       (λ g. record { from = omega (arith, ints); to = omega (arith, ints, below) })
       (λ g. record { from = omega (arith, ints); to = omega (arith, ints, below) })
 
-  pub character_leaf : TellsLeaf l n flow state (near_value l n (one_character l n leaf offset text)) i leaf.offset leaf
+  pub character_leaf : ExactLeaf l n flow state (near_value l n (one_character l n leaf offset text)) i leaf.offset leaf
   unfolding one_character
   character_leaf = record {
     held = Some (integer (character_number byte leaf.signed) no_labels);

@@ -37,7 +37,7 @@ use Rattle.struct_copies_sound.proofs.leaves.Structs.{owned_at}
 use Rattle.struct_copies_sound.specs.SpellSteps.{SpellsBytes}
 use Rattle.struct_copies_sound.proofs.Texts.{contents, contents_long, content_is}
 use Rattle.struct_copies_sound.proofs.SpelledZeros.{ends_inside}
-use Rattle.transfer_exact.specs.Values.SingleRows.{IsPlainProgram, TellsLeaf}
+use Rattle.transfer_exact.specs.Values.SingleRows.{IsPlainProgram, ExactLeaf}
 use Rattle.transfer_exact.proofs.places.HeldReads.{inside}
 use Rattle.transfer_exact.proofs.places.OneLeaf.{owned}
 use Rattle.transfer_exact.specs.Accesses.TypedAccesses.{HasObjects}
@@ -101,10 +101,10 @@ module _ {I : Type 0} {l : LatticeOf I} {n : IntegersOf I} {gamma : I → ℤ �
   wide = let k = p.laid.laid.close b info at in let far = p.laid.long in omega (arith, k, far, long)
 
   -- the row tells the object's leaves
-  abbrev pub AreTold : List (Cell I) → MachineState → Type 0
-  AreTold of in_state = (j : ℕ) (leaf : Leaf) → slice_get info.shape.cells j ≡ Some leaf → TellsLeaf l n flow in_state (value_at l n of (leaf_position info j)) i leaf.offset leaf
+  abbrev pub AreExact : List (Cell I) → MachineState → Type 0
+  AreExact of in_state = (j : ℕ) (leaf : Leaf) → slice_get info.shape.cells j ≡ Some leaf → ExactLeaf l n flow in_state (value_at l n of (leaf_position info j)) i leaf.offset leaf
 
-  module _ (told : AreTold row state) (j : ℕ) (leaf : Leaf) (e : slice_get info.shape.cells j ≡ Some leaf) where
+  module _ (told : AreExact row state) (j : ℕ) (leaf : Leaf) (e : slice_get info.shape.cells j ≡ Some leaf) where
     stride : 0 < leaf.stride
     stride = let f = ((objects b info at).plain j leaf e).fits in let a = class_above flow.model leaf.class in omega (arith, f, a)
 
@@ -164,10 +164,10 @@ module _ {I : Type 0} {l : LatticeOf I} {n : IntegersOf I} {gamma : I → ℤ �
           fits = (refl, refl);
         }
 
-    own_leaf : IsIn → TellsLeaf l n flow behind (near_value l n (one_character l n leaf offset text)) i leaf.offset leaf
+    own_leaf : IsIn → ExactLeaf l n flow behind (near_value l n (one_character l n leaf offset text)) i leaf.offset leaf
     own_leaf w = character_leaf q flow behind i leaf offset text h.bytes w.class (own_byte w)
 
-    unspelled_leaf : is_spelled leaf offset count ≡ false → TellsLeaf l n flow behind (value_at l n row (leaf_position info j)) i leaf.offset leaf
+    unspelled_leaf : is_spelled leaf offset count ≡ false → ExactLeaf l n flow behind (value_at l n row (leaf_position info j)) i leaf.offset leaf
     unspelled_leaf none =
         let c = single j leaf e in
         let was = told j leaf e in
@@ -181,9 +181,9 @@ module _ {I : Type 0} {l : LatticeOf I} {n : IntegersOf I} {gamma : I → ℤ �
           tells = held_moves n state.entered old new written.region.lives (value_at l n row (leaf_position info j)) was.held was.tells;
         }
 
-    by_spelled : (y : Bool) → is_spelled leaf offset count ≡ y → TellsLeaf l n flow behind (cond y (near_value l n (one_character l n leaf offset text)) (value_at l n row (leaf_position info j))) i leaf.offset leaf
+    by_spelled : (y : Bool) → is_spelled leaf offset count ≡ y → ExactLeaf l n flow behind (cond y (near_value l n (one_character l n leaf offset text)) (value_at l n row (leaf_position info j))) i leaf.offset leaf
     by_spelled true g = own_leaf (is_in g)
     by_spelled false g = unspelled_leaf g
 
-    pub spelled_leaves : TellsLeaf l n flow behind (value_at l n after (leaf_position info j)) i leaf.offset leaf
-    spelled_leaves = subst (λ z. TellsLeaf l n flow behind z i leaf.offset leaf) (sym (spelled_value l n flow info fits offset room text row wide j leaf e (single j leaf e) (is_spelled leaf offset count) refl)) (by_spelled (is_spelled leaf offset count) refl)
+    pub spelled_leaves : ExactLeaf l n flow behind (value_at l n after (leaf_position info j)) i leaf.offset leaf
+    spelled_leaves = subst (λ z. ExactLeaf l n flow behind z i leaf.offset leaf) (sym (spelled_value l n flow info fits offset room text row wide j leaf e (single j leaf e) (is_spelled leaf offset count) refl)) (by_spelled (is_spelled leaf offset count) refl)

@@ -40,7 +40,7 @@ use Rattle.transfer_sound.specs.Tests.ScalarObjects.{IsScalarObject}
 use Rattle.transfer_sound.proofs.tests.Relabelling.{side_change}
 use Rattle.transfer_exact.specs.Values.ExactNumbers.{ExactLaws}
 use Rattle.transfer_exact.specs.Values.SingleNumbers.{IsOne}
-use Rattle.transfer_exact.specs.Values.SingleRows.{HoldsNumber, TellsState}
+use Rattle.transfer_exact.specs.Values.SingleRows.{HoldsNumber, ExactState}
 use Rattle.transfer_exact.proofs.edges.RelabelledObjects.{IsNumberHeld, number_held}
 
 -- ---- labels
@@ -112,11 +112,11 @@ module _ {I : Type 0} {l : LatticeOf I} {n : IntegersOf I} {gamma : I → ℤ �
 
 module _ {I : Type 0} {l : LatticeOf I} {n : IntegersOf I} {gamma : I → ℤ → Type 0} (q : BoundLaws l n gamma) (flow : Flow) (p : HasPremises flow) (naming : Naming) (temps : ℕ → Option Scalar) (entered : ℕ → Option ℕ) (names : (d j : ℕ) → entered d ≡ Some j → naming j ≡ Some d) where
   -- a value is the number of a side, and has its labels alone
-  pub record TellsSide (memory : Memory) (v : values.Value I) (ts : TestedSide) (a : ℤ) : Type 0 where
+  pub record ExactSide (memory : Memory) (v : values.Value I) (ts : TestedSide) (a : ℤ) : Type 0 where
     pub number : IsOne n v.num a
     pub labels : v.labels ≡ as_set (side_labels flow.model memory ts)
 
-  module _ (row : List (Cell I)) (long : length row ≡ flow.width) (memory : Memory) (st : TellsState l n flow row (record { memory = memory; temps = temps; entered = entered })) where
+  module _ (row : List (Cell I)) (long : length row ≡ flow.width) (memory : Memory) (st : ExactState l n flow row (record { memory = memory; temps = temps; entered = entered })) where
     abbrev state : MachineState
     state = record { memory = memory; temps = temps; entered = entered }
 
@@ -155,7 +155,7 @@ module _ {I : Type 0} {l : LatticeOf I} {n : IntegersOf I} {gamma : I → ℤ �
               same_byte : (x y : Byte) → Some x ≡ Some y → x ≡ y
               same_byte x y e = cc
 
-      pub object_tells : (a : ℤ) → gamma (side_value l n flow row (side.Object b kind)).num a → TellsSide memory (side_value l n flow row (side.Object b kind)) (object i kind) a
+      pub object_tells : (a : ℤ) → gamma (side_value l n flow row (side.Object b kind)).num a → ExactSide memory (side_value l n flow row (side.Object b kind)) (object i kind) a
       object_tells a h =
           let k = held a h in
-          subst (λ z. TellsSide memory z (object i kind) a) (sym value_is) (record { number = k.tells.number; labels = k.tells.labels_are ∙ ap as_set (sym (labels_all a k.la k.holds)) })
+          subst (λ z. ExactSide memory z (object i kind) a) (sym value_is) (record { number = k.tells.number; labels = k.tells.labels_are ∙ ap as_set (sym (labels_all a k.la k.holds)) })

@@ -44,9 +44,9 @@ use Rattle.transfer_sound.proofs.tests.TestSides.{tested, IsSeen}
 use Rattle.transfer_sound.proofs.tests.TestSteps.{BothIntegers, both_integers, mirrored_holds, turned_is, object_has}
 use Rattle.transfer_exact.specs.Values.ExactNumbers.{ExactLaws}
 use Rattle.transfer_exact.specs.Values.SingleNumbers.{IsOne}
-use Rattle.transfer_exact.specs.Values.SingleRows.{TellsState}
-use Rattle.transfer_exact.specs.Values.SingleSteps.{IsDefined, TellsBehind, IsTold}
-use Rattle.transfer_exact.proofs.values.NearTells.{near_one}
+use Rattle.transfer_exact.specs.Values.SingleRows.{ExactState}
+use Rattle.transfer_exact.specs.Values.SingleSteps.{IsDefined, ExactAfter, IsExact}
+use Rattle.transfer_exact.proofs.values.NearExact.{near_one}
 use Rattle.transfer_exact.proofs.values.Told.{if_some_told}
 use Rattle.transfer_exact.proofs.values.Violated.{none_violated}
 use Rattle.transfer_exact.proofs.edges.CaseTests.{met_one}
@@ -98,13 +98,13 @@ own_exact rel k la = labels_exact rel k la la ∙ ap as_set (own_change rel k la
 one_some : {I : Type 0} (n : IntegersOf I) (x : I) (a : ℤ) → IsOne n x a → is_some (n.bounds x) ≡ true
 one_some n x a e = ap is_some e
 
-module _ {I : Type 0} {l : LatticeOf I} {n : IntegersOf I} {gamma : I → ℤ → Type 0} (o : OrderLaws l) (q : BoundLaws l n gamma) (c : SoundLaws l n gamma) (exact : ExactLaws n) (flow : Flow) (p : HasPremises flow) (naming : Naming) (row : List (Cell I)) (s : Standing) (r : IsReached l n gamma flow naming row s) (st : TellsState l n flow row (state_of s)) where
+module _ {I : Type 0} {l : LatticeOf I} {n : IntegersOf I} {gamma : I → ℤ → Type 0} (o : OrderLaws l) (q : BoundLaws l n gamma) (c : SoundLaws l n gamma) (exact : ExactLaws n) (flow : Flow) (p : HasPremises flow) (naming : Naming) (row : List (Cell I)) (s : Standing) (r : IsReached l n gamma flow naming row s) (st : ExactState l n flow row (state_of s)) where
   abbrev memory : Memory
   memory = s.world.memory
 
   -- ---- the run goes on where the test agrees with memory
 
-  passing_told : (goal : Option (List (Cell I))) (after : Memory) (b : Bool) → (b ≡ true → TellsBehind l n flow goal (record s { world = with_memory s.world after })) → IsDefined (in_world s (passing b (with_memory s.world after))) → IsTold l n flow goal no_violations (in_world s (passing b (with_memory s.world after)))
+  passing_told : (goal : Option (List (Cell I))) (after : Memory) (b : Bool) → (b ≡ true → ExactAfter l n flow goal (record s { world = with_memory s.world after })) → IsDefined (in_world s (passing b (with_memory s.world after))) → IsExact l n flow goal no_violations (in_world s (passing b (with_memory s.world after)))
   passing_told goal after false h d = absurd (d (with_memory s.world after) refl)
   passing_told goal after true h d = record {
     goes_on = λ y u f.
@@ -112,12 +112,12 @@ module _ {I : Type 0} {l : LatticeOf I} {n : IntegersOf I} {gamma : I → ℤ �
         let now : Standing = record s { world = new } in
         let a : now ≡ y = cc in
         let g : new ≡ u = cc in
-        subst (λ z. TellsBehind l n flow goal (record z { world = u })) a (subst (λ z. TellsBehind l n flow goal (record now { world = z })) g (h refl));
+        subst (λ z. ExactAfter l n flow goal (record z { world = u })) a (subst (λ z. ExactAfter l n flow goal (record now { world = z })) g (h refl));
     ends = λ why u f. cc;
     violated = none_violated s.world.violated;
   }
 
-  side_told : (goal : Option (List (Cell I))) (x : Side) → NamesScalar flow x → (use_it : TestedSide → Reply Standing) → IsDefined (with_side s x use_it) → ((i : ℕ) → IsSeen flow s.bases x i → IsDefined (use_it (tested x i)) → IsTold l n flow goal no_violations (use_it (tested x i))) → IsTold l n flow goal no_violations (with_side s x use_it)
+  side_told : (goal : Option (List (Cell I))) (x : Side) → NamesScalar flow x → (use_it : TestedSide → Reply Standing) → IsDefined (with_side s x use_it) → ((i : ℕ) → IsSeen flow s.bases x i → IsDefined (use_it (tested x i)) → IsExact l n flow goal no_violations (use_it (tested x i))) → IsExact l n flow goal no_violations (with_side s x use_it)
   side_told goal (side.Object b kind) t use_it d h = if_some_told l n flow goal no_violations s (s.bases b) (λ i. use_it (object i kind)) d (λ i e d. h i (t, e) d)
   side_told goal (side.Number z) t use_it d h = h 0 t d
   side_told goal side.Null t use_it d h = h 0 tt d
@@ -185,7 +185,7 @@ module _ {I : Type 0} {l : LatticeOf I} {n : IntegersOf I} {gamma : I → ℤ �
       abbrev behind_row : List (Cell I)
       behind_row = put_side flow test.right new_right middle
 
-      both_behind : test_holds flow.model memory this ≡ true → TellsBehind l n flow (refine_in l n flow test (Some k) row) (record s { world = with_memory s.world after })
+      both_behind : test_holds flow.model memory this ≡ true → ExactAfter l n flow (refine_in l n flow test (Some k) row) (record s { world = with_memory s.world after })
       unfolding refine_integers refine_values refine_sides refine_two
       both_behind h =
           let b = both_integers test.rel k (side_scalar flow.model memory (tested test.left i)) (side_scalar flow.model memory (tested test.right j)) h in
@@ -206,8 +206,8 @@ module _ {I : Type 0} {l : LatticeOf I} {n : IntegersOf I} {gamma : I → ℤ �
           record {
             row = behind_row;
             is = is;
-            tells = subst (λ z. TellsState l n flow z (record { memory = after; temps = s.temps; entered = s.bases })) rows
-                (subst (λ z. TellsState l n flow (put_side flow test.right (refined n (side_value l n flow middle test.right) (mirrored test.rel) v k) middle) (record { memory = z; temps = s.temps; entered = s.bases })) memories second.ready.tells);
+            tells = subst (λ z. ExactState l n flow z (record { memory = after; temps = s.temps; entered = s.bases })) rows
+                (subst (λ z. ExactState l n flow (put_side flow test.right (refined n (side_value l n flow middle test.right) (mirrored test.rel) v k) middle) (record { memory = z; temps = s.temps; entered = s.bases })) memories second.ready.tells);
           }
 
   -- ---- an object with itself
@@ -319,7 +319,7 @@ module _ {I : Type 0} {l : LatticeOf I} {n : IntegersOf I} {gamma : I → ℤ �
           (bounded_there q flow p naming s.temps s.bases names row memory ready b i kl left en test.rel k right_labels)
           (bounded_there q flow p naming s.temps s.bases names _ between_one first_turn.ready b i kr right en (machine.turned test.rel) k left_labels)
 
-      own_tells : TellsState l n flow own_row (record { memory = after_one; temps = s.temps; entered = s.bases })
+      own_tells : ExactState l n flow own_row (record { memory = after_one; temps = s.temps; entered = s.bases })
       own_tells = relabelled_tells q flow p naming row r.long (state_of s) names st b i kl left en after_one (λ z. side_change (is_unlabelled left_labels) (machine.turned test.rel) k (side_change (is_unlabelled right_labels) test.rel k z)) relabels both.a held
           (met l n once again).num (met l n once again).labels met_is (met_labels ∙ ap as_set (sym labels_stay))
 
@@ -330,7 +330,7 @@ module _ {I : Type 0} {l : LatticeOf I} {n : IntegersOf I} {gamma : I → ℤ �
           let one : (b == b) ≡ true = eq-eqb b b refl in
           rw (left.is, one) (ap (λ z. cond z (Some own_row) None) some)
 
-      one_behind : TellsBehind l n flow (refine_in l n flow own_test (Some k) row) (record s { world = with_memory s.world after_one })
+      one_behind : ExactAfter l n flow (refine_in l n flow own_test (Some k) row) (record s { world = with_memory s.world after_one })
       one_behind = record { row = own_row; is = row_is; tells = own_tells }
 
   -- ---- tests
@@ -345,31 +345,31 @@ module _ {I : Type 0} {l : LatticeOf I} {n : IntegersOf I} {gamma : I → ℤ �
     abbrev asked : Side → Side → Reply Standing
     asked x y = with_side s x (λ left. with_side s y (λ right. behind_test left right))
 
-    own_told : (b i : ℕ) (kl kr : declared.Scalar) (left : IsScalarObject flow b kl) (right : IsScalarObject flow b kr) → s.bases b ≡ Some i → IsDefined (behind_test (object i kl) (object i kr)) → IsTold l n flow (refined_row (side.Object b kl) (side.Object b kr)) no_violations (behind_test (object i kl) (object i kr))
+    own_told : (b i : ℕ) (kl kr : declared.Scalar) (left : IsScalarObject flow b kl) (right : IsScalarObject flow b kr) → s.bases b ≡ Some i → IsDefined (behind_test (object i kl) (object i kr)) → IsExact l n flow (refined_row (side.Object b kl) (side.Object b kr)) no_violations (behind_test (object i kl) (object i kr))
     own_told b i kl kr left right en d = passing_told (refined_row (side.Object b kl) (side.Object b kr)) (after_one test k size b i kl kr left right en) (test_holds flow.model memory (this_one test k size b i kl kr left right en)) (one_behind test k size b i kl kr left right en) d
 
-    same_object_told : (x y : Side) → is_same_object x y ≡ true → NamesScalar flow x → NamesScalar flow y → IsDefined (asked x y) → IsTold l n flow (refined_row x y) no_violations (asked x y)
+    same_object_told : (x y : Side) → is_same_object x y ≡ true → NamesScalar flow x → NamesScalar flow y → IsDefined (asked x y) → IsExact l n flow (refined_row x y) no_violations (asked x y)
     same_object_told (side.Number z) y h f g d = absurd (true≢false (sym h))
     same_object_told side.Null y h f g d = absurd (true≢false (sym h))
     same_object_told (side.Object b kl) (side.Number z) h f g d = absurd (true≢false (sym h))
     same_object_told (side.Object b kl) side.Null h f g d = absurd (true≢false (sym h))
     same_object_told (side.Object b kl) (side.Object d kr) h f g def =
         let e : b ≡ d = eqb-true b d h in
-        subst (λ z. NamesScalar flow (side.Object z kr) → IsDefined (asked (side.Object b kl) (side.Object z kr)) → IsTold l n flow (refined_row (side.Object b kl) (side.Object z kr)) no_violations (asked (side.Object b kl) (side.Object z kr))) e
+        subst (λ z. NamesScalar flow (side.Object z kr) → IsDefined (asked (side.Object b kl) (side.Object z kr)) → IsExact l n flow (refined_row (side.Object b kl) (side.Object z kr)) no_violations (asked (side.Object b kl) (side.Object z kr))) e
         (λ right def. side_told (refined_row (side.Object b kl) (side.Object b kr)) (side.Object b kl) f (λ x. with_side s (side.Object b kr) (λ y. behind_test x y)) def (λ i one def.
         side_told (refined_row (side.Object b kl) (side.Object b kr)) (side.Object b kr) right (λ y. behind_test (object i kl) y) def (λ j two def.
         let same : i ≡ j = same_Some i j (sym one.1 ∙ two.1) in
-        subst (λ z. IsDefined (behind_test (object i kl) (object z kr)) → IsTold l n flow (refined_row (side.Object b kl) (side.Object b kr)) no_violations (behind_test (object i kl) (object z kr))) same (own_told b i kl kr one.0 two.0 one.1) def))) g def
+        subst (λ z. IsDefined (behind_test (object i kl) (object z kr)) → IsExact l n flow (refined_row (side.Object b kl) (side.Object b kr)) no_violations (behind_test (object i kl) (object z kr))) same (own_told b i kl kr one.0 two.0 one.1) def))) g def
 
-    sides_told : is_same_object test.left test.right ≡ false → NamesScalar flow test.left → NamesScalar flow test.right → IsDefined (asked test.left test.right) → IsTold l n flow (refined_row test.left test.right) no_violations (asked test.left test.right)
+    sides_told : is_same_object test.left test.right ≡ false → NamesScalar flow test.left → NamesScalar flow test.right → IsDefined (asked test.left test.right) → IsExact l n flow (refined_row test.left test.right) no_violations (asked test.left test.right)
     sides_told apart f g d =
         side_told (refined_row test.left test.right) test.left f (λ x. with_side s test.right (λ y. behind_test x y)) d (λ i left d.
         side_told (refined_row test.left test.right) test.right g (λ y. behind_test (tested test.left i) y) d (λ j right d.
         passing_told (refined_row test.left test.right) (after test k size apart i j left right) (test_holds flow.model memory (this test k size apart i j left right)) (both_behind test k size apart i j left right) d))
 
-  pub integer_test_told : (test : Test) → IsIntegerTest flow test → IsDefined (testing (flow_view flow) s (Some test)) → IsTold l n flow (refine l n flow test row) no_violations (testing (flow_view flow) s (Some test))
+  pub integer_test_told : (test : Test) → IsIntegerTest flow test → IsDefined (testing (flow_view flow) s (Some test)) → IsExact l n flow (refine l n flow test row) no_violations (testing (flow_view flow) s (Some test))
   unfolding refine
-  integer_test_told test t = subst (λ z. IsDefined (with_side s test.left (λ left. with_side s test.right (λ right. in_world s (machine.pass_test flow.model (record { left = left; rel = test.rel; right = right; common = z }) s.world)))) → IsTold l n flow (refine_in l n flow test z row) no_violations (with_side s test.left (λ left. with_side s test.right (λ right. in_world s (machine.pass_test flow.model (record { left = left; rel = test.rel; right = right; common = z }) s.world))))) (sym t.is)
+  integer_test_told test t = subst (λ z. IsDefined (with_side s test.left (λ left. with_side s test.right (λ right. in_world s (machine.pass_test flow.model (record { left = left; rel = test.rel; right = right; common = z }) s.world)))) → IsExact l n flow (refine_in l n flow test z row) no_violations (with_side s test.left (λ left. with_side s test.right (λ right. in_world s (machine.pass_test flow.model (record { left = left; rel = test.rel; right = right; common = z }) s.world))))) (sym t.is)
       (λ d. elim (cases_Bool (is_same_object test.left test.right)) [
         | inl same ↦ same_object_told test t.common t.size test.left test.right same t.left t.right d
         | inr apart ↦ sides_told test t.common t.size apart t.left t.right d

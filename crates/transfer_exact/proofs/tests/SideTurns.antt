@@ -34,7 +34,7 @@ use Rattle.transfer_sound.specs.Tests.ScalarObjects.{IsScalarObject}
 use Rattle.transfer_sound.proofs.tests.Relabelling.{IsRelabelling, side_change, bounded_relabels}
 use Rattle.transfer_sound.proofs.tests.TestSides.{tested, IsSeen}
 use Rattle.transfer_exact.specs.Values.SingleNumbers.{IsOne}
-use Rattle.transfer_exact.specs.Values.SingleRows.{TellsState}
+use Rattle.transfer_exact.specs.Values.SingleRows.{ExactState}
 use Rattle.transfer_exact.proofs.tests.IntegerSides.{labels_exact, bounded_constant}
 use Rattle.transfer_exact.proofs.edges.RelabelledObjects.{IsNumberHeld, number_held, relabelled_tells}
 
@@ -49,7 +49,7 @@ module _ {I : Type 0} {l : LatticeOf I} {n : IntegersOf I} {gamma : I → ℤ �
   -- a row and memory that a side can be refined in
   pub record IsReady (row : List (Cell I)) (memory : Memory) : Type 0 where
     pub long : length row ≡ flow.width
-    pub tells : TellsState l n flow row (record { memory = memory; temps = temps; entered = entered })
+    pub tells : ExactState l n flow row (record { memory = memory; temps = temps; entered = entered })
     pub alive : (b i : ℕ) → entered b ≡ Some i → life_at memory i ≡ live
     pub whole : (b i : ℕ) (kind : _) (t : IsScalarObject flow b kind) → entered b ≡ Some i → length (bytes_at memory i) ≡ class_bytes flow.model t.leaf.class
 

@@ -20,14 +20,14 @@ use Rattle.store_sound.specs.Concretization.ValueMeaning.{Naming}
 use Rattle.store_sound.specs.Concretization.Coverage.{state_of}
 use Rattle.store_sound.specs.Programs.Premises.{HasPremises}
 use Rattle.transfer_sound.specs.Values.SoundSteps.{IsReached}
-use Rattle.transfer_exact.specs.Values.SingleRows.{TellsState}
-use Rattle.transfer_exact.specs.Values.SingleSteps.{IsDefined, TellsBehind, IsTold}
+use Rattle.transfer_exact.specs.Values.SingleRows.{ExactState}
+use Rattle.transfer_exact.specs.Values.SingleSteps.{IsDefined, ExactAfter, IsExact}
 use Rattle.transfer_exact.proofs.values.Violated.{AreViolated}
-use Rattle.transfer_exact.proofs.values.PutTells.{IsToldResult, put_tells}
+use Rattle.transfer_exact.proofs.values.PutExact.{IsExactResult, put_tells}
 
 module _ {I : Type 0} (l : LatticeOf I) (n : IntegersOf I) (flow : Flow) (after : Option (List (Cell I))) (admitted : Violations) where
   abbrev Told : Reply Standing → Type 0
-  Told reply = IsTold l n flow after admitted reply
+  Told reply = IsExact l n flow after admitted reply
 
   -- where the run stops there is no row
   pub stop_told : (why : Why) (w : World) → after ≡ None → AreViolated admitted w.violated → Told (stops why w)
@@ -47,27 +47,27 @@ module _ {I : Type 0} (l : LatticeOf I) (n : IntegersOf I) (flow : Flow) (after 
   pointer_told s to (integer z labels) w use_it d h = absurd (d w refl)
   pointer_told s to (pointer p) w use_it d h = h p refl d
 
-module _ {I : Type 0} {l : LatticeOf I} {n : IntegersOf I} {gamma : I → ℤ → Type 0} (q : BoundLaws l n gamma) (flow : Flow) (p : HasPremises flow) (naming : Naming) (row : List (Cell I)) (s : Standing) (r : IsReached l n gamma flow naming row s) (t : TellsState l n flow row (state_of s)) where
+module _ {I : Type 0} {l : LatticeOf I} {n : IntegersOf I} {gamma : I → ℤ → Type 0} (q : BoundLaws l n gamma) (flow : Flow) (p : HasPremises flow) (naming : Naming) (row : List (Cell I)) (s : Standing) (r : IsReached l n gamma flow naming row s) (t : ExactState l n flow row (state_of s)) where
   -- the standing behind an instruction that gives something
   abbrev standing_behind : ℕ → Scalar → World → Standing
   standing_behind to v w = record s { at = suc s.at; temps = put_at s.temps to v; world = w }
 
-  module _ (to : ℕ) (few : to < flow.temps) (x : Value I) (v : Scalar) (w : World) (result : IsToldResult q flow p s.bases s.world.memory x v) (same : w.memory ≡ s.world.memory) where
-    given_tells : TellsState l n flow (put_temp flow row to x) (record { memory = w.memory; temps = put_at s.temps to v; entered = s.bases })
-    given_tells = subst (λ m. TellsState l n flow (put_temp flow row to x) (record { memory = m; temps = put_at s.temps to v; entered = s.bases })) (sym same)
+  module _ (to : ℕ) (few : to < flow.temps) (x : Value I) (v : Scalar) (w : World) (result : IsExactResult q flow p s.bases s.world.memory x v) (same : w.memory ≡ s.world.memory) where
+    given_tells : ExactState l n flow (put_temp flow row to x) (record { memory = w.memory; temps = put_at s.temps to v; entered = s.bases })
+    given_tells = subst (λ m. ExactState l n flow (put_temp flow row to x) (record { memory = m; temps = put_at s.temps to v; entered = s.bases })) (sym same)
         (put_tells q flow p naming row r.long (state_of s) r.stands_for.sane t to few x v result)
 
-    given_behind : (after : Option (List (Cell I))) → after ≡ Some (put_temp flow row to x) → TellsBehind l n flow after (standing_behind to v w)
+    given_behind : (after : Option (List (Cell I))) → after ≡ Some (put_temp flow row to x) → ExactAfter l n flow after (standing_behind to v w)
     given_behind after is = record { row = put_temp flow row to x; is = is; tells = given_tells }
 
     -- the run goes on behind the instruction, with its result in a temporary
-    pub result_told : (after : Option (List (Cell I))) (admitted : Violations) → after ≡ Some (put_temp flow row to x) → AreViolated admitted w.violated → IsTold l n flow after admitted (giving s to (goes v w))
+    pub result_told : (after : Option (List (Cell I))) (admitted : Violations) → after ≡ Some (put_temp flow row to x) → AreViolated admitted w.violated → IsExact l n flow after admitted (giving s to (goes v w))
     result_told after admitted is h = record {
       goes_on = λ t u e.
           let a : standing_behind to v w ≡ t = cc in
           let b : w ≡ u = cc in
-          subst (λ z. TellsBehind l n flow after (record z { world = u })) a
-          (subst (λ z. TellsBehind l n flow after (record (standing_behind to v w) { world = z })) b (given_behind after is));
+          subst (λ z. ExactAfter l n flow after (record z { world = u })) a
+          (subst (λ z. ExactAfter l n flow after (record (standing_behind to v w) { world = z })) b (given_behind after is));
       ends = λ why u e. cc;
       violated = h;
     }

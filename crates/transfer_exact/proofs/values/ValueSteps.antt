@@ -77,12 +77,12 @@ use Rattle.transfer_sound.proofs.values.TypeRanges.{type_near}
 use Rattle.transfer_sound.proofs.values.ResultRows.{truth_near}
 use Rattle.transfer_exact.specs.Values.SingleNumbers.{IsOne, IsNone}
 use Rattle.transfer_exact.specs.Values.ExactNumbers.{FitsRight, truth_of, IsResult, ExactLaws}
-use Rattle.transfer_exact.specs.Values.SingleValues.{TellsByLife, TellsPointer, TellsNumber, TellsPointing, TellsScalar}
-use Rattle.transfer_exact.specs.Values.SingleRows.{TellsState}
-use Rattle.transfer_exact.specs.Values.SingleSteps.{IsDefined, IsTold, StepIsTold}
+use Rattle.transfer_exact.specs.Values.SingleValues.{ExactByLife, ExactPointer, ExactNumber, ExactPointing, ExactScalar}
+use Rattle.transfer_exact.specs.Values.SingleRows.{ExactState}
+use Rattle.transfer_exact.specs.Values.SingleSteps.{IsDefined, IsExact, StepIsExact}
 use Rattle.transfer_exact.specs.Values.SingleLaws.{FitsAmount, HasRight}
-use Rattle.transfer_exact.proofs.values.NearTells.{near_one}
-use Rattle.transfer_exact.proofs.values.PutTells.{IsToldResult}
+use Rattle.transfer_exact.proofs.values.NearExact.{near_one}
+use Rattle.transfer_exact.proofs.values.PutExact.{IsExactResult}
 use Rattle.transfer_exact.proofs.values.Violated.{AreViolated, none_violated, behind_violated}
 use Rattle.transfer_exact.proofs.values.Told.{stop_told, if_some_told, number_told, result_told}
 use Rattle.transfer_exact.proofs.values.Faults.{and_self, left_is, negation_is, faults_violated, unary_violated}
@@ -138,15 +138,15 @@ pub only_has : (b : ℕ) → b < most_bases → bases_has (only_base b) b ≡ tr
 only_has b h = rw (lt-ltb b most_bases h) (with_has_same no_base b)
 
 module _ {I : Type 0} (l : LatticeOf I) (n : IntegersOf I) (entered : ℕ → Option ℕ) (memory : Memory) where
-  pub tells_number : (x : I) (labels : SetLabels) (z : ℤ) (la : Labels) → IsOne n x z → labels ≡ as_set la → TellsNumber n entered memory (number_value l x labels) z la
+  pub tells_number : (x : I) (labels : SetLabels) (z : ℤ) (la : Labels) → IsOne n x z → labels ≡ as_set la → ExactNumber n entered memory (number_value l x labels) z la
   tells_number x labels z la e f = record { number = e; labels_are = f; apart = record { bases = refl; null = refl; ended = refl }; determinate = refl }
 
 module _ {I : Type 0} {l : LatticeOf I} {n : IntegersOf I} {gamma : I → ℤ → Type 0} (q : BoundLaws l n gamma) (entered : ℕ → Option ℕ) (memory : Memory) where
-  pub tells_truth : (b : Bool) → TellsScalar n entered memory (truth_value l n (truth_of b)) (truth b)
+  pub tells_truth : (b : Bool) → ExactScalar n entered memory (truth_value l n (truth_of b)) (truth b)
   tells_truth true = tells_number l n entered memory (n.one (pos 1)) set.no_labels (pos 1) no_labels (q.one_bounds (pos 1)) refl
   tells_truth false = tells_number l n entered memory (n.one (pos 0)) set.no_labels (pos 0) no_labels (q.one_bounds (pos 0)) refl
 
-  pub tells_pointer : (x : Pointers I) (p : MachinePointer) → TellsPointer n entered memory x p → TellsPointing n entered memory (pointer_value l x) p
+  pub tells_pointer : (x : Pointers I) (p : MachinePointer) → ExactPointer n entered memory x p → ExactPointing n entered memory (pointer_value l x) p
   tells_pointer x p h = record { apart = q.least_bounds; points = h; determinate = refl }
 
 module _ {I : Type 0} {l : LatticeOf I} {n : IntegersOf I} {gamma : I → ℤ → Type 0} (q : BoundLaws l n gamma) (c : SoundLaws l n gamma) (x : ExactLaws n) (entered : ℕ → Option ℕ) (memory : Memory) where
@@ -162,12 +162,12 @@ module _ {I : Type 0} {l : LatticeOf I} {n : IntegersOf I} {gamma : I → ℤ �
   never_compared : (v : Value I) → IsNone n v.num → n.compare Ne v.num (n.one (pos 0)) ≡ Never
   never_compared v e = (c.compare_never Ne v.num (n.one (pos 0))).1 (inl (q.only_least v.num e))
 
-  life_truth : (v : Value I) (life : Life) (i offset lo hi : ℕ) → IsNone n v.num → TellsByLife n entered v.pointer life i offset lo hi → value_truth n v ≡ Yes
+  life_truth : (v : Value I) (life : Life) (i offset lo hi : ℕ) → IsNone n v.num → ExactByLife n entered v.pointer life i offset lo hi → value_truth n v ≡ Yes
   life_truth v live i offset lo hi e h = by_parts v Never false false false (never_compared v e) (ap bases_empty h.bases ∙ has_some (only_base h.base) h.base (only_has h.base h.few)) h.null h.ended
   life_truth v ended i offset lo hi e h = by_parts v Never true false true (never_compared v e) h.bases h.null h.ended
   life_truth v freed i offset lo hi e h = absurd h
 
-  pub truth_told : (v : Value I) (s : Scalar) → TellsScalar n entered memory v s → value_truth n v ≡ truth_of (not (is_false s))
+  pub truth_told : (v : Value I) (s : Scalar) → ExactScalar n entered memory v s → value_truth n v ≡ truth_of (not (is_false s))
   truth_told v (integer z labels) h =
       by_parts v (truth_of (not (int_eq z (pos 0)))) true false false (x.compare Ne v.num (n.one (pos 0)) z (pos 0) h.number (q.one_bounds (pos 0))) h.apart.bases h.apart.null h.apart.ended
       ∙ number_parts (not (int_eq z (pos 0)))
@@ -191,25 +191,25 @@ module _ {I : Type 0} (l : LatticeOf I) (n : IntegersOf I) (flow : Flow) (row : 
   truth_put true = refl
   truth_put false = refl
 
-  life_there : (entered : ℕ → Option ℕ) (x : Pointers I) (life : Life) (i offset lo hi : ℕ) → TellsByLife n entered x life i offset lo hi → (is_any x || x.ended) ≡ true
+  life_there : (entered : ℕ → Option ℕ) (x : Pointers I) (life : Life) (i offset lo hi : ℕ) → ExactByLife n entered x life i offset lo hi → (is_any x || x.ended) ≡ true
   life_there entered x live i offset lo hi h = or_left (is_any x) x.ended (or_left (not (bases_empty x.bases)) x.null (ap (λ z. not (bases_empty z)) h.bases ∙ ap not (has_some (only_base h.base) h.base (only_has h.base h.few))))
   life_there entered x ended i offset lo hi h = or_right (is_any x) x.ended h.ended
   life_there entered x freed i offset lo hi h = absurd h
 
-  there : (entered : ℕ → Option ℕ) (memory : Memory) (x : Pointers I) (p : MachinePointer) → TellsPointer n entered memory x p → (is_any x || x.ended) ≡ true
+  there : (entered : ℕ → Option ℕ) (memory : Memory) (x : Pointers I) (p : MachinePointer) → ExactPointer n entered memory x p → (is_any x || x.ended) ≡ true
   there entered memory x null h = or_left (is_any x) x.ended (or_right (not (bases_empty x.bases)) x.null h.null)
   there entered memory x (into i offset lo hi) h = life_there entered x (life_at memory i) i offset lo hi h
 
-  pub pointer_put : (entered : ℕ → Option ℕ) (memory : Memory) (x : Pointers I) (p : MachinePointer) → TellsPointer n entered memory x p → put_pointer l flow row to x ≡ Some (put_temp flow row to (pointer_value l x))
+  pub pointer_put : (entered : ℕ → Option ℕ) (memory : Memory) (x : Pointers I) (p : MachinePointer) → ExactPointer n entered memory x p → put_pointer l flow row to x ≡ Some (put_temp flow row to (pointer_value l x))
   unfolding put_pointer
   pointer_put entered memory x p h = rw (there entered memory x p h) refl
 
-module _ {I : Type 0} {l : LatticeOf I} {n : IntegersOf I} {gamma : I → ℤ → Type 0} (q : BoundLaws l n gamma) (c : SoundLaws l n gamma) (ranges : RangeLaws l n) (x : ExactLaws n) (flow : Flow) (p : HasPremises flow) (naming : Naming) (row : List (Cell I)) (s : Standing) (r : IsReached l n gamma flow naming row s) (t : TellsState l n flow row (state_of s)) where
+module _ {I : Type 0} {l : LatticeOf I} {n : IntegersOf I} {gamma : I → ℤ → Type 0} (q : BoundLaws l n gamma) (c : SoundLaws l n gamma) (ranges : RangeLaws l n) (x : ExactLaws n) (flow : Flow) (p : HasPremises flow) (naming : Naming) (row : List (Cell I)) (s : Standing) (r : IsReached l n gamma flow naming row s) (t : ExactState l n flow row (state_of s)) where
   abbrev Defined : Operation → Type 0
   Defined o = IsDefined (act_step (flow_view flow) (act o) s)
 
   abbrev Exact : Operation → Type 0
-  Exact o = Defined o → StepIsTold l n flow row o s
+  Exact o = Defined o → StepIsExact l n flow row o s
 
   -- what a right operand is
   abbrev FitsBy : Amount → Scalar → Type 0
@@ -219,7 +219,7 @@ module _ {I : Type 0} {l : LatticeOf I} {n : IntegersOf I} {gamma : I → ℤ �
   few_temp : (t : ℕ) → has_temp (names_of flow) t ≡ true → t < flow.temps
   few_temp t h = ltb-true t flow.temps h
 
-  number_result : (v : Value I) (z : ℤ) (labels : Labels) → IsNearNumber z → TellsNumber n s.bases s.world.memory v z labels → IsToldResult q flow p s.bases s.world.memory v (integer z labels)
+  number_result : (v : Value I) (z : ℤ) (labels : Labels) → IsNearNumber z → ExactNumber n s.bases s.world.memory v z labels → IsExactResult q flow p s.bases s.world.memory v (integer z labels)
   number_result v z labels near h = record { tells = h; near = near; within = tt }
 
   -- ---- constants
@@ -236,7 +236,7 @@ module _ {I : Type 0} {l : LatticeOf I} {n : IntegersOf I} {gamma : I → ℤ �
 
   -- ---- comparisons
 
-  truth_good : (to : ℕ) → to < flow.temps → (tri : Tri) (b : Bool) → tri ≡ truth_of b → IsTold l n flow (put_truth l n flow row to tri) no_violations (giving s to (goes (truth b) s.world))
+  truth_good : (to : ℕ) → to < flow.temps → (tri : Tri) (b : Bool) → tri ≡ truth_of b → IsExact l n flow (put_truth l n flow row to tri) no_violations (giving s to (goes (truth b) s.world))
   truth_good to few tri b e =
       result_told q flow p naming row s r t to few (truth_value l n (truth_of b)) (truth b) s.world
       (record { tells = tells_truth q s.bases s.world.memory b; near = truth_near b; within = tt }) refl _ no_violations
@@ -250,8 +250,8 @@ module _ {I : Type 0} {l : LatticeOf I} {n : IntegersOf I} {gamma : I → ℤ �
       if_some_told l n flow _ no_violations s (s.temps right) _ d (λ w f d.
       number_told l n flow _ no_violations s to v s.world _ d (λ a la g d.
       number_told l n flow _ no_violations s to w s.world _ d (λ b lb h d.
-      let y = subst (TellsScalar n s.bases s.world.memory (temp_value l n flow row left)) g (t.temps left v e) in
-      let z = subst (TellsScalar n s.bases s.world.memory (temp_value l n flow row right)) h (t.temps right w f) in
+      let y = subst (ExactScalar n s.bases s.world.memory (temp_value l n flow row left)) g (t.temps left v e) in
+      let z = subst (ExactScalar n s.bases s.world.memory (temp_value l n flow row right)) h (t.temps right w f) in
       truth_good to few _ (holds rel a b) (x.compare rel (temp_value l n flow row left).num (temp_value l n flow row right).num a b y.number z.number)))))
 
   not_told : (to from : ℕ) (k : declared.Scalar) → fits_operation (names_of flow) (op.Not to from k) ≡ true → Exact (op.Not to from k)
@@ -268,8 +268,8 @@ module _ {I : Type 0} {l : LatticeOf I} {n : IntegersOf I} {gamma : I → ℤ �
   -- ---- results of operators
 
   -- a result that there is has its number in a temporary; where there is none, the run stops
-  computed_told : (to : ℕ) → to < flow.temps → (k : IntType) → is_size k.bytes ≡ true → (v : Value I) (w : Violations) (faults : List Rule) (labels : Labels) (result : Option ℤ) → AreViolated w faults → IsResult n v.num result → ((z : ℤ) → result ≡ Some z → IsToldResult q flow p s.bases s.world.memory v (integer z labels))
-      → IsTold l n flow (cond (is_size k.bytes) (put_number n flow row to v) None) (cond (is_size k.bytes) w no_violations) (giving s to (computed faults result labels s.world))
+  computed_told : (to : ℕ) → to < flow.temps → (k : IntType) → is_size k.bytes ≡ true → (v : Value I) (w : Violations) (faults : List Rule) (labels : Labels) (result : Option ℤ) → AreViolated w faults → IsResult n v.num result → ((z : ℤ) → result ≡ Some z → IsExactResult q flow p s.bases s.world.memory v (integer z labels))
+      → IsExact l n flow (cond (is_size k.bytes) (put_number n flow row to v) None) (cond (is_size k.bytes) w no_violations) (giving s to (computed faults result labels s.world))
   computed_told to few k size v w faults labels None h none f =
       let row_is : cond (is_size k.bytes) (put_number n flow row to v) None ≡ None = rw (size, nothing_put n flow row to v none) refl in
       stop_told l n flow _ _ (why_none faults) (violating s.world faults) row_is (subst (λ b. AreViolated (cond b w no_violations) (s.world.violated ++ faults)) (sym size) (behind_violated w s.world.violated faults h))
@@ -280,7 +280,7 @@ module _ {I : Type 0} {l : LatticeOf I} {n : IntegersOf I} {gamma : I → ℤ �
 
   -- ---- operators on two integers
 
-  amount_told : (after : Option (List (Cell I))) (w : Violations) (by : Amount) (use_it : Scalar → Reply Standing) → IsDefined (with_amount s by use_it) → ((v : Scalar) → TellsScalar n s.bases s.world.memory (amount_value l n flow row by) v → FitsBy by v → IsDefined (use_it v) → IsTold l n flow after w (use_it v)) → IsTold l n flow after w (with_amount s by use_it)
+  amount_told : (after : Option (List (Cell I))) (w : Violations) (by : Amount) (use_it : Scalar → Reply Standing) → IsDefined (with_amount s by use_it) → ((v : Scalar) → ExactScalar n s.bases s.world.memory (amount_value l n flow row by) v → FitsBy by v → IsDefined (use_it v) → IsExact l n flow after w (use_it v)) → IsExact l n flow after w (with_amount s by use_it)
   amount_told after w (amount.Temp u) use_it d h = if_some_told l n flow after w s (s.temps u) use_it d (λ v e d. h v (t.temps u v e) e d)
   amount_told after w amount.One use_it d h =
       h plain_one (record { number = near_one q (n.one (pos 1)) (pos 1) (record { from = omega (arith, ints); to = omega (arith, ints) }) (q.one_bounds (pos 1)); labels_are = refl; apart = record { bases = refl; null = refl; ended = refl }; determinate = refl }) refl d
@@ -288,8 +288,8 @@ module _ {I : Type 0} {l : LatticeOf I} {n : IntegersOf I} {gamma : I → ℤ �
   near_result : (k : IntType) (y : I) (z : ℤ) → is_size k.bytes ≡ true → ((a b : ℤ) → n.bounds y ≡ Some (a, b) → (least_of k ≤ℤ a) × (b ≤ℤ greatest_of k)) → IsOne n y z → IsNearNumber z
   near_result k y z size fits one = let f = fits z z one in type_near k z z z size f.0 f.1 (≤ℤ_refl z) (≤ℤ_refl z)
 
-  binary_good : (to : ℕ) → to < flow.temps → (o : IntOp) (k : IntType) → is_size k.bytes ≡ true → (v w : Value I) (a b : ℤ) (la lb : Labels) → TellsNumber n s.bases s.world.memory v a la → TellsNumber n s.bases s.world.memory w b lb → in_type k a ≡ true → FitsRight o k b
-      → IsTold l n flow (cond (is_size k.bytes) (put_number n flow row to (value_arith l n o v w k)) None) (cond (is_size k.bytes) (binary_violations n o k v w) no_violations) (giving s to (binary_numbers o k a la b lb s.world))
+  binary_good : (to : ℕ) → to < flow.temps → (o : IntOp) (k : IntType) → is_size k.bytes ≡ true → (v w : Value I) (a b : ℤ) (la lb : Labels) → ExactNumber n s.bases s.world.memory v a la → ExactNumber n s.bases s.world.memory w b lb → in_type k a ≡ true → FitsRight o k b
+      → IsExact l n flow (cond (is_size k.bytes) (put_number n flow row to (value_arith l n o v w k)) None) (cond (is_size k.bytes) (binary_violations n o k v w) no_violations) (giving s to (binary_numbers o k a la b lb s.world))
   binary_good to few o k size v w a b la lb f g inside fit =
       let violated : AreViolated (binary_violations n o k v w) (binary_faults o k a b) = subst (λ y. AreViolated y (binary_faults o k a b)) (sym (ap₂ (ranges_violate o k) f.number g.number)) (faults_violated k a b o inside) in
       let exact = x.arith o k v.num w.num a b size f.number g.number inside fit in
@@ -320,13 +320,13 @@ module _ {I : Type 0} {l : LatticeOf I} {n : IntegersOf I} {gamma : I → ℤ �
       number_told l n flow _ _ s to v s.world _ d (λ z la g d.
       number_told l n flow _ _ s to w s.world _ d (λ u lb h d.
       binary_good to (few_temp to a.0) o k size (temp_value l n flow row left) (amount_value l n flow row right) z u la lb
-      (subst (TellsScalar n s.bases s.world.memory (temp_value l n flow row left)) g (t.temps left v e)) (subst (TellsScalar n s.bases s.world.memory (amount_value l n flow row right)) h sw)
+      (subst (ExactScalar n s.bases s.world.memory (temp_value l n flow row left)) g (t.temps left v e)) (subst (ExactScalar n s.bases s.world.memory (amount_value l n flow row right)) h sw)
       (typed z la (e ∙ ap Some g)) (right_fits o k right w u lb size also fit h)))))
 
   -- ---- operators on one integer
 
-  unary_good : (to : ℕ) → to < flow.temps → (o : UnOp) (k : IntType) → is_size k.bytes ≡ true → (v : Value I) (a : ℤ) (la : Labels) → TellsNumber n s.bases s.world.memory v a la → in_type k a ≡ true
-      → IsTold l n flow (cond (is_size k.bytes) (put_number n flow row to (value_unary l n o v k)) None) (cond (is_size k.bytes) (unary_violations n o k v) no_violations) (giving s to (unary_number o k a la s.world))
+  unary_good : (to : ℕ) → to < flow.temps → (o : UnOp) (k : IntType) → is_size k.bytes ≡ true → (v : Value I) (a : ℤ) (la : Labels) → ExactNumber n s.bases s.world.memory v a la → in_type k a ≡ true
+      → IsExact l n flow (cond (is_size k.bytes) (put_number n flow row to (value_unary l n o v k)) None) (cond (is_size k.bytes) (unary_violations n o k v) no_violations) (giving s to (unary_number o k a la s.world))
   unary_good to few o k size v a la f inside =
       let violated : AreViolated (unary_violations n o k v) (overflow_faults k (unary_math o a)) = subst (λ y. AreViolated y (overflow_faults k (unary_math o a))) (sym (ap (λ y. overflow_violations (k.signed && negated_leave o k y)) f.number)) (unary_violated k a a o) in
       let exact = x.unary o k v.num a size f.number inside in
@@ -345,14 +345,14 @@ module _ {I : Type 0} {l : LatticeOf I} {n : IntegersOf I} {gamma : I → ℤ �
       let size = size_of flow k (and_parts (has_temp (names_of flow) from) (is_int_type flow.model k) a.1).1 in
       if_some_told l n flow _ _ s (s.temps from) _ d (λ v e d.
       number_told l n flow _ _ s to v s.world _ d (λ z la g d.
-      unary_good to (few_temp to a.0) o k size (temp_value l n flow row from) z la (subst (TellsScalar n s.bases s.world.memory (temp_value l n flow row from)) g (t.temps from v e)) (typed z la (e ∙ ap Some g))))
+      unary_good to (few_temp to a.0) o k size (temp_value l n flow row from) z la (subst (ExactScalar n s.bases s.world.memory (temp_value l n flow row from)) g (t.temps from v e)) (typed z la (e ∙ ap Some g))))
 
   -- ---- conversions
 
-  to_integer : (to : ℕ) → to < flow.temps → (k : IntType) → is_size k.bytes ≡ true → (y : Value I) (v : Scalar) → TellsScalar n s.bases s.world.memory y v → IsDefined (giving s to (convert (of.Int k) v s.world)) → IsTold l n flow (put_converted l n flow row to y k) no_violations (giving s to (convert (of.Int k) v s.world))
+  to_integer : (to : ℕ) → to < flow.temps → (k : IntType) → is_size k.bytes ≡ true → (y : Value I) (v : Scalar) → ExactScalar n s.bases s.world.memory y v → IsDefined (giving s to (convert (of.Int k) v s.world)) → IsExact l n flow (put_converted l n flow row to y k) no_violations (giving s to (convert (of.Int k) v s.world))
   unfolding put_converted
   to_integer to few k size y v f d = number_told l n flow _ _ s to v s.world _ d (λ z la g d.
-      let h = subst (TellsScalar n s.bases s.world.memory y) g f in
+      let h = subst (ExactScalar n s.bases s.world.memory y) g f in
       let one = x.convert k y.num z size h.number in
       let row_is : cond (is_size k.bytes) (put_number n flow row to (value_convert l n y k)) None ≡ Some (put_temp flow row to (value_convert l n y k)) = rw (size, number_put n flow row to (value_convert l n y k) (wrap_into k z) one) refl in
       let labels = ap₂ (λ u w. set.converted_labels u k w) h.labels_are (ap (range_fits k) h.number ∙ and_self (in_type k z)) in
@@ -362,16 +362,16 @@ module _ {I : Type 0} {l : LatticeOf I} {n : IntegersOf I} {gamma : I → ℤ �
       (tells_number l n s.bases s.world.memory (n.convert y.num k) _ (wrap_into k z) _ one labels))
       refl _ no_violations row_is (none_violated s.world.violated))
 
-  pub pointer_good : (to : ℕ) → to < flow.temps → (y : Pointers I) (at : MachinePointer) → TellsPointer n s.bases s.world.memory y at → IsPointerIn s.world.memory at → IsTold l n flow (put_pointer l flow row to y) no_violations (giving s to (goes (pointer at) s.world))
+  pub pointer_good : (to : ℕ) → to < flow.temps → (y : Pointers I) (at : MachinePointer) → ExactPointer n s.bases s.world.memory y at → IsPointerIn s.world.memory at → IsExact l n flow (put_pointer l flow row to y) no_violations (giving s to (goes (pointer at) s.world))
   pointer_good to few y at h within =
       result_told q flow p naming row s r t to few (pointer_value l y) (pointer at) s.world (record { tells = tells_pointer q s.bases s.world.memory y at h; near = tt; within = within }) refl _ no_violations
       (pointer_put l n flow row to s.bases s.world.memory y at h) (none_violated s.world.violated)
 
-  null_good : (to : ℕ) → to < flow.temps → (b : Bool) → IsDefined (giving s to (cond b (goes (pointer null) s.world) (stops Stuck s.world))) → IsTold l n flow (put_pointer l flow row to (null_pointer l)) no_violations (giving s to (cond b (goes (pointer null) s.world) (stops Stuck s.world)))
+  null_good : (to : ℕ) → to < flow.temps → (b : Bool) → IsDefined (giving s to (cond b (goes (pointer null) s.world) (stops Stuck s.world))) → IsExact l n flow (put_pointer l flow row to (null_pointer l)) no_violations (giving s to (cond b (goes (pointer null) s.world) (stops Stuck s.world)))
   null_good to few true d = pointer_good to few (null_pointer l) null (record { bases = refl; null = refl; ended = refl }) tt
   null_good to few false d = absurd (d s.world refl)
 
-  to_pointer : (to : ℕ) → to < flow.temps → (from : declared.Scalar) (y : Value I) (v : Scalar) → IsOfKind from v → TellsScalar n s.bases s.world.memory y v → IsScalarIn s.world.memory v → IsDefined (giving s to (pointer_from v s.world)) → IsTold l n flow (put_pointer l flow row to (converted_pointer l from y)) no_violations (giving s to (pointer_from v s.world))
+  to_pointer : (to : ℕ) → to < flow.temps → (from : declared.Scalar) (y : Value I) (v : Scalar) → IsOfKind from v → ExactScalar n s.bases s.world.memory y v → IsScalarIn s.world.memory v → IsDefined (giving s to (pointer_from v s.world)) → IsExact l n flow (put_pointer l flow row to (converted_pointer l from y)) no_violations (giving s to (pointer_from v s.world))
   to_pointer to few (of.Int k) y (integer z labels) typed h within d = null_good to few (int_eq z (pos 0)) d
   to_pointer to few (of.Int k) y (pointer at) typed h within d = absurd (true≢false (sym typed))
   to_pointer to few of.Pointer y (integer z labels) typed h within d = absurd (true≢false (sym typed))

@@ -16,8 +16,8 @@ use Rattle.store_sound.specs.Concretization.ValueMeaning.{Naming}
 use Rattle.store_sound.specs.Programs.Premises.{HasPremises}
 use Rattle.transfer_sound.specs.Values.OperandTypes.{HasOperands}
 use Rattle.transfer_sound.specs.Values.SoundSteps.{IsReached}
-use Rattle.transfer_exact.specs.Values.SingleRows.{IsPlainProgram, TellsState}
-use Rattle.transfer_exact.specs.Values.SingleSteps.{IsDefined, StepIsTold}
+use Rattle.transfer_exact.specs.Values.SingleRows.{IsPlainProgram, ExactState}
+use Rattle.transfer_exact.specs.Values.SingleSteps.{IsDefined, StepIsExact}
 use Rattle.transfer_exact.specs.Accesses.TypedAccesses.{HasObjects, IsTypedLoad, IsTypedStore}
 
 abbrev pub IsEntered : Operation → Standing → Type 0
@@ -38,24 +38,24 @@ IsCleared _ s = ⊥
 
 module _ {I : Type 0} (l : LatticeOf I) (n : IntegersOf I) (gamma : I → ℤ → Type 0) (flow : Flow) where
   -- instructions that fit a plain program, on a row that stands for the state and tells it, where the step is defined
-  abbrev pub AreToldAt : (Operation → Standing → Type 0) → Type 0
-  AreToldAt Is = HasPremises flow → HasObjects flow → IsPlainProgram flow
-      → (naming : Naming) (row : List (Cell I)) (s : Standing) (o : Operation) → Is o s → fits_operation (names_of flow) o ≡ true → HasOperands o s.temps → IsReached l n gamma flow naming row s → TellsState l n flow row (state_of s) → IsDefined (act_step (flow_view flow) (act o) s) → StepIsTold l n flow row o s
+  abbrev pub AreExactAt : (Operation → Standing → Type 0) → Type 0
+  AreExactAt Is = HasPremises flow → HasObjects flow → IsPlainProgram flow
+      → (naming : Naming) (row : List (Cell I)) (s : Standing) (o : Operation) → Is o s → fits_operation (names_of flow) o ≡ true → HasOperands o s.temps → IsReached l n gamma flow naming row s → ExactState l n flow row (state_of s) → IsDefined (act_step (flow_view flow) (act o) s) → StepIsExact l n flow row o s
 
-  abbrev pub LoadsAreTold : Type 0
-  LoadsAreTold = AreToldAt (IsTypedLoad flow)
+  abbrev pub LoadsAreExact : Type 0
+  LoadsAreExact = AreExactAt (IsTypedLoad flow)
 
-  abbrev pub StoresAreTold : Type 0
-  StoresAreTold = AreToldAt (IsTypedStore flow)
+  abbrev pub StoresAreExact : Type 0
+  StoresAreExact = AreExactAt (IsTypedStore flow)
 
-  abbrev pub EntersAreTold : Type 0
-  EntersAreTold = AreToldAt IsEntered
+  abbrev pub EntersAreExact : Type 0
+  EntersAreExact = AreExactAt IsEntered
 
-  abbrev pub LeavesAreTold : Type 0
-  LeavesAreTold = AreToldAt IsLeft
+  abbrev pub LeavesAreExact : Type 0
+  LeavesAreExact = AreExactAt IsLeft
 
-  abbrev pub ForgetsAreTold : Type 0
-  ForgetsAreTold = AreToldAt IsForgotten
+  abbrev pub ForgetsAreExact : Type 0
+  ForgetsAreExact = AreExactAt IsForgotten
 
-  abbrev pub ClearsAreTold : Type 0
-  ClearsAreTold = AreToldAt IsCleared
+  abbrev pub ClearsAreExact : Type 0
+  ClearsAreExact = AreExactAt IsCleared

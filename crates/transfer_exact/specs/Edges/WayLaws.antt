@@ -30,8 +30,8 @@ use Rattle.store_sound.specs.Concretization.ValueMeaning.{Naming}
 use Rattle.store_sound.specs.Programs.Premises.{HasPremises}
 use Rattle.transfer_sound.specs.Values.SoundSteps.{IsReached}
 use Rattle.transfer_sound.specs.Edges.EdgeSteps.{TestsAreSound}
-use Rattle.transfer_exact.specs.Values.SingleRows.{TellsState}
-use Rattle.transfer_exact.specs.Values.SingleSteps.{IsDefined, TellsBehind, IsTold}
+use Rattle.transfer_exact.specs.Values.SingleRows.{ExactState}
+use Rattle.transfer_exact.specs.Values.SingleSteps.{IsDefined, ExactAfter, IsExact}
 
 -- no scalar takes two edges of one block
 pub record WaysAreApart (flow : Flow) : Type 0 where
@@ -56,38 +56,38 @@ module _ {I : Type 0} (l : LatticeOf I) (n : IntegersOf I) (gamma : I → ℤ �
   -- ---- tests
 
   -- where a test agrees with memory, what it makes of the row tells what it makes of memory
-  abbrev pub TestIsTold : Option Test → Type 0
-  TestIsTold None = Unit {0}
-  TestIsTold (Some test) = (naming : Naming) (row : List (Cell I)) (s : Standing) → IsReached l n gamma flow naming row s → TellsState l n flow row (state_of s) → IsDefined (testing (flow_view flow) s (Some test)) → IsTold l n flow (refine l n flow test row) no_violations (testing (flow_view flow) s (Some test))
+  abbrev pub TestIsExact : Option Test → Type 0
+  TestIsExact None = Unit {0}
+  TestIsExact (Some test) = (naming : Naming) (row : List (Cell I)) (s : Standing) → IsReached l n gamma flow naming row s → ExactState l n flow row (state_of s) → IsDefined (testing (flow_view flow) s (Some test)) → IsExact l n flow (refine l n flow test row) no_violations (testing (flow_view flow) s (Some test))
 
   -- where the object that is switched on has a label's value
-  abbrev pub CaseIsTold : ℤ → Option ℕ → Type 0
-  CaseIsTold value None = Unit {0}
-  CaseIsTold value (Some base) = (naming : Naming) (row : List (Cell I)) (s : Standing) → IsReached l n gamma flow naming row s → TellsState l n flow row (state_of s) → IsDefined (matching (flow_view flow) s value (Some base)) → IsTold l n flow (refine_case l n flow base value row) no_violations (matching (flow_view flow) s value (Some base))
+  abbrev pub CaseIsExact : ℤ → Option ℕ → Type 0
+  CaseIsExact value None = Unit {0}
+  CaseIsExact value (Some base) = (naming : Naming) (row : List (Cell I)) (s : Standing) → IsReached l n gamma flow naming row s → ExactState l n flow row (state_of s) → IsDefined (matching (flow_view flow) s value (Some base)) → IsExact l n flow (refine_case l n flow base value row) no_violations (matching (flow_view flow) s value (Some base))
 
-  abbrev pub KindIsTold : EdgeKind → Type 0
-  KindIsTold (kind.When truth test kept) = TestIsTold test
-  KindIsTold (kind.Case test) = CaseIsTold test.value test.object
-  KindIsTold _ = Unit {0}
+  abbrev pub KindIsExact : EdgeKind → Type 0
+  KindIsExact (kind.When truth test kept) = TestIsExact test
+  KindIsExact (kind.Case test) = CaseIsExact test.value test.object
+  KindIsExact _ = Unit {0}
 
   -- the tests and the cases of all edges
-  abbrev pub TestsAreTold : Type 0
-  TestsAreTold = (number : ℕ) (e : Edge) → slice_get flow.edges.items number ≡ Some e → KindIsTold e.kind
+  abbrev pub TestsAreExact : Type 0
+  TestsAreExact = (number : ℕ) (e : Edge) → slice_get flow.edges.items number ≡ Some e → KindIsExact e.kind
 
   -- ---- ways
 
   -- along one edge of the block the row comes to the state behind, along each other one there is none
-  pub record EdgeTells (row : List (Cell I)) (o : Operation) (from : ℕ) (s : Standing) : Type 0 where
+  pub record EdgeExact (row : List (Cell I)) (o : Operation) (from : ℕ) (s : Standing) : Type 0 where
     pub number : ℕ
     pub taken : Edge
     pub is : slice_get flow.edges.items number ≡ Some taken
     pub leaves : taken.from ≡ from
     pub enters : s.block ≡ taken.to
-    pub behind : TellsBehind l n flow (edge l n flow row number) s
+    pub behind : ExactAfter l n flow (edge l n flow row number) s
     pub others : (other : ℕ) (e : Edge) → slice_get flow.edges.items other ≡ Some e → e.from ≡ from → FitsWay o e.kind → (other ≡ number → ⊥) → edge l n flow row other ≡ None
 
-  pub record WayIsTold (row : List (Cell I)) (o : Operation) (s : Standing) : Type 0 where
-    pub goes_on : (t : Standing) (w : World) → act_step (flow_view flow) (act o) s ≡ goes t w → EdgeTells row o s.block (record t { world = w })
+  pub record EdgeIsExact (row : List (Cell I)) (o : Operation) (s : Standing) : Type 0 where
+    pub goes_on : (t : Standing) (w : World) → act_step (flow_view flow) (act o) s ≡ goes t w → EdgeExact row o s.block (record t { world = w })
 
-  abbrev pub WaysAreTold : Limits → Type 0
-  WaysAreTold limits = HasPremises flow → WaysAreApart flow → TestsAreSound l n gamma flow → TestsAreTold → is_well_formed limits flow ≡ true → (naming : Naming) (row : List (Cell I)) (s : Standing) (i : Instruction) → last_instruction flow s.block ≡ Some i → IsWay i.operation → IsReached l n gamma flow naming row s → TellsState l n flow row (state_of s) → IsDefined (act_step (flow_view flow) (act i.operation) s) → WayIsTold row i.operation s
+  abbrev pub EdgesAreExact : Limits → Type 0
+  EdgesAreExact limits = HasPremises flow → WaysAreApart flow → TestsAreSound l n gamma flow → TestsAreExact → is_well_formed limits flow ≡ true → (naming : Naming) (row : List (Cell I)) (s : Standing) (i : Instruction) → last_instruction flow s.block ≡ Some i → IsWay i.operation → IsReached l n gamma flow naming row s → ExactState l n flow row (state_of s) → IsDefined (act_step (flow_view flow) (act i.operation) s) → EdgeIsExact row i.operation s

@@ -17,8 +17,8 @@ use Rattle.store_sound.specs.Programs.Premises.{HasPremises}
 use Rattle.struct_copies_sound.specs.Structs.StructTables.{HasStructs}
 use Rattle.struct_copies_sound.specs.SpellSteps.{SpellsCharacters}
 use Rattle.entry_sound.specs.Starts.StartedRows.{HasBeginnings}
-use Rattle.transfer_exact.specs.Values.SingleRows.{IsPlainProgram, TellsState}
-use Rattle.transfer_exact.specs.Accesses.StoreLaws.{AreToldAt}
+use Rattle.transfer_exact.specs.Values.SingleRows.{IsPlainProgram, ExactState}
+use Rattle.transfer_exact.specs.Accesses.StoreLaws.{AreExactAt}
 use Rattle.transfer_exact.specs.Accesses.TypedAccesses.{HasObjects}
 use Rattle.transfer_exact.specs.Spelling.TypedCopies.{IsTypedCopy}
 
@@ -26,13 +26,13 @@ abbrev pub IsSpelled : Flow → Operation → Standing → Type 0
 IsSpelled flow o s = SpellsCharacters flow o
 
 module _ {I : Type 0} (l : LatticeOf I) (n : IntegersOf I) (gamma : I → ℤ → Type 0) (flow : Flow) where
-  abbrev pub SpellsAreTold : Type 0
-  SpellsAreTold = AreToldAt l n gamma flow (IsSpelled flow)
+  abbrev pub SpellsAreExact : Type 0
+  SpellsAreExact = AreExactAt l n gamma flow (IsSpelled flow)
 
-  abbrev pub CopiesAreTold : Type 0
-  CopiesAreTold = HasStructs flow → AreToldAt l n gamma flow (IsTypedCopy flow)
+  abbrev pub CopiesAreExact : Type 0
+  CopiesAreExact = HasStructs flow → AreExactAt l n gamma flow (IsTypedCopy flow)
 
   -- where the entry has no parameter, the row of the entry tells the state in which a run begins
-  abbrev pub StartIsTold : Type 0
-  StartIsTold = (limits : Limits) → is_well_formed limits flow ≡ true → HasPremises flow → HasObjects flow → IsPlainProgram flow → flow.parameters.items ≡ [] → (u : UnitView) → u.model ≡ flow.model → HasBeginnings u flow
-      → (row after : List (Cell I)) → length row ≡ flow.width → start_row l n flow row ≡ Some after → (draws : List ℤ) (s : Standing) → flow_begin u (flow_view flow) draws ≡ running s [] → TellsState l n flow after (state_of s)
+  abbrev pub StartIsExact : Type 0
+  StartIsExact = (limits : Limits) → is_well_formed limits flow ≡ true → HasPremises flow → HasObjects flow → IsPlainProgram flow → flow.parameters.items ≡ [] → (u : UnitView) → u.model ≡ flow.model → HasBeginnings u flow
+      → (row after : List (Cell I)) → length row ≡ flow.width → start_row l n flow row ≡ Some after → (draws : List ℤ) (s : Standing) → flow_begin u (flow_view flow) draws ≡ running s [] → ExactState l n flow after (state_of s)

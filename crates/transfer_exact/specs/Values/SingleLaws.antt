@@ -26,8 +26,8 @@ use Rattle.store_sound.specs.Programs.Premises.{HasPremises}
 use Rattle.transfer_sound.specs.Values.OperandTypes.{HasOperands}
 use Rattle.transfer_sound.specs.Values.SoundSteps.{IsReached}
 use Rattle.transfer_exact.specs.Values.ExactNumbers.{FitsRight}
-use Rattle.transfer_exact.specs.Values.SingleRows.{IsPlainProgram, TellsState}
-use Rattle.transfer_exact.specs.Values.SingleSteps.{IsDefined, StepIsTold}
+use Rattle.transfer_exact.specs.Values.SingleRows.{IsPlainProgram, ExactState}
+use Rattle.transfer_exact.specs.Values.SingleSteps.{IsDefined, StepIsExact}
 
 -- ---- what is supposed of right operands
 
@@ -66,14 +66,14 @@ IsPlainCall _ = ⊥
 
 module _ {I : Type 0} (l : LatticeOf I) (n : IntegersOf I) (gamma : I → ℤ → Type 0) (flow : Flow) where
   -- instructions that fit the program, on a row that stands for the state and tells it, where the step is defined
-  abbrev pub AreTold : (Operation → Type 0) → Type 0
-  AreTold Is = (naming : Naming) (row : List (Cell I)) (s : Standing) (o : Operation) → Is o → fits_operation (names_of flow) o ≡ true → HasOperands o s.temps → HasRight o s.temps → IsReached l n gamma flow naming row s → TellsState l n flow row (state_of s) → IsDefined (act_step (flow_view flow) (act o) s) → StepIsTold l n flow row o s
+  abbrev pub AreExact : (Operation → Type 0) → Type 0
+  AreExact Is = (naming : Naming) (row : List (Cell I)) (s : Standing) (o : Operation) → Is o → fits_operation (names_of flow) o ≡ true → HasOperands o s.temps → HasRight o s.temps → IsReached l n gamma flow naming row s → ExactState l n flow row (state_of s) → IsDefined (act_step (flow_view flow) (act o) s) → StepIsExact l n flow row o s
 
-  abbrev pub ValueStepsAreTold : Type 0
-  ValueStepsAreTold = HasPremises flow → AreTold (λ o. is_on_values o ≡ true)
+  abbrev pub ValueStepsAreExact : Type 0
+  ValueStepsAreExact = HasPremises flow → AreExact (λ o. is_on_values o ≡ true)
 
-  abbrev pub PointerStepsAreTold : Type 0
-  PointerStepsAreTold = HasPremises flow → IsPlainProgram flow → AreTold (λ o. is_on_pointers o ≡ true)
+  abbrev pub PointerStepsAreExact : Type 0
+  PointerStepsAreExact = HasPremises flow → IsPlainProgram flow → AreExact (λ o. is_on_pointers o ≡ true)
 
-  abbrev pub CallsAreTold : Type 0
-  CallsAreTold = HasPremises flow → AreTold IsPlainCall
+  abbrev pub CallsAreExact : Type 0
+  CallsAreExact = HasPremises flow → AreExact IsPlainCall

@@ -18,7 +18,7 @@ use Rattle.memory_model.specs.Memory.Scalars.{Scalar, integer, pointer}
 use Rattle.store_sound.specs.Concretization.Matching.{Matched, Holds}
 use Rattle.store_sound.specs.Concretization.Places.{IsPlaceOf}
 use Rattle.store_sound.specs.Concretization.RowMeaning.{MachineState}
-use Rattle.transfer_exact.specs.Values.SingleValues.{TellsScalar, TellsHeld}
+use Rattle.transfer_exact.specs.Values.SingleValues.{ExactScalar, ExactHeld}
 
 -- each scalar of an object has a cell of its own, and nothing is allocated
 pub record IsPlainProgram (flow : Flow) : Type 0 where
@@ -59,11 +59,11 @@ module _ (flow : Flow) (memory : Memory) (i offset : ℕ) (leaf : Leaf) where
 
 module _ {I : Type 0} (l : LatticeOf I) (n : IntegersOf I) (flow : Flow) where
   -- a cell tells what the bytes of its leaf are
-  pub record TellsLeaf (state : MachineState) (v : Value I) (i offset : ℕ) (leaf : Leaf) : Type 0 where
+  pub record ExactLeaf (state : MachineState) (v : Value I) (i offset : ℕ) (leaf : Leaf) : Type 0 where
     pub held : Option Scalar
     pub holds : HoldsScalar flow state.memory i offset leaf held
-    pub tells : TellsHeld n state.entered state.memory v held
+    pub tells : ExactHeld n state.entered state.memory v held
 
-  pub record TellsState (row : List (Cell I)) (state : MachineState) : Type 0 where
-    pub temps : (t : ℕ) (scalar : Scalar) → state.temps t ≡ Some scalar → TellsScalar n state.entered state.memory (temp_value l n flow row t) scalar
-    pub leaves : (b j i offset : ℕ) (base : BaseInfo) (leaf : Leaf) → slice_get flow.bases.items b ≡ Some base → slice_get base.shape.cells j ≡ Some leaf → state.entered b ≡ Some i → IsPlaceOf leaf offset → TellsLeaf state (value_at l n row (leaf_position base j)) i offset leaf
+  pub record ExactState (row : List (Cell I)) (state : MachineState) : Type 0 where
+    pub temps : (t : ℕ) (scalar : Scalar) → state.temps t ≡ Some scalar → ExactScalar n state.entered state.memory (temp_value l n flow row t) scalar
+    pub leaves : (b j i offset : ℕ) (base : BaseInfo) (leaf : Leaf) → slice_get flow.bases.items b ≡ Some base → slice_get base.shape.cells j ≡ Some leaf → state.entered b ≡ Some i → IsPlaceOf leaf offset → ExactLeaf state (value_at l n row (leaf_position base j)) i offset leaf

@@ -33,30 +33,30 @@ module _ {I : Type 0} (n : IntegersOf I) (entered : ℕ → Option ℕ) where
     pub null : v.null ≡ false
     pub ended : v.ended ≡ false
 
-  abbrev pub TellsByLife : Pointers I → Life → ℕ → ℕ → ℕ → ℕ → Type 0
-  TellsByLife v live i offset lo hi = IsIntoOne v i offset lo hi
-  TellsByLife v ended i offset lo hi = IsNowhere v false true
-  TellsByLife v freed i offset lo hi = ⊥
+  abbrev pub ExactByLife : Pointers I → Life → ℕ → ℕ → ℕ → ℕ → Type 0
+  ExactByLife v live i offset lo hi = IsIntoOne v i offset lo hi
+  ExactByLife v ended i offset lo hi = IsNowhere v false true
+  ExactByLife v freed i offset lo hi = ⊥
 
   module _ (memory : Memory) where
-    abbrev pub TellsPointer : Pointers I → MachinePointer → Type 0
-    TellsPointer v null = IsNowhere v true false
-    TellsPointer v (into i offset lo hi) = TellsByLife v (life_at memory i) i offset lo hi
+    abbrev pub ExactPointer : Pointers I → MachinePointer → Type 0
+    ExactPointer v null = IsNowhere v true false
+    ExactPointer v (into i offset lo hi) = ExactByLife v (life_at memory i) i offset lo hi
 
-    pub record TellsNumber (v : Value I) (z : ℤ) (labels : Labels) : Type 0 where
+    pub record ExactNumber (v : Value I) (z : ℤ) (labels : Labels) : Type 0 where
       pub number : IsOne n v.num z
       pub labels_are : v.labels ≡ as_set labels
       pub apart : IsNowhere v.pointer false false
       pub determinate : v.indeterminate ≡ false
 
-    pub record TellsPointing (v : Value I) (p : MachinePointer) : Type 0 where
+    pub record ExactPointing (v : Value I) (p : MachinePointer) : Type 0 where
       pub apart : IsNone n v.num
-      pub points : TellsPointer v.pointer p
+      pub points : ExactPointer v.pointer p
       pub determinate : v.indeterminate ≡ false
 
-    abbrev pub TellsScalar : Value I → Scalar → Type 0
-    TellsScalar v (integer z labels) = TellsNumber v z labels
-    TellsScalar v (pointer p) = TellsPointing v p
+    abbrev pub ExactScalar : Value I → Scalar → Type 0
+    ExactScalar v (integer z labels) = ExactNumber v z labels
+    ExactScalar v (pointer p) = ExactPointing v p
 
   -- indeterminate alone
   pub record IsBlank (v : Value I) : Type 0 where
@@ -65,6 +65,6 @@ module _ {I : Type 0} (n : IntegersOf I) (entered : ℕ → Option ℕ) where
     pub indeterminate : v.indeterminate ≡ true
 
   -- a scalar, or nothing determinate
-  abbrev pub TellsHeld : Memory → Value I → Option Scalar → Type 0
-  TellsHeld memory v None = IsBlank v
-  TellsHeld memory v (Some scalar) = TellsScalar memory v scalar
+  abbrev pub ExactHeld : Memory → Value I → Option Scalar → Type 0
+  ExactHeld memory v None = IsBlank v
+  ExactHeld memory v (Some scalar) = ExactScalar memory v scalar

@@ -4,7 +4,7 @@ ghost use Rattle.cc_base.specs.IntegerLaws.{SoundLaws};
 ghost use Rattle.cfg.specs.declared.programs.Flow.{Flow};
 ghost use Rattle.interval_domain.specs.Intervals.IntervalNumbers.{interval_numbers};
 ghost use Rattle.transfer_exact.specs.Values.ExactNumbers.{ExactLaws};
-ghost use Rattle.transfer_exact.specs.Values.SingleLaws.{ValueStepsAreTold};
+ghost use Rattle.transfer_exact.specs.Values.SingleLaws.{ValueStepsAreExact};
 
 use cc_base::IntDomain;
 
@@ -14,6 +14,6 @@ pub fn intervals_are_exact()
 {}
 
 /// Constants, operators on one and two integers, comparisons, truth and conversions.
-pub fn value_steps_are_told<I: IntDomain>()
-    ensures { (flow : Flow) → SoundLaws I.lattice I.numbers I.stands → ExactLaws I.numbers → ValueStepsAreTold I.lattice I.numbers I.stands flow }
+pub fn value_steps_are_exact<I: IntDomain>()
+    ensures { (flow : Flow) → SoundLaws I.lattice I.numbers I.stands → ExactLaws I.numbers → ValueStepsAreExact I.lattice I.numbers I.stands flow }
 {}

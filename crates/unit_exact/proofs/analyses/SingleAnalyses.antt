@@ -57,27 +57,27 @@ use Rattle.entry_sound.proofs.tables.Beginnings.{runs_begin}
 use Rattle.entry_sound.proofs.entries.EntryRows.{entry_stands}
 use Rattle.entry_sound.proofs.checked.CheckedStarts.{sound_structs, unit_starts}
 use Rattle.row_bounds.proofs.entries.RegularStarts.{regular_fits}
-use Rattle.transfer_exact.specs.Values.SingleRows.{IsPlainProgram, TellsState}
+use Rattle.transfer_exact.specs.Values.SingleRows.{IsPlainProgram, ExactState}
 use Rattle.transfer_exact.specs.Accesses.TypedAccesses.{HasObjects}
 use Rattle.transfer_exact.proofs.values.ExactIntervals.{intervals_exact}
 use Rattle.transfer_exact.proofs.values.ValueSteps.{value_step_told}
 use Rattle.transfer_exact.proofs.pointers.PointerSteps.{pointer_step_told}
 use Rattle.transfer_exact.proofs.calls.PlainCalls.{call_told}
-use Rattle.transfer_exact.proofs.accesses.ToldLoads.{load_step_told}
-use Rattle.transfer_exact.proofs.accesses.ToldStores.{store_step_told}
-use Rattle.transfer_exact.proofs.accesses.ToldForgets.{forget_step_told}
-use Rattle.transfer_exact.proofs.accesses.ToldClears.{clear_step_told}
-use Rattle.transfer_exact.proofs.objects.ToldEnters.{enter_step_told}
-use Rattle.transfer_exact.proofs.objects.ToldLeaves.{leave_step_told}
-use Rattle.transfer_exact.proofs.spelling.ToldSpells.{spell_step_told}
-use Rattle.transfer_exact.specs.Edges.WayLaws.{TestIsTold, CaseIsTold, KindIsTold, TestsAreTold}
-use Rattle.transfer_exact.proofs.edges.WaysTold.{way_told}
+use Rattle.transfer_exact.proofs.accesses.ExactLoads.{load_step_told}
+use Rattle.transfer_exact.proofs.accesses.ExactStores.{store_step_told}
+use Rattle.transfer_exact.proofs.accesses.ExactForgets.{forget_step_told}
+use Rattle.transfer_exact.proofs.accesses.ExactClears.{clear_step_told}
+use Rattle.transfer_exact.proofs.objects.ExactEnters.{enter_step_told}
+use Rattle.transfer_exact.proofs.objects.ExactLeaves.{leave_step_told}
+use Rattle.transfer_exact.proofs.spelling.ExactSpells.{spell_step_told}
+use Rattle.transfer_exact.specs.Edges.WayLaws.{TestIsExact, CaseIsExact, KindIsExact, TestsAreExact}
+use Rattle.transfer_exact.proofs.edges.EdgesExact.{way_told}
 use Rattle.transfer_exact.proofs.edges.PointerTests.{pointer_test_told}
 use Rattle.transfer_exact.proofs.edges.NullTests.{null_test_told}
 use Rattle.transfer_exact.proofs.edges.CaseTests.{case_test_told}
-use Rattle.run_exact.proofs.struct_copies.ToldCopies.{copy_step_told}
+use Rattle.run_exact.proofs.struct_copies.ExactCopies.{copy_step_told}
 use Rattle.transfer_exact.proofs.tests.IntegerTests.{integer_test_told}
-use Rattle.run_exact.proofs.entries.ToldStarts.{start_is_told}
+use Rattle.run_exact.proofs.entries.ExactStarts.{start_is_exact}
 use Rattle.run_exact.specs.Runs.SingleRuns.{SingleLaws, SwitchesAreApart, IsNeverStuckAlone, IsSingleRun, IsViolatedAlone}
 use Rattle.unit_exact.specs.Analyses.SingleAnalyses.{FindsJustRunOf, FindsJustRunsOfChecked}
 use Rattle.run_exact.proofs.runs.PassedBlocks.{both}
@@ -103,7 +103,7 @@ module _ (flow : Flow) where
   }
 
   module _ (p : HasPremises flow) where
-    test_told : (test : Option Test) → TestIsProved flow test → TestIsTold interval_lattice interval_numbers Stands flow test
+    test_told : (test : Option Test) → TestIsProved flow test → TestIsExact interval_lattice interval_numbers Stands flow test
     test_told None h = tt
     test_told (Some test) h = elim h [
       | inl k ↦ (λ naming row s r t d. integer_test_told interval_order interval_bounding interval_sound intervals_exact flow p naming row s r t test k d)
@@ -113,11 +113,11 @@ module _ (flow : Flow) where
       ]
     ]
 
-    case_told : (value : ℤ) (base : Option ℕ) → CaseIsProved flow base → CaseIsTold interval_lattice interval_numbers Stands flow value base
+    case_told : (value : ℤ) (base : Option ℕ) → CaseIsProved flow base → CaseIsExact interval_lattice interval_numbers Stands flow value base
     case_told value None h = tt
     case_told value (Some b) h = λ naming row s r t d. case_test_told interval_order interval_bounding flow p naming row s r t value b h d
 
-    kind_told : (k : EdgeKind) → KindIsProved flow k → KindIsTold interval_lattice interval_numbers Stands flow k
+    kind_told : (k : EdgeKind) → KindIsProved flow k → KindIsExact interval_lattice interval_numbers Stands flow k
     kind_told (kind.When truth test kept) h = test_told test h
     kind_told (kind.Case test) h = case_told test.value test.object h
     kind_told kind.Jump h = tt
@@ -171,9 +171,9 @@ module _ (flow : Flow) (list : List ℤ) (found : List Diag) (a : IsAnalysis flo
         let own : entry_parameters u ≡ [] = none_taken (λ (x : LocalView). x.ctype) (entry_parameters u) (starts.inputs.types ∙ ap (map (λ (x : ParameterInput). Int x.kind)) none) in
         ap (λ z. begun_by u (flow_view flow) (with_parameters u z (world_before u []))) own
 
-    tells : (single : IsSingleRun flow u) → TellsState interval_lattice interval_numbers flow (start_of interval_lattice interval_numbers flow list) (state_of begin)
+    tells : (single : IsSingleRun flow u) → ExactState interval_lattice interval_numbers flow (start_of interval_lattice interval_numbers flow list) (state_of begin)
     tells single =
-        start_is_told interval_order interval_bounding interval_sound interval_ranges intervals_exact flow standard_limits regular.well_formed p (objects single.plain) single.plain single.parameters u starts.model
+        start_is_exact interval_order interval_bounding interval_sound interval_ranges intervals_exact flow standard_limits regular.well_formed p (objects single.plain) single.plain single.parameters u starts.model
         (runs_begin flow standard_limits regular.well_formed regular.initial p u starts)
         (replicate flow.width Nothing) (start_of interval_lattice interval_numbers flow list) (length-replicate flow.width Nothing) (regular_fits flow list a.regular enough.reaches a.started) [] begin (begins single.parameters)
 

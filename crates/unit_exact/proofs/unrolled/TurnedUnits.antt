@@ -22,8 +22,8 @@ use Rattle.analysis_determined.specs.Analyses.{IsAnalysis}
 use Rattle.entry_sound.specs.Checked.CheckedStarts.{IsUnitOf}
 use Rattle.run_exact.specs.Runs.SingleRuns.{SwitchesAreApart, IsNeverStuckAlone, IsSingleRun, IsViolatedAlone}
 use Rattle.unit_exact.proofs.units.SingleUnits.{by_ended_run, by_unit_run}
-use Rattle.unit_exact.specs.Unrolled.TurnedLoops.{LoopedUnitsAreToldExactly}
-use Rattle.unit_exact.specs.Unrolled.TurnedUnits.{TurnedUnitsAreToldExactly}
+use Rattle.unit_exact.specs.Unrolled.TurnedLoops.{LoopedUnitsAreExact}
+use Rattle.unit_exact.specs.Unrolled.TurnedUnits.{UnrolledUnitsAreExact}
 use Rattle.unit_exact.proofs.unrolled.SingleCopies.{apart_too, same_found, never_stuck_too, single_too, single_run}
 
 module _ (turns : ℕ) (limits : Limits) (flow turned : Flow) (good : is_well_formed limits flow ≡ true) (h : flow_view turned ≡ split turns (flow_view flow)) (list : List ℤ) (found : List Diag) (a : IsAnalysis turned list found) (u : UnitView) (is : IsUnitOf u flow) where
@@ -40,10 +40,10 @@ module _ (turns : ℕ) (limits : Limits) (flow turned : Flow) (good : is_well_fo
       let starts = starts_same turns limits flow turned good h u (unit_starts u flow (same_structs turns flow turned h (analysed_structs turned list found a)) is) in
       alone d (finds_run turned list found a u starts (apart_too turns limits flow turned good h apart) (never_stuck_too turns limits flow turned good h u unstuck) single d)
 
-pub turned_units_told : LookedRunsAreProgramRuns → LookedUnitsAreNeverStuck → UnitSwitchesAreApart → UnitsWithoutLoopsEnd → TurnedUnitsAreToldExactly
+pub turned_units_told : LookedRunsAreProgramRuns → LookedUnitsAreNeverStuck → UnitSwitchesAreApart → UnitsWithoutLoopsEnd → UnrolledUnitsAreExact
 turned_units_told laws never apart ends turns flow turned list found h a u limits is o looks single d =
     by_unit_run laws never ends u limits flow o looks single found d (λ unstuck. turned_run turns limits flow turned o.good h list found a u is (apart u limits flow o) unstuck (run_of (single_too turns limits flow turned o.good h u single)) d)
 
-pub looped_units_told : LookedRunsAreProgramRuns → LookedUnitsAreNeverStuck → UnitSwitchesAreApart → LoopedUnitsAreToldExactly
+pub looped_units_told : LookedRunsAreProgramRuns → LookedUnitsAreNeverStuck → UnitSwitchesAreApart → LoopedUnitsAreExact
 looped_units_told laws never apart turns flow turned list found h a u limits is o looks single end stopped d =
     by_ended_run laws never u limits flow o looks end stopped found d (λ unstuck. turned_run turns limits flow turned o.good h list found a u is (apart u limits flow o) unstuck (single_run turns limits flow turned o.good h u single) d)

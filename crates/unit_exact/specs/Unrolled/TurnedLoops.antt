@@ -37,7 +37,7 @@ pub record IsSingleUpTo (turns : ℕ) (flow : Flow) (u : UnitView) : Type 0 wher
   pub steps : HasTypedAccesses flow u
 
 -- what an analysis with so many turns unrolled finds of a unit whose run ends is just what that run violates
-abbrev pub LoopedUnitsAreToldExactly : Type 0
-LoopedUnitsAreToldExactly = (turns : ℕ) (flow turned : Flow) (list : List ℤ) (found : List Diag) → flow_view turned ≡ split turns (flow_view flow) → IsAnalysis turned list found
+abbrev pub LoopedUnitsAreExact : Type 0
+LoopedUnitsAreExact = (turns : ℕ) (flow turned : Flow) (list : List ℤ) (found : List Diag) → flow_view turned ≡ split turns (flow_view flow) → IsAnalysis turned list found
     → (u : UnitView) (limits : Limits) → IsUnitOf u flow → IsProgramOf u limits flow → PassesLooks u → IsSingleUpTo turns flow u → (end : ℕ) → HasStopped (Run u [] end)
     → (d : Diag) → Contains found d ↔ RunViolates u (record { at = d.place; rule = d.rule })

@@ -12,8 +12,8 @@ use Rattle.run_exact.specs.Runs.SingleRuns.{IsSingleProgram}
 use Rattle.unit_exact.specs.Units.SingleUnits.{FindsJustUnitRuns}
 
 -- just what the run of the unit violates, by an analysis of the program with turns unrolled
-abbrev pub TurnedUnitsAreToldExactly : Type 0
-TurnedUnitsAreToldExactly = (turns : ℕ) (flow turned : Flow) (list : List ℤ) (found : List Diag) → flow_view turned ≡ split turns (flow_view flow) → IsAnalysis turned list found → FindsJustUnitRuns flow found
+abbrev pub UnrolledUnitsAreExact : Type 0
+UnrolledUnitsAreExact = (turns : ℕ) (flow turned : Flow) (list : List ℤ) (found : List Diag) → flow_view turned ≡ split turns (flow_view flow) → IsAnalysis turned list found → FindsJustUnitRuns flow found
 
 -- a program whose one run passes each block once at most stays one: no edge of a copy goes back, and the run in the
 -- copies accesses what the run of the program does

@@ -11,7 +11,7 @@ use simulation_units::checked_units::{looked_runs_are_program_runs, looked_units
 use simulation_units::termination::units_without_loops_end;
 
 /// The run comes to an end, as there are no loops.
-pub fn plain_units_are_told_exactly()
+pub fn plain_units_are_exact()
     ensures { (flow : Flow) (list : List ℤ) (found : List Diag) → IsAnalysis flow list found → FindsJustUnitRuns flow found }
 {
     looked_runs_are_program_runs();

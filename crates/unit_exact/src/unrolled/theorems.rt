@@ -1,8 +1,8 @@
 //! Of a plain unit an analysis of the program with turns unrolled finds just what the unit's run violates, as one of the
 //! program itself does. What is supposed of the unit's program stands in `specs/SingleUnits.antt` of
 //! `abstract_steps_single_units`.
-ghost use Rattle.unit_exact.specs.Unrolled.TurnedLoops.{LoopedUnitsAreToldExactly};
-ghost use Rattle.unit_exact.specs.Unrolled.TurnedUnits.{TurnedProgramsAreSingle, TurnedUnitsAreToldExactly};
+ghost use Rattle.unit_exact.specs.Unrolled.TurnedLoops.{LoopedUnitsAreExact};
+ghost use Rattle.unit_exact.specs.Unrolled.TurnedUnits.{TurnedProgramsAreSingle, UnrolledUnitsAreExact};
 
 use crate::switches::unit_switches_are_apart;
 use simulation_units::checked_units::{looked_runs_are_program_runs, looked_units_are_never_stuck};
@@ -14,8 +14,8 @@ pub fn turned_programs_are_single()
 {}
 
 /// Each pair that is found is violated by the unit's run under no numbers of the outside, and each that it violates is found.
-pub fn turned_units_are_told_exactly()
-    ensures { TurnedUnitsAreToldExactly }
+pub fn unrolled_units_are_exact()
+    ensures { UnrolledUnitsAreExact }
 {
     looked_runs_are_program_runs();
     looked_units_are_never_stuck();
@@ -25,8 +25,8 @@ pub fn turned_units_are_told_exactly()
 
 /// So it is of a unit that is plain but for its loops and jumps back, whose run ends and takes no more turns of them than are
 /// unrolled.
-pub fn looped_units_are_told_exactly()
-    ensures { LoopedUnitsAreToldExactly }
+pub fn looped_units_are_exact()
+    ensures { LoopedUnitsAreExact }
 {
     looked_runs_are_program_runs();
     looked_units_are_never_stuck();
