@@ -10,37 +10,44 @@ const HELP: &str = "ccheck: a static analyser for C
 
 Usage: ccheck VERB UNIT [DIR]... [OPTIONS]
 
-Verbs:
-  check   analyse UNIT, with headers searched in each DIR, and print the places
-          where it may break a rule
-  gate    the same, without the diagnostics that the file of --base holds
-  load    make a unit from --seed and --count, analyse it under the name UNIT,
-          and print a summary
-  prove   analyse UNIT, and print the map that is found as a certificate
-  replay  take one run of UNIT over the numbers of --draws, and print the places
-          where it breaks a rule and how it stands at its end
-  verify  check the certificate of --cert for UNIT without the solver, and print
-          the places where UNIT may break a rule on runs by its map
+UNIT is one C file. Each DIR is a directory that is searched for headers: in
+`ccheck check a.c b.c`, b.c is taken for a directory and is not analysed.
 
-Options, each at most once; a verb takes those of others and leaves them unused:
+Verbs:
+  check   analyse UNIT and print the places where it may break a rule
+  gate    the same, without the diagnostics that are in the file of --base
+  load    make a unit from --seed and --count, analyse it under the name UNIT,
+          and print a summary (a benchmark)
+  prove   analyse UNIT and print the invariant map as a certificate
+  replay  execute one run of UNIT over the inputs of --draws, and print the
+          places where it breaks a rule and how it ends
+  verify  check the certificate of --cert for UNIT without the solver, and print
+          the places where UNIT may break a run-time rule
+
+Options (each at most once; a verb ignores those that it does not use):
   --model NAME_OR_FILE  lp64, ilp32, llp64, or a TOML file with a data model
                         [default: lp64]
   --format FORMAT       text, json or sarif, for check [default: text]
-  --entry NAME          the function at which runs start [default: main]
-  --turns K             0 to 64: the first K turns back, of all loops together,
-                        are analysed one by one, for check [default: none is]
-  --base FILE           a SARIF report, for gate, which needs it
-  --cert FILE           a certificate, for verify, which needs it
-  --draws FILE          what a run takes in, for replay: whole numbers, set apart
-                        by blanks and line ends [default: none]
-  --steps N             0 to 1000000: how many steps a run takes at most, for
-                        replay [default: 100000]
+  --entry NAME          the function at which runs begin [default: main]
+  --turns K             0 to 64: analyse the first K iterations one by one,
+                        counted over all loops, for check [default: none]
+  --base FILE           the baseline, a SARIF report; gate needs it
+  --cert FILE           the certificate; verify needs it
+  --draws FILE          the inputs of a run, for replay: whole numbers between
+                        blanks and line ends [default: none]
+  --steps N             0 to 1000000: the most steps of a run, for replay
+                        [default: 100000]
   --seed N              0 to 2147483647, for load [default: 1]
   --count N             1 to 300, for load [default: 10]
-  -h, --help            this text, as the only word
-  -V, --version         the version, as the only word
+  -h, --help            print this text
+  -V, --version         print the version
 
-Rules on runs:
+If the answer is `ccheck: words refused`: the verb is not one of these, UNIT is
+missing, an option is unknown, abbreviated, given twice, or its value is missing
+or out of range, gate lacks --base, or verify lacks --cert. There are no options
+-I, -D, -v and -q.
+
+Run-time rules:
   accfree    freed memory is used
   chrsgnext  a character function gets an argument outside its range
   dblfree    memory is freed twice
@@ -50,23 +57,23 @@ Rules on runs:
   invptr     a pointer is out of bounds
   libptr     a library call passes the end of an object
   nonnullcs  a string has no terminating zero
-  nullref    a null or ended pointer is dereferenced
+  nullref    a null or dangling pointer is dereferenced
   ptrobj     pointers into different objects are compared or subtracted
   strmod     a string literal is modified
   taintsink  a tainted value reaches a size or an index
   uninitref  uninitialized memory is read
   xfree      memory that was not allocated is freed
 Rules on the text:
-  boolasgn   an assignment stands as a condition
-  sizeofptr  sizeof is taken of a pointer
+  boolasgn   an assignment is used as a condition
+  sizeofptr  sizeof is applied to a pointer
   swtchdflt  a switch has no default
 
 Status:
-  0  accepted, no diagnostic       5  a read failed, nothing is written
-  1  accepted, with diagnostics    6  a write failed
-  2  the unit is refused           7  out of memory, nothing is written
-  3  words or a file are refused   8  a limit is passed
-  4  no such file                  9  a certificate is refused
+  0  accepted, no diagnostic           5  a read failed; nothing is printed
+  1  accepted, with diagnostics        6  a write failed
+  2  the unit is refused               7  out of memory; nothing is printed
+  3  command line or a file refused    8  a limit is exceeded
+  4  no such file                      9  the certificate is refused
 ";
 
 fn fixed(alloc: Global, status: u8, text: &str) -> Result<Answer, AllocError>
