@@ -1,6 +1,4 @@
 pub mod ApartTexts
-pub mod AppendZeros
-pub mod AppendRows
 pub mod AppendRules
 pub mod AppendWrites
 pub mod AppendPlaces

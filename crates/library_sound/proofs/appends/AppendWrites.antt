@@ -22,8 +22,8 @@ use Rattle.store_sound.specs.Regions.RegionWrites.{IsRegion}
 use Rattle.library_sound.specs.Texts.TextWrites.{IsTextWrite, IsWrittenText}
 use Rattle.library_sound.specs.Appends.ApartTexts.{IsByteFrom}
 use Rattle.library_sound.specs.Appends.AppendWrites.{EndsAt}
-use Rattle.library_sound.proofs.appends.AppendZeros.{IsRuled, says_nothing, says}
-use Rattle.library_sound.proofs.appends.AppendRows.{text_stands, text_long}
+use Rattle.library_sound.proofs.texts.TextZeros.{IsRuled, says_nothing, says}
+use Rattle.library_sound.proofs.texts.TextRows.{text_stands, text_long}
 use Rattle.library_sound.proofs.appends.AppendRules.{append_rule}
 
 pub byte_from : (size : Option ℕ) (start x : ℕ) → IsIn size start x → IsByteFrom start size x

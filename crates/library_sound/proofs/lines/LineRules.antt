@@ -38,8 +38,8 @@ use Rattle.store_sound.proofs.chars.ByteZeros.{offsets_stand}
 use Rattle.store_sound.specs.Regions.RegionWrites.{IsRegion}
 use Rattle.store_sound.proofs.regions.RegionArrays.{starts_in, before_in, array_short, array_before, array_there, IsText, wrote_text}
 use Rattle.library_sound.specs.Texts.TextWrites.{IsTextWrite}
-use Rattle.library_sound.proofs.appends.AppendZeros.{IsRuled, says}
-use Rattle.library_sound.proofs.appends.AppendRows.{text_stands, text_long}
+use Rattle.library_sound.proofs.texts.TextZeros.{IsRuled, says}
+use Rattle.library_sound.proofs.texts.TextRows.{text_stands, text_long}
 
 -- characters from an offset on, then a zero, within what was written
 pub record HasTextFirst (new : Memory) (i offset size t : ℕ) : Type 0 where

@@ -1,4 +1,4 @@
--- The row behind a text that is written stands for the bytes of the text.
+-- The row behind a text that is written stands for its bytes, where the rule holds of each array of each base.
 use Rattle.std.proofs.Common.{◌≡◌, ℕ, zero, suc, ◌+◌, ◌-◌, ◌^◌, ◌<◌, ◌≤◌, Bool, true, false, cond, Some, List, length, arith, subst, sym, refl}
 use Rattle.std.specs.Prelude.{slice_get, ℤ, is_some}
 use Rattle.std.proofs.lemmas.Option.{slice_get_within}
@@ -89,7 +89,7 @@ module _ {I : Type 0} (l : LatticeOf I) (n : IntegersOf I) (m : Model) (base : B
 -- ---- a base, and all
 
 module _ {I : Type 0} {l : LatticeOf I} {n : IntegersOf I} {gamma : I → ℤ → Type 0} (o : OrderLaws l) (q : BoundLaws l n gamma) (flow : Flow) (naming : Naming) {old new : Memory} {i offset size : ℕ} (s : IsRegion old new i offset size) (sane : IsMemoryOf flow.model flow.bases.items naming new) (write : TextWrite I) (k : IsTextWrite l n gamma write new i offset size)
-    (alone : Bool) (b : ℕ) (base : BaseInfo) (fits : Fits base) (shape : IsShaped base) (single : alone ≡ true → 0 < size → (j : ℕ) → IsLiveOf naming old b j → j ≡ i) (ruled : IsRuled o q flow naming s sane write k alone b single) (row : List (Cell I)) (long : base.first + base_values base ≤ length row) (t : InGammaBase l n gamma flow naming old b base row) where
+    (alone : Bool) (b : ℕ) (base : BaseInfo) (fits : Fits base) (shape : IsShaped base) (single : alone ≡ true → 0 < size → (j : ℕ) → IsLiveOf naming old b j → j ≡ i) (ruled : IsRuled o q flow naming s sane write k alone b base single) (row : List (Cell I)) (long : base.first + base_values base ≤ length row) (t : InGammaBase l n gamma flow naming old b base row) where
   leaf_new : (j : ℕ) (leaf : Leaf) → slice_get base.shape.cells j ≡ Some leaf → InGammaLeaf gamma flow naming new b leaf (value_at l n (write_leaves l n flow.model base write row) (leaf_position base j))
   unfolding write_leaves
   leaf_new j leaf e =
@@ -139,7 +139,7 @@ module _ {I : Type 0} {l : LatticeOf I} {n : IntegersOf I} {gamma : I → ℤ �
       let x = zero_is base z fits (omega (arith, u)) in
       zero_turn l n (λ f. (h : ℕ) → IsLiveOf naming old b h → InGammaZero gamma naming old f (array_bytes part (bytes_at old h))) (λ f. InGammaZero gamma naming new f (array_bytes part (bytes_at new j))) (zero_position base z) (write_zero l n base write alone part z) r _
       (part_turn base fits (write_zero l n base write alone) (zero_only l n flow.model base fits write alone) z part e r)
-      (λ r2 equal zeros2. zero_written o q flow naming s sane write k alone b single ruled base z part r2 (omega (arith, x, u, equal, same, long)) zeros2 j alive)
+      (λ r2 equal zeros2. zero_written o q flow naming s sane write k alone b base single ruled z part e r2 (omega (arith, x, u, equal, same, long)) zeros2 j alive)
       zeros
 
   pub base_written : InGammaBase l n gamma flow naming new b base (write_base l n flow.model base write alone row)
@@ -153,7 +153,7 @@ module _ {I : Type 0} {l : LatticeOf I} {n : IntegersOf I} {gamma : I → ℤ �
     (here : (b : ℕ) → naming i ≡ Some b → 0 < size → has_base write.bases b ≡ true)
     (single : is_one_instance flow.bases.items write.bases ≡ true → 0 < size → (b j : ℕ) → has_base write.bases b ≡ true → IsLiveOf naming state.memory b j → j ≡ i)
     (k : (b : ℕ) → IsTextWrite l n gamma (write_into write b) new i offset size)
-    (ruled : (b : ℕ) (base : BaseInfo) → slice_get flow.bases.items b ≡ Some base → (has : has_base write.bases b ≡ true) → IsRuled o q flow naming region sane (write_into write b) (k b) (is_one_instance flow.bases.items write.bases) b (λ alone some j alive. single alone some b j has alive)) where
+    (ruled : (b : ℕ) (base : BaseInfo) → slice_get flow.bases.items b ≡ Some base → (has : has_base write.bases b ≡ true) → IsRuled o q flow naming region sane (write_into write b) (k b) (is_one_instance flow.bases.items write.bases) b base (λ alone some j alive. single alone some b j has alive)) where
   base_long : (b : ℕ) (base : BaseInfo) → slice_get flow.bases.items b ≡ Some base → (base.first + base_values base ≤ 2 ^ 64 - 1) × (base.first + base_values base ≤ length row)
   base_long b base e = let c = laid.laid.close b base e in let d = laid.laid.small in let f = laid.long in (omega (arith, c, d), omega (arith, c, f))
 

@@ -30,18 +30,18 @@ module _ {I : Type 0} {l : LatticeOf I} {n : IntegersOf I} {gamma : I → ℤ �
   of_base : (b : ℕ) → IsTextWrite l n gamma (write_into write b) new i offset size
   of_base b = record { window = k.window; start = k.start; one_byte = k.one_byte; numbers = k.numbers; characters = k.characters }
 
-  ruled : (b : ℕ) (base : BaseInfo) → slice_get flow.bases.items b ≡ Some base → (has : has_base write.bases b ≡ true) → IsRuled o q flow naming region sane (write_into write b) (of_base b) (is_one_instance flow.bases.items write.bases) b (λ alone some j alive. single alone some b j has alive)
+  ruled : (b : ℕ) (base : BaseInfo) → slice_get flow.bases.items b ≡ Some base → (has : has_base write.bases b ≡ true) → IsRuled o q flow naming region sane (write_into write b) (of_base b) (is_one_instance flow.bases.items write.bases) b base (λ alone some j alive. single alone some b j has alive)
   ruled b base at has = by_rule write.zero refl rule
     where
-      by_rule : (z : ZeroRule I) → write.zero ≡ z → HoldsOf l n gamma new i offset size z → IsRuled o q flow naming region sane (write_into write b) (of_base b) (is_one_instance flow.bases.items write.bases) b (λ alone some j alive. single alone some b j has alive)
+      by_rule : (z : ZeroRule I) → write.zero ≡ z → HoldsOf l n gamma new i offset size z → IsRuled o q flow naming region sane (write_into write b) (of_base b) (is_one_instance flow.bases.items write.bases) b base (λ alone some j alive. single alone some b j has alive)
       by_rule Any e h = says_nothing (ap (λ z. rule_in z b) e)
       by_rule (Append length unknown) e h = absurd h
       by_rule (Text length) e h =
           let w = h.1 in
           let long = w.long in
-          says (omega (arith, long)) (λ part target f found inside ends near old.
-          subst (λ z. InGammaZero gamma naming new (zero_after l n f target.local z) (array_bytes part (bytes_at new i))) (sym (ap (λ z. rule_in z b) e))
-          (text_rule o q flow naming (subst (IsRegion state.memory new i offset) long region) sane write.start k.start.0 k.start.1 w.text w.closed length h.2 part target f found inside (subst (λ z. IsIn part.size part.offset (offset + (z - 1))) long ends) near old))
+          says (omega (arith, long)) (λ z part target f among named found inside ends near old.
+          subst (λ y. InGammaZero gamma naming new (zero_after l n f target.local y) (array_bytes part (bytes_at new i))) (sym (ap (λ z. rule_in z b) e))
+          (text_rule o q flow naming (subst (IsRegion state.memory new i offset) long region) sane write.start k.start.0 k.start.1 w.text w.closed length h.2 part target f found inside (subst (λ y. IsIn part.size part.offset (offset + (y - 1))) long ends) near old))
 
   pub text_write_stands : InGamma l n gamma flow naming (write_text l n flow write row) (record { memory = new; temps = state.temps; entered = state.entered })
   text_write_stands = text_stands o q flow naming row state laid s new i offset size region sane write here single of_base ruled

@@ -1,6 +1,7 @@
--- What a text that is written makes of the first zeros stands for the bytes of the text.
+-- What a text that is written makes of the first zeros stands for its bytes, where the rule holds of each array of the
+-- base.
 use Rattle.std.proofs.Common.{◌≡◌, ℕ, ◌+◌, ◌-◌, ◌^◌, ◌<◌, ◌≤◌, Bool, true, false, cond, ◌&&◌, Option, Some, None, List, length, arith, subst, sym, refl, ◌∙◌, inl, inr, ◌⊎◌}
-use Rattle.std.specs.Prelude.{ℤ, is_some}
+use Rattle.std.specs.Prelude.{slice_get, ℤ, is_some}
 use Rattle.std.proofs.lemmas.Bool.{cases_eq, true≢false, or_cases, and_parts}
 use Rattle.cc_base.specs.Lattices.{LatticeOf, OrderLaws}
 use Rattle.cc_base.specs.IntegerDomains.{IntegersOf, BoundLaws, IsNear}
@@ -41,10 +42,10 @@ short_or_inside (Append length unknown) one inside t h = begun_inside one inside
 short_or_inside Any one inside t h = begun_inside one inside t h
 
 module _ {I : Type 0} {l : LatticeOf I} {n : IntegersOf I} {gamma : I → ℤ → Type 0} (o : OrderLaws l) (q : BoundLaws l n gamma) (flow : Flow) (naming : Naming) {old new : Memory} {i offset size : ℕ} (s : IsRegion old new i offset size) (sane : IsMemoryOf flow.model flow.bases.items naming new) (write : TextWrite I) (k : IsTextWrite l n gamma write new i offset size)
-    (alone : Bool) (b : ℕ) (single : alone ≡ true → 0 < size → (j : ℕ) → IsLiveOf naming old b j → j ≡ i) where
-  -- what the rule gives for an array that has all of the region
+    (alone : Bool) (b : ℕ) (base : BaseInfo) (single : alone ≡ true → 0 < size → (j : ℕ) → IsLiveOf naming old b j → j ≡ i) where
+  -- what the rule gives for an array of a base of the instance, where it has all of the region
   abbrev pub RuleStands : Type 0
-  RuleStands = (part : ZeroPart) (target : ZeroTarget) (f : FirstZero I) → zero_target part write.start ≡ Some target → IsIn part.size part.offset offset → IsIn part.size part.offset (offset + (size - 1)) → IsNear (n.bounds f.at)
+  RuleStands = (z : ℕ) (part : ZeroPart) (target : ZeroTarget) (f : FirstZero I) → slice_get base.shape.zeros z ≡ Some part → naming i ≡ Some b → zero_target part write.start ≡ Some target → IsIn part.size part.offset offset → IsIn part.size part.offset (offset + (size - 1)) → IsNear (n.bounds f.at)
       → InGammaZero gamma naming old f (array_bytes part (bytes_at old i)) → InGammaZero gamma naming new (zero_after l n f target.local write.zero) (array_bytes part (bytes_at new i))
 
   small_array : (part : ZeroPart) (j : ℕ) → length (array_bytes part (bytes_at new j)) ≤ 2 ^ 64 - 1
@@ -53,7 +54,7 @@ module _ {I : Type 0} {l : LatticeOf I} {n : IntegersOf I} {gamma : I → ℤ �
   small_byte : (x : ℕ) → x < offset + size → x ≤ 2 ^ 64 - 1
   small_byte x h = let fits = s.fits in let same = s.lengths i in let small = sane.small i in omega (arith, h, fits, same, small)
 
-  module _ (some : 0 < size) (rule : RuleStands) (part : ZeroPart) (f : FirstZero I) (near : IsNear (n.bounds f.at)) where
+  module _ (some : 0 < size) (rule : RuleStands) (z : ℕ) (part : ZeroPart) (among : slice_get base.shape.zeros z ≡ Some part) (f : FirstZero I) (near : IsNear (n.bounds f.at)) where
     by_sure : (sure : Bool) (new_zero : FirstZero I) (j : ℕ) → (sure ≡ true → InGammaZero gamma naming new new_zero (array_bytes part (bytes_at new j))) → InGammaZero gamma naming new new_zero (array_bytes part (bytes_at new j)) ⊎ InGammaZero gamma naming new f (array_bytes part (bytes_at new j)) → InGammaZero gamma naming new (sure_zero l sure f new_zero) (array_bytes part (bytes_at new j))
     by_sure true new_zero j h g = h refl
     by_sure false new_zero j h (inl g) = q.larger new_zero.at (l.join f.at new_zero.at) _ (o.join_right f.at new_zero.at) g
@@ -97,7 +98,7 @@ module _ {I : Type 0} {l : LatticeOf I} {n : IntegersOf I} {gamma : I → ℤ �
       sure_stands = elim (cases_eq j i) [
         | inr ne ↦ by_sure (alone && target.whole) (zero_after l n f target.local write.zero) j (λ e. absurd (true≢false (sym e ∙ not_both alone target.whole (λ a w. ne (single a some j alive))))) (inr (kept (λ d. absurd (ne d))))
         | inl d ↦ elim (in_or_not part.size part.offset offset) [
-          | inl first ↦ (let g = subst (λ z. InGammaZero gamma naming new (zero_after l n f target.local write.zero) (array_bytes part (bytes_at new z))) (sym d) (rule part target f found first (last_in first) near (subst (λ z. InGammaZero gamma naming old f (array_bytes part (bytes_at old z))) d h)) in
+          | inl first ↦ (let g = subst (λ z. InGammaZero gamma naming new (zero_after l n f target.local write.zero) (array_bytes part (bytes_at new z))) (sym d) (rule z part target f among (subst (λ y. naming y ≡ Some b) d alive.named) found first (last_in first) near (subst (λ z. InGammaZero gamma naming old f (array_bytes part (bytes_at old z))) d h)) in
               by_sure (alone && target.whole) (zero_after l n f target.local write.zero) j (λ e. g) (inl g))
           | inr out ↦ by_sure (alone && target.whole) (zero_after l n f target.local write.zero) j (λ e. absurd (true≢false (sym e ∙ not_both alone target.whole (λ a w. out (whole_starts w))))) (inr (kept (λ e. none_in out)))
         ]
@@ -110,7 +111,7 @@ module _ {I : Type 0} {l : LatticeOf I} {n : IntegersOf I} {gamma : I → ℤ �
     says_nothing : write.zero ≡ Any → IsRuled
     says : 0 < size → RuleStands → IsRuled
 
-  module _ (ruled : IsRuled) (base : BaseInfo) (z : ℕ) (part : ZeroPart) (row : List (Cell I)) (there : zero_position base z < length row) (zeros : (j : ℕ) → IsLiveOf naming old b j → InGammaZero gamma naming old (zero_at l n row (zero_position base z)) (array_bytes part (bytes_at old j))) (j : ℕ) (alive : IsLiveOf naming old b j) where
+  module _ (ruled : IsRuled) (z : ℕ) (part : ZeroPart) (among : slice_get base.shape.zeros z ≡ Some part) (row : List (Cell I)) (there : zero_position base z < length row) (zeros : (j : ℕ) → IsLiveOf naming old b j → InGammaZero gamma naming old (zero_at l n row (zero_position base z)) (array_bytes part (bytes_at old j))) (j : ℕ) (alive : IsLiveOf naming old b j) where
     abbrev f : FirstZero I
     f = zero_at l n row (zero_position base z)
 
@@ -118,7 +119,7 @@ module _ {I : Type 0} {l : LatticeOf I} {n : IntegersOf I} {gamma : I → ℤ �
     any_here = any_zero_stands o q naming new (array_bytes part (bytes_at new j)) (small_array part j)
 
     by_rule : IsRuled → (target : ZeroTarget) → zero_target part write.start ≡ Some target → text_lies_in_array write.zero write.one_byte (is_whole (zero_target part write.window)) target ≡ true → InGammaZero gamma naming new (sure_zero l (alone && target.whole) f (zero_after l n f target.local write.zero)) (array_bytes part (bytes_at new j))
-    by_rule (says some rule) target found lies = sure_stands some rule part f (zero_near q row (zero_position base z)) target found (zero_target part write.window) refl lies j alive (zeros j alive)
+    by_rule (says some rule) target found lies = sure_stands some rule z part among f (zero_near q row (zero_position base z)) target found (zero_target part write.window) refl lies j alive (zeros j alive)
     by_rule (says_nothing e) target found lies = subst (λ r. InGammaZero gamma naming new (sure_zero l (alone && target.whole) f (zero_after l n f target.local r)) (array_bytes part (bytes_at new j))) (sym e) (by_flag (alone && target.whole))
       where
         by_flag : (sure : Bool) → InGammaZero gamma naming new (sure_zero l sure f (any_zero l n)) (array_bytes part (bytes_at new j))
