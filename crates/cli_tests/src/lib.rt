@@ -37,3 +37,5 @@ mod size_rows;
 mod string_rows;
 #[cfg(test)]
 mod turn_rows;
+#[cfg(test)]
+mod word_rows;

@@ -1,2 +1,1 @@
-mod Numerals
 mod Joining

@@ -2,4 +2,5 @@
 #![tactic(auto)]
 
 pub mod draws;
+mod numerals;
 pub mod words;

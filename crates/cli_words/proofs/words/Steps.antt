@@ -1,15 +1,17 @@
 -- The steps of a replay that is asked for are in range.
 use Rattle.std.proofs.Common.{◌≡◌, ◌≤◌, ℕ, Bool, true, false, ◌&&◌, nat_le, List, [], ◌∷◌, Option, Some, None, if◌then◌else◌, refl, codes}
 use Rattle.std.proofs.lemmas.Bool.{leb-true}
-use Rattle.std.specs.Str.Parse.{without_leading_plus}
 use Rattle.clap.specs.Faults.{fault_of}
 use Rattle.clap.specs.Kinds.{Kinds}
 use Rattle.clap.specs.Simple.{matches_of}
 use Rattle.clap.specs.Walk.{Row, first_of}
+use Rattle.clap.specs.declared.error.kind.ErrorKind.{ErrorKind}
+use Rattle.clap.specs.declared.error.kind.ErrorKind.TheVariants as kind
 use Rattle.cli_words.specs.declared.words.commands.Format.{Format}
 use Rattle.cli_words.specs.declared.words.reading.OptionValues.{OptionValues}
+use Rattle.cli_words.specs.Numerals.{Bytes, plain_number}
 use Rattle.cli_words.specs.Words.CommandLine.{command_app}
-use Rattle.cli_words.specs.Words.Requests.{Bytes, CommandView, Asked, Help, Version, Check, Load, Prove, Replay, Refused, in_range, digits_of, values_of, values_in, gate_in, verify_in, certificate_verb, verb_of, command_in, text_in, is_text, is_only, asked_with, asked_without_fault, asked_of_command, asked}
+use Rattle.cli_words.specs.Words.Requests.{CommandView, Asked, Check, Load, Prove, Replay, Refused, in_range, values_of, values_in, gate_in, verify_in, certificate_verb, verb_of, command_in, text_in, is_text, asked_with, asked_by_kind, asked_by_kinds, asked}
 
 abbrev AtMost : ℕ → Option ℕ → Type 0
 AtMost most None = Unit {0}
@@ -70,12 +72,15 @@ with_values : (rows : List Row) (o : Option OptionValues) → HasFewSteps o → 
 with_values rows None h = tt
 with_values rows (Some v) h = of_verb (text_in rows (codes "verb")) rows (command_in rows v) h
 
-without_fault : (kinds : Kinds) (rows : List Row) → HasSteps (asked_without_fault kinds rows)
-without_fault [] rows = with_values rows (values_in rows) (few_steps _ _ _ _ _ (in_most 0 1000000 (digits_of (without_leading_plus (text_in rows (codes "steps"))))))
-without_fault (k ∷ ks) rows = tt
+of_kind : (k : ErrorKind) → HasSteps (asked_by_kind k)
+of_kind kind.DisplayHelp = tt
+of_kind kind.DisplayVersion = tt
+of_kind _ = tt
+
+of_kinds : (kinds : Kinds) (rows : List Row) → HasSteps (asked_by_kinds kinds rows)
+of_kinds [] rows = with_values rows (values_in rows) (few_steps _ _ _ _ _ (in_most 0 1000000 (plain_number 32 (text_in rows (codes "steps")))))
+of_kinds (k ∷ []) rows = of_kind k
+of_kinds (k ∷ (l ∷ ks)) rows = tt
 
 pub steps_in_range : (words : List Bytes) → HasSteps (asked words)
-steps_in_range words =
-    let other = if is_only words (codes "--version") (codes "-V") then Version else asked_of_command words in
-    either (is_only words (codes "--help") (codes "-h")) Help other tt
-    (either (is_only words (codes "--version") (codes "-V")) Version (asked_of_command words) tt (without_fault (fault_of command_app words) (matches_of command_app words)))
+steps_in_range words = of_kinds (fault_of command_app words) (matches_of command_app words)

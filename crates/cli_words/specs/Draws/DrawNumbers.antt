@@ -1,21 +1,11 @@
 -- The number that a word of a draws file spells: decimal digits without leading zeros, behind a minus where it is
 -- negative.
-use Rattle.std.specs.Prelude.{◌≡◌, refl, codes, ℕ, ◌^◌, ◌-◌, ℤ, pos, ◌-ℤ◌, Bool, false, cond, ◌&&◌, ◌==◌, nat_lt, nat_le, List, [], ◌∷◌, Option, Some, None}
-use Rattle.std.specs.Str.{all_ascii_digits}
-use Rattle.std.specs.Str.Parse.{digits_value}
+use Rattle.std.specs.Prelude.{◌≡◌, refl, codes, ℕ, ◌^◌, ◌-◌, ℤ, pos, ◌-ℤ◌, cond, ◌==◌, nat_le, [], ◌∷◌, Option, Some, None}
+use Rattle.cli_words.specs.Numerals.{Bytes, plain_number}
 
-abbrev pub Bytes : Type 0
-Bytes = List ℕ
-
--- digits, of which the first is no zero where there are more
-abbrev pub is_plain : Bytes → Bool
-is_plain [] = false
-is_plain (c ∷ []) = all_ascii_digits (c ∷ [])
-is_plain (c ∷ (d ∷ ds)) = nat_lt 48 c && all_ascii_digits (c ∷ (d ∷ ds))
-
--- the number of such digits, below 2^64
+-- the number of digits without leading zeros, below 2^64
 abbrev pub magnitude : Bytes → Option ℕ
-magnitude word = cond (is_plain word && nat_lt (digits_value 10 word) (2 ^ 64)) (Some (digits_value 10 word)) None
+magnitude word = plain_number 64 word
 
 abbrev pub positive : Option ℕ → Option ℤ
 positive None = None

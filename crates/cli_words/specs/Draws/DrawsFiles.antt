@@ -1,6 +1,7 @@
 -- The numbers of a draws file: words that blanks, tabs and line feeds set apart.
 use Rattle.std.specs.Prelude.{◌≡◌, refl, codes, ℕ, ℤ, pos, ◌-ℤ◌, Bool, cond, ◌||◌, ◌==◌, nat_le, List, [], ◌∷◌, ◌++◌, length, Option, Some, None}
-use Rattle.cli_words.specs.Draws.DrawNumbers.{Bytes, draw_of}
+use Rattle.cli_words.specs.Draws.DrawNumbers.{draw_of}
+use Rattle.cli_words.specs.Numerals.{Bytes}
 
 abbrev pub is_gap : ℕ → Bool
 is_gap c = (c == 32) || ((c == 10) || (c == 9))

@@ -21,9 +21,9 @@ word_rule name = record (new_rule name) { required = true; action = Some Set }
 abbrev pub words_rule : List ℕ → Rule
 words_rule name = record (new_rule name) { range = Some (record { start_inclusive = 0; end_inclusive = usize_max }); action = Some Append }
 
--- the words come without the program's name
+-- the words come without the program's name; `--help` and `--version` are among them
 abbrev pub bare_app : App
-bare_app = on_top (λ s. record s { no_binary_name = true }) (new_app (codes "ccheck"))
+bare_app = on_top (λ s. record s { no_binary_name = true; has_version = true }) (new_app (codes "ccheck"))
 
 abbrev pub with_words : App → App
 with_words a = with_rule (with_rule (with_rule a (word_rule (codes "verb"))) (word_rule (codes "unit"))) (words_rule (codes "dirs"))

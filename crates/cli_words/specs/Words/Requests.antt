@@ -1,10 +1,7 @@
 -- What the words of a command line ask for.
-use Rattle.std.specs.Prelude.{ℕ, ◌^◌, Bool, true, false, ◌&&◌, nat_lt, nat_le, nat_eq, List, [], ◌∷◌, length, map, Option, Some, None, codes, string_bytes, if◌then◌else◌, unwrap_or}
-use Rattle.std.specs.List.{list_all}
+use Rattle.std.specs.Prelude.{ℕ, Bool, true, false, ◌&&◌, nat_le, nat_eq, List, [], ◌∷◌, map, Option, Some, None, codes, string_bytes, if◌then◌else◌, unwrap_or}
 use Rattle.std.specs.Option.{option_map}
 use Rattle.std.specs.Cmp.Lexicographic.{pointwise}
-use Rattle.std.specs.Str.Parse.{digits_value, without_leading_plus}
-use Rattle.std.specs.Char.{digit_value}
 use Rattle.clap.specs.Faults.{fault_of}
 use Rattle.clap.specs.Kinds.{Kinds}
 use Rattle.clap.specs.Simple.{matches_of}
@@ -17,10 +14,8 @@ use Rattle.cli_words.specs.declared.words.commands.Format.TheVariants as format
 use Rattle.cli_words.specs.declared.words.commands.Request.{Request}
 use Rattle.cli_words.specs.declared.words.commands.Request.TheVariants as request
 use Rattle.cli_words.specs.declared.words.reading.OptionValues.{OptionValues}
+use Rattle.cli_words.specs.Numerals.{Bytes, plain_number}
 use Rattle.cli_words.specs.Words.CommandLine.{command_app}
-
-abbrev pub Bytes : Type 0
-Bytes = List ℕ
 
 -- a verb's unit, directories and options
 pub record CommandView : Type 0 where
@@ -63,22 +58,13 @@ asked_by request.Refused = Refused
 abbrev pub is_text : Bytes → Bytes → Bool
 is_text a b = pointwise nat_eq a b
 
--- the one word is one of two
-abbrev pub is_only : List Bytes → Bytes → Bytes → Bool
-is_only [] long short = false
-is_only (word ∷ []) long short = if is_text word long then true else is_text word short
-is_only (word ∷ (next ∷ rest)) long short = false
-
--- the number that decimal digits spell, behind a plus where one stands
-abbrev pub digits_of : Bytes → Option ℕ
-digits_of ds = if nat_lt 0 (length ds) && (list_all (λ d. nat_lt (digit_value d) 10) ds && nat_lt (digits_value 10 ds) (2 ^ 32)) then Some (digits_value 10 ds) else None
-
 abbrev pub in_range : ℕ → ℕ → Option ℕ → Option ℕ
 in_range least most None = None
 in_range least most (Some n) = if nat_le least n && nat_le n most then Some n else None
 
+-- a number without a sign and without leading zeros
 abbrev pub number_within : Bytes → ℕ → ℕ → Option ℕ
-number_within text least most = in_range least most (digits_of (without_leading_plus text))
+number_within text least most = in_range least most (plain_number 32 text)
 
 abbrev pub format_named : Bytes → Option Format
 format_named text = if is_text text (codes "text") then Some format.Text else (if is_text text (codes "json") then Some format.Json else (if is_text text (codes "sarif") then Some format.Sarif else None))
@@ -139,14 +125,18 @@ abbrev pub is_memory_kind : ErrorKind → Bool
 is_memory_kind kind.OutOfMemory = true
 is_memory_kind _ = false
 
-abbrev pub asked_without_fault : Kinds → List Row → Asked
-asked_without_fault [] rows = asked_in rows
-asked_without_fault (k ∷ ks) rows = Refused
+-- what a fault asks for: to `clap` the words `--help` and `--version` are faults
+abbrev pub asked_by_kind : ErrorKind → Asked
+asked_by_kind kind.DisplayHelp = Help
+asked_by_kind kind.DisplayVersion = Version
+asked_by_kind _ = Refused
 
--- what words ask for beside `--help` and `--version` alone
-abbrev pub asked_of_command : List Bytes → Asked
-asked_of_command words = asked_without_fault (fault_of command_app words) (matches_of command_app words)
+-- what the values of the words and options ask for, where there is no fault, and else what the fault asks for
+abbrev pub asked_by_kinds : Kinds → List Row → Asked
+asked_by_kinds [] rows = asked_in rows
+asked_by_kinds (k ∷ []) rows = asked_by_kind k
+asked_by_kinds (k ∷ (l ∷ ks)) rows = Refused
 
 -- what words ask for
 abbrev pub asked : List Bytes → Asked
-asked words = if is_only words (codes "--help") (codes "-h") then Help else (if is_only words (codes "--version") (codes "-V") then Version else asked_of_command words)
+asked words = asked_by_kinds (fault_of command_app words) (matches_of command_app words)

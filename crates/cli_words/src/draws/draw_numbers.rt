@@ -1,32 +1,10 @@
 //! The number that a word of a draws file spells.
 ghost use Rattle.std.specs.Prelude.{◌≡◌, true};
-ghost use Rattle.std.specs.Str.{all_ascii_digits};
-ghost use Rattle.cli_words.specs.Draws.DrawNumbers.{is_plain, magnitude, negative, positive, draw_of};
+ghost use Rattle.cli_words.specs.Draws.DrawNumbers.{magnitude, negative, positive, draw_of};
+ghost use Rattle.cli_words.specs.Numerals.{is_plain};
 
+use crate::numerals::is_plain;
 use std::str;
-
-/// Whether each byte is a decimal digit.
-fn has_digits_alone(word: &[u8]) -> bool
-    ensures { result ≡ all_ascii_digits word.now }
-{
-    for at in 0..word.len() {
-        if !word[at].is_ascii_digit() {
-            return false;
-        }
-    }
-    true
-}
-
-/// Whether a word is digits, of which the first is no zero where there are more.
-fn is_plain(word: &[u8]) -> bool
-    ensures { result ≡ is_plain word.now }
-{
-    match word {
-        [] => false,
-        [_] => has_digits_alone(word),
-        [first, ..] => *first > 48 && has_digits_alone(word),
-    }
-}
 
 /// The number of digits without leading zeros, below 2^64.
 fn number_of(digits: &[u8]) -> Option<u64>

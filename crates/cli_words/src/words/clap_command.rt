@@ -88,7 +88,10 @@ fn with_files<'a>(alloc: Global, command: Command<'a>) -> Result<Command<'a>, Al
 pub fn command<'a>(alloc: Global) -> Result<Command<'a>, AllocError>
     ensures { IfOk result (λ c. app_of c ≡ command_app) }
 {
-    let bare = Command::new(alloc, "ccheck").no_binary_name(true);
+    // `--version` is among the words of a command that has a version; the text of it is not printed
+    let bare = Command::new(alloc, "ccheck")
+        .no_binary_name(true)
+        .version("");
     let named = with_words(alloc, bare)?;
     let chosen = with_options(alloc, named)?;
     let counted = with_numbers(alloc, chosen)?;

@@ -58,9 +58,9 @@ pub struct Replay {
 /// What is asked for.
 #[derive(Drop)]
 pub enum Request {
-    /// `--help` or `-h` alone.
+    /// `--help` or `-h`, before any fault.
     Help,
-    /// `--version` or `-V` alone.
+    /// `--version` or `-V`, before any fault.
     Version,
     /// `check`: a unit is analysed.
     Check(Command),

@@ -1,13 +1,19 @@
 //! The numbers of options.
 ghost use Rattle.std.specs.Prelude.{◌≡◌};
-ghost use Rattle.cli_words.specs.Words.Requests.{digits_of, number_within};
-ghost use Rattle.std.specs.Str.Parse.{without_leading_plus};
+ghost use Rattle.cli_words.specs.Numerals.{plain_number};
+ghost use Rattle.cli_words.specs.Words.Requests.{number_within};
 
-/// The number that decimal digits spell, as Rust reads them: a `+` and zeros may stand before it.
+use crate::numerals::is_plain;
+
+/// The number that decimal digits without a sign and without leading zeros spell.
 fn number(text: &str) -> Option<u32>
-    ensures { result ≡ digits_of (without_leading_plus text.now) }
+    ensures { result ≡ plain_number 32 text.now }
 {
-    text.parse::<u32>().ok()
+    if is_plain(text.as_bytes()) {
+        text.parse::<u32>().ok()
+    } else {
+        None
+    }
 }
 
 /// A number from `least` to `most`.

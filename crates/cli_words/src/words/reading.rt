@@ -1,28 +1,17 @@
 //! Reading the words of a command line.
-ghost use Rattle.std.specs.Prelude.{◌≡◌, IfOk, Some, map, string_bytes, codes};
+ghost use Rattle.std.specs.Prelude.{◌≡◌, false, IfOk, Some, map, string_bytes, codes};
 ghost use Rattle.std.specs.Option.{option_map};
 ghost use Rattle.clap.specs.Matches.{found_of};
 ghost use Rattle.clap.specs.Walk.{rows_of, first_of};
-ghost use Rattle.cli_words.specs.Words.Requests.{is_only, format_named, turns_named, text_in, texts_in, command_in, gate_in, verify_in, replay_in, command_view, values_in, certificate_verb, asked_in, asked_by, is_memory_kind, asked, asked_of_command};
-ghost use Rattle.clap.specs.Values.{kind_of};
+ghost use Rattle.cli_words.specs.Words.Requests.{format_named, turns_named, text_in, texts_in, command_in, gate_in, verify_in, replay_in, command_view, values_in, certificate_verb, asked_in, asked_by, asked_by_kind, is_memory_kind, asked};
 
 use crate::words::clap_command::command;
 use crate::words::commands::{Command, Format, Gate, Replay, Request, Verification};
 use crate::words::numbers::number_within;
 use cc_base::Memory;
+use clap::ArgMatches;
 use clap::error::ErrorKind;
-use clap::{ArgMatches, Error};
 use std::alloc::{AllocError, Global};
-
-/// Whether the one word is one of two.
-fn is_only(words: &[String], long: &str, short: &str) -> bool
-    ensures { result ≡ is_only (map string_bytes words.now) long.now short.now }
-{
-    match words {
-        [word] => word.as_str() == long || word.as_str() == short,
-        _ => false,
-    }
-}
 
 /// The text of a word or an option; it has a default or must stand.
 fn text_of<'a>(matches: &ArgMatches<'a>, name: &str) -> &'a str
@@ -232,39 +221,26 @@ fn request_of(alloc: Global, matches: &ArgMatches) -> Result<Request, AllocError
     }
 }
 
-/// Whether the error is want of memory.
-fn is_memory(error: &Error) -> bool
-    ensures { result ≡ is_memory_kind (kind_of error.now) }
+/// What a fault asks for: to `clap` the words `--help` and `--version` are faults. `Memory` where memory is short.
+fn request_of_kind(kind: ErrorKind) -> Result<Request, Memory>
+    ensures asked { IfOk result (λ r. asked_by r ≡ asked_by_kind kind) }
+    ensures memory { IfOk result (λ _. is_memory_kind kind ≡ false) }
 {
-    error.kind() == ErrorKind::OutOfMemory
+    match kind {
+        ErrorKind::DisplayHelp => Ok(Request::Help),
+        ErrorKind::DisplayVersion => Ok(Request::Version),
+        ErrorKind::OutOfMemory => Err(Memory),
+        _ => Ok(Request::Refused),
+    }
 }
 
-/// What words ask for beside `--help` and `--version` alone.
-fn read_command(alloc: Global, words: &[String]) -> Result<Request, Memory>
-    ensures { IfOk result (λ r. asked_by r ≡ asked_of_command (map string_bytes words.now)) }
+/// What the words after the program's name ask for. `Memory` where memory is short.
+pub fn read_words(alloc: Global, words: &[String]) -> Result<Request, Memory>
+    ensures { IfOk result (λ r. asked_by r ≡ asked (map string_bytes words.now)) }
 {
     let line = command(alloc)?;
     match line.try_get_matches_from(words) {
         Ok(matches) => Ok(request_of(alloc, &matches)?),
-        Err(error) => {
-            if is_memory(&error) {
-                Err(Memory)
-            } else {
-                Ok(Request::Refused)
-            }
-        }
+        Err(error) => request_of_kind(error.kind()),
     }
-}
-
-/// What the words behind the program's name ask for. `Memory` where memory is short.
-pub fn read_words(alloc: Global, words: &[String]) -> Result<Request, Memory>
-    ensures { IfOk result (λ r. asked_by r ≡ asked (map string_bytes words.now)) }
-{
-    if is_only(words, "--help", "-h") {
-        return Ok(Request::Help);
-    }
-    if is_only(words, "--version", "-V") {
-        return Ok(Request::Version);
-    }
-    read_command(alloc, words)
 }
