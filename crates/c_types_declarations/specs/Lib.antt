@@ -6,4 +6,3 @@ pub mod Specifiers
 pub mod SpecifierTrees
 pub mod Parameters
 pub mod FunctionHeads
-pub mod Initializers

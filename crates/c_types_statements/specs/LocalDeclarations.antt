@@ -16,7 +16,7 @@ use Rattle.c_types_initializers.specs.Initialized.{InitializedView}
 use Rattle.c_types_declarations.specs.Declarators.{declared_type}
 use Rattle.c_types_declarations.specs.Specifiers.{SpecifiedView}
 use Rattle.c_types_declarations.specs.SpecifierTrees.{specifiers}
-use Rattle.c_types_declarations.specs.Initializers.{initializer_of}
+use Rattle.c_types_expressions.specs.BracedLists.Initializers.{initializer_of}
 use Rattle.c_types_statement_rules.specs.Objects.LocalObjects.{PartsView, with_object, may_be_local, with_automatic, with_static_object, with_local_type, start, is_static}
 use Rattle.c_types_statements.specs.StaticInitializers.{has_size, static_initializer}
 

@@ -10,7 +10,7 @@ use Rattle.c_types_scopes.specs.Answers.{after}
 use Rattle.c_types_scopes.specs.States.{State, with_initializer}
 use Rattle.c_types_initializers.specs.Initialized.{InitializedView}
 use Rattle.c_types_initializers.specs.StaticStores.{static_stores}
-use Rattle.c_types_declarations.specs.Initializers.{initializer_of}
+use Rattle.c_types_expressions.specs.BracedLists.Initializers.{initializer_of}
 use Rattle.c_types_statement_rules.specs.Objects.Changes.{changed}
 use Rattle.c_types_statement_rules.specs.Objects.LocalObjects.{with_static_type}
 

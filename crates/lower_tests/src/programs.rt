@@ -1,5 +1,5 @@
 //! Whole control-flow programs of small units, as texts that were written by hand from the table of
-//! constructs (docs/control-flow.md).
+//! constructs (docs/dev/control-flow.md).
 
 #[cfg(test)]
 mod call_rows;

@@ -3,4 +3,6 @@
 
 mod theorems;
 
-pub use theorems::{cases_are_exact, null_tests_are_exact, pointer_tests_are_exact, edges_are_exact};
+pub use theorems::{
+    cases_are_exact, edges_are_exact, null_tests_are_exact, pointer_tests_are_exact,
+};

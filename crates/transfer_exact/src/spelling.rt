@@ -1,6 +1,5 @@
-//! Where the rows of the analysis tell exactly what a state is, so do those behind a text that is spelled. Copies
-//! of structs stand in `abstract_steps_single_copied`, the start of a run in `abstract_steps_single_starts`; their
-//! laws are stated here.
+//! From an exact abstract state, spelling a text gives an exact one. Theorems on copies of structs and on the start of a
+//! run are in `run_exact` (modules `struct_copies` and `entries`); their laws are stated here.
 
 mod theorems;
 

@@ -8,3 +8,4 @@ pub use Rattle.run_exact.specs.Runs.SingleRuns
 pub use Rattle.run_exact.specs.SingleLaws
 pub use Rattle.run_exact.specs.SingleRows
 pub use Rattle.run_exact.specs.TypedAccesses
+pub use Rattle.run_exact.specs.SoundEnds

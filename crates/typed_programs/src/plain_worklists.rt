@@ -1,1 +1,1 @@
-//! The works of plain terms and conditions lead on: lemmas on which the laws of flow_lower_plain_laws stand.
+//! The work items of plain terms and conditions lead on: lemmas for the theorems of `plain_templates`.

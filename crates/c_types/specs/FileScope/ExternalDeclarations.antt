@@ -18,7 +18,7 @@ use Rattle.c_types_initializers.specs.Initialized.{InitializedView}
 use Rattle.c_types_declarations.specs.Declarators.{declared_type}
 use Rattle.c_types_declarations.specs.Specifiers.{SpecifiedView, is_library_name}
 use Rattle.c_types_declarations.specs.SpecifierTrees.{specifiers}
-use Rattle.c_types_declarations.specs.Initializers.{initializer_of}
+use Rattle.c_types_expressions.specs.BracedLists.Initializers.{initializer_of}
 use Rattle.c_types_statements.specs.LocalDeclarations.{are_none, is_empty}
 use Rattle.c_types_statement_rules.specs.Objects.FileObjects.{may_be_object, first_declaration, next_declaration, is_initialized, with_initialized, object_at}
 use Rattle.c_types_statements.specs.StaticInitializers.{static_initializer}

@@ -19,7 +19,7 @@ use Rattle.c_types_initializers.specs.StaticStores.{with_list, with_expressions,
 use Rattle.c_types_declarations.specs.Declarators.{declared_type}
 use Rattle.c_types_declarations.specs.Specifiers.{SpecifiedView}
 use Rattle.c_types_declarations.specs.SpecifierTrees.{specifiers}
-use Rattle.c_types_declarations.specs.Initializers.{initializer_of}
+use Rattle.c_types_expressions.specs.BracedLists.Initializers.{initializer_of}
 use Rattle.c_types_statement_rules.specs.Objects.FileObjects.{number_or}
 use Rattle.c_types_statement_rules.specs.Objects.LocalObjects.{PartsView, with_object, may_be_local, with_automatic, static_declaration, with_static_object, with_local_type, with_static_type, is_static}
 use Rattle.c_types_statement_rules.specs.StatementRules.Points.{Point}

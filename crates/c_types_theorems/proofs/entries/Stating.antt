@@ -13,7 +13,7 @@ use Rattle.c_types_scopes.specs.Names as names
 use Rattle.c_types_scopes.specs.States.{State, with_name, with_local}
 use Rattle.c_types_initializers.specs.Initialized.{InitializedView}
 use Rattle.c_types_initializers.specs.StaticStores.{with_expressions, constant_stores}
-use Rattle.c_types_declarations.specs.Initializers.{initializer_of}
+use Rattle.c_types_expressions.specs.BracedLists.Initializers.{initializer_of}
 use Rattle.c_types_statement_rules.specs.Objects.LocalObjects.{PartsView, with_automatic, with_static_object, with_local_type, with_static_type}
 use Rattle.c_types_statement_rules.specs.StatementRules.Points.{Point}
 use Rattle.c_types_statements.specs.LabelNumbers as labels

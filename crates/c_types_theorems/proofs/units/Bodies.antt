@@ -15,7 +15,7 @@ use Rattle.c_types_scopes.specs.StructTables.{TypesView}
 use Rattle.c_types_scopes.specs.States.{State, is_evaluated, with_name, with_constant}
 use Rattle.c_types_initializers.specs.Initialized.{InitializedView, ByTerm, ByLvalue, ByStores}
 use Rattle.c_types_initializers.specs.StaticStores.{with_list, with_expressions, constant_stores}
-use Rattle.c_types_declarations.specs.Initializers.{initializer_of}
+use Rattle.c_types_expressions.specs.BracedLists.Initializers.{initializer_of}
 use Rattle.c_types_statement_rules.specs.Objects.Changes.{changed, changed_at}
 use Rattle.c_types_statement_rules.specs.Objects.FileObjects.{number_or}
 use Rattle.c_types_statement_rules.specs.Objects.LocalObjects.{typed_object, typed_static, static_declaration, with_static_object, with_static_type}

@@ -18,7 +18,7 @@ use Rattle.c_types_scopes.specs.declared.meanings.Meaning.TheVariants as meaning
 use Rattle.c_types_initializers.specs.Initialized.{InitializedView, ByTerm, ByLvalue, ByStores}
 use Rattle.c_types_initializers.specs.StaticStores.{static_stores, constant_stores, with_expressions, with_list}
 use Rattle.c_types_declarations.specs.Declarators.{declared_type}
-use Rattle.c_types_declarations.specs.Initializers.{initializer_of}
+use Rattle.c_types_expressions.specs.BracedLists.Initializers.{initializer_of}
 use Rattle.c_types_declarations.specs.SpecifierTrees.{specifiers}
 use Rattle.c_types_declarations.specs.Specifiers.{SpecifiedView}
 use Rattle.c_types_statement_rules.specs.Objects.LocalObjects.{PartsView, with_object, may_be_local, with_automatic, with_static_object, with_local_type, typed_local, start, is_static}

@@ -16,7 +16,7 @@ use Rattle.c_types_scopes.specs.declared.meanings.Meaning.{Meaning}
 use Rattle.c_types_initializers.specs.Initialized.{InitializedView, ByTerm, ByLvalue, ByStores}
 use Rattle.c_types_initializers.specs.StaticStores.{with_list, with_expressions, constant_stores}
 use Rattle.c_types_declarations.specs.Declarators.{declared_type}
-use Rattle.c_types_declarations.specs.Initializers.{initializer_of}
+use Rattle.c_types_expressions.specs.BracedLists.Initializers.{initializer_of}
 use Rattle.c_types_declarations.specs.Specifiers.{SpecifiedView}
 use Rattle.c_types_declarations.specs.SpecifierTrees.{specifiers}
 use Rattle.c_types_statement_rules.specs.Objects.Changes.{changed}

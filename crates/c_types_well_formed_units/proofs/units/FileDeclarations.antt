@@ -16,7 +16,7 @@ use Rattle.c_types_scopes.specs.States.{State, with_name, with_static}
 use Rattle.c_types_scopes.specs.declared.meanings.Meaning.{Meaning}
 use Rattle.c_types_scopes.specs.declared.meanings.Meaning.TheVariants as meaning
 use Rattle.c_types_declarations.specs.Declarators.{declared_type}
-use Rattle.c_types_declarations.specs.Initializers.{initializer_of}
+use Rattle.c_types_expressions.specs.BracedLists.Initializers.{initializer_of}
 use Rattle.c_types_declarations.specs.SpecifierTrees.{specifiers}
 use Rattle.c_types_declarations.specs.Specifiers.{SpecifiedView, is_library_name}
 use Rattle.c_types_initializers.specs.Initialized.{InitializedView}

@@ -22,7 +22,7 @@ use Rattle.lower_templates.specs.Views.ProgramViews.{BlockView, block, EdgeView,
 use Rattle.diagnose.specs.Diagnostics.AdmittedRules.{instructions_in, instructions_of}
 use Rattle.store_sound.proofs.operations.Slices.{get_take, get_drop, get_map}
 use Rattle.store_sound.proofs.programs.ShapedBases.{all_at}
-use Rattle.transfer_sound.proofs.induction.Blocks.{block_facts, last_is}
+use Rattle.typed_programs.proofs.Blocks.{block_facts, last_is}
 use Rattle.typed_lowering.specs.Conversions.TypedActs.{IsTypedAct}
 use Rattle.typed_lowering.specs.Conversions.ProgramLaws.{steps_of, steps_in, IsTypedOpening}
 use Rattle.typed_lowering.proofs.units.TypedOperations.{typed_operation}

@@ -8,7 +8,7 @@ use Rattle.cfg.specs.declared.machine_instructions.Operation.{Operation}
 use Rattle.cfg.specs.declared.programs.Flow.{Flow}
 use Rattle.typed_programs.specs.PlainUnits.PlainUnits.{is_plain_unit}
 use Rattle.transfer_system.specs.System.FlowMachines.{is_head_at}
-use Rattle.transfer_sound.specs.Induction.SoundEnds.{IsDoneIn}
+use Rattle.typed_programs.specs.SoundEnds.{IsDoneIn}
 use Rattle.typed_programs.specs.SingleRows.{IsPlainProgram}
 use Rattle.typed_programs.specs.SingleRuns.{IsPlainOperation}
 use Rattle.simulation_units.specs.Units.UnitRuns.{IsProgramOf}

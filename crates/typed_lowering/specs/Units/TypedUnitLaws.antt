@@ -9,7 +9,7 @@ use Rattle.typed_programs.specs.PlainUnits.PlainUnits.{is_plain_unit}
 use Rattle.typed_lowering.specs.Conversions.TypedUnits.{is_typed_unit}
 use Rattle.typed_programs.specs.Types.StandingTypes.{AreLaidOut}
 use Rattle.typed_programs.specs.Types.TypedPrograms.{structs_of}
-use Rattle.transfer_sound.specs.Induction.SoundEnds.{IsDoneIn}
+use Rattle.typed_programs.specs.SoundEnds.{IsDoneIn}
 use Rattle.typed_programs.specs.SingleRows.{IsPlainProgram}
 use Rattle.typed_programs.specs.SingleRuns.{IsPlainOperation, HasTypedAccesses}
 use Rattle.simulation_units.specs.Units.UnitRuns.{IsProgramOf}

@@ -11,7 +11,7 @@ use Rattle.c_types_scopes.specs.DeclaredTypes.{DeclaredView}
 use Rattle.c_types_scopes.specs.Refusals.{Ruled, type_fault}
 use Rattle.c_types_scopes.specs.States.{State}
 use Rattle.c_types_initializers.specs.Initialized.{InitializedView, ByTerm, ByLvalue, ByStores}
-use Rattle.c_types_declarations.specs.Initializers.{initializer_of}
+use Rattle.c_types_expressions.specs.BracedLists.Initializers.{initializer_of}
 use Rattle.c_types_declarations.specs.SpecifierTrees.{specifiers}
 use Rattle.c_types_declarations.specs.Specifiers.{SpecifiedView}
 use Rattle.c_types_statement_rules.specs.Objects.LocalObjects.{PartsView, with_object, with_automatic, with_local_type, start, is_static}

@@ -1,5 +1,5 @@
 //! What an analysis finds of a plain program is just what its one run violates. What is supposed of the program and
-//! of its run is named in `specs/SingleAnalyses.antt`.
+//! of its run is named in `specs/Analyses/SingleAnalyses.antt`.
 ghost use Rattle.std.specs.Prelude.{ℤ, List};
 ghost use Rattle.cc_base.specs.declared.diagnostics.Diag.{Diag};
 ghost use Rattle.cfg.specs.declared.programs.Flow.{Flow};

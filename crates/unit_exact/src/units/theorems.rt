@@ -1,5 +1,5 @@
 //! What an analysis finds of a checked plain unit is just what the run of the unit under no numbers of the outside
-//! violates, to its end. What is supposed of the unit's program is named in `specs/SingleUnits.antt`.
+//! violates, to its end. What is supposed of the unit's program is named in `specs/Units/SingleUnits.antt`.
 ghost use Rattle.std.specs.Prelude.{ℤ, List};
 ghost use Rattle.cc_base.specs.declared.diagnostics.Diag.{Diag};
 ghost use Rattle.cfg.specs.declared.programs.Flow.{Flow};

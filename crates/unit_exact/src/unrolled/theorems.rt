@@ -1,6 +1,5 @@
 //! Of a plain unit an analysis of the program with turns unrolled finds just what the unit's run violates, as one of the
-//! program itself does. What is supposed of the unit's program stands in `specs/SingleUnits.antt` of
-//! `abstract_steps_single_units`.
+//! program itself does. What is supposed of the unit's program is in `specs/Units/SingleUnits.antt`.
 ghost use Rattle.unit_exact.specs.Unrolled.TurnedLoops.{LoopedUnitsAreExact};
 ghost use Rattle.unit_exact.specs.Unrolled.TurnedUnits.{TurnedProgramsAreSingle, UnrolledUnitsAreExact};
 

@@ -1,0 +1,1 @@
+pub use Rattle.run_exact.proofs.Blocks
