@@ -28,7 +28,12 @@ class Function:
         return f"{self.owner}::{self.name}" if self.owner else self.name
 
     def is_theorem(self):
-        return self.is_public and "theorems" in self.path.rpartition(".")[0].split("/")[3:]
+        return self.is_public and in_theorems(self.path)
+
+
+def in_theorems(path):
+    """Says whether a file of code is the module `theorems` of a crate, or of a folder of it."""
+    return "theorems" in path.rpartition(".")[0].split("/")[3:]
 
 
 def owners(text):
@@ -46,7 +51,7 @@ def owner_at(places, at):
     """Returns the type or trait to which a place belongs, and whether it is an impl of a trait."""
     for begin, end, kind, name in places:
         if begin <= at < end and name:
-            return name[-1], kind == "impl" and "for" in name
+            return name[0 if kind == "trait" else -1], kind == "impl" and "for" in name
     return None, False
 
 
@@ -91,7 +96,7 @@ def functions_of(path):
         it.is_empty = text[at:at + 2] == "{}"
         it.says = said_before(text, match.start())
         is_open = bool(match.group(2)) or bool(owner) and re.search(rf"^pub trait {owner}\b", text, re.M)
-        it.is_public = bool(is_open) and not is_for_trait and (owner or it.name) in passed
+        it.is_public = bool(is_open) and not is_for_trait and ((owner or it.name) in passed or in_theorems(path))
         found.append(it)
     return found
 

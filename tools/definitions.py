@@ -267,14 +267,38 @@ def types_of_crate(crate):
     return found
 
 
+@functools.lru_cache(maxsize=None)
+def imported_types(path):
+    """Returns the names that a file of code imports, each with its crate and the folders and files before it."""
+    found = {}
+    for crate, rest in re.findall(r"(?m)^\s*(?:pub )?use (\w+)::([^;]+);", text_of(path)):
+        prefix = re.match(r"((?:\w+::)*)", rest).group(1).split("::")[:-1]
+        own = path.split("/")[1] if crate in ("crate", "super", "self") else crate
+        for name in re.findall(r"\b[A-Z]\w*\b", rest):
+            found[name] = (own, prefix)
+    return found
+
+
+def imported(path, name):
+    """Finds the type of the tree that a file of code imports by a name."""
+    crate, prefix = imported_types(path).get(name, (None, None))
+    if not crate or not os.path.isdir(f"{ROOT}/crates/{crate}"):
+        return None
+    found = declared_in([crate, *prefix, name]) if prefix else None
+    return found or types_of_crate(crate).get(name) or passed_type(crate, name)
+
+
+def passed_type(crate, name):
+    """Finds a type that a crate passes on from another one."""
+    lib = f"crates/{crate}/src/lib.rt"
+    return imported(lib, name) if os.path.exists(f"{ROOT}/{lib}") and name in imported_types(lib) else None
+
+
 def field_types(definition):
-    """Yields the types of the tree that a type of code names: of its file, its crate, or the crates that it uses."""
-    crate = definition.path.split("/")[1]
-    used = re.findall(r"^use (\w+)::", text_of(definition.path), re.M)
-    crates = [crate, *(it for it in used if os.path.isdir(f"{ROOT}/crates/{it}"))]
+    """Yields the types of the tree that a type of code names: those of its file, and those that the file imports."""
     here = types_of(definition.path)
     for word in {it.partition(".")[0] for it in definition.words()}:
-        found = here.get(word) or next((types_of_crate(it)[word] for it in crates if word in types_of_crate(it)), None)
+        found = here.get(word) or imported(definition.path, word)
         if found and found is not definition:
             yield found
 
