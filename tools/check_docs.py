@@ -25,6 +25,7 @@ import subprocess
 import sys
 import tempfile
 
+sys.dont_write_bytecode = True
 import prose
 
 ROOT = os.path.realpath(os.path.join(os.path.dirname(__file__), ".."))
