@@ -104,7 +104,7 @@ def dead_links(page, pages):
                 continue
             if not os.path.exists(f"{ROOT}/{at}"):
                 yield number, f"no file {at}"
-            elif anchor and not re.fullmatch(r"L\d+", anchor) and (at not in pages or anchor not in pages[at].anchors()):
+            elif anchor and not (re.fullmatch(r"L\d+", anchor) or at in pages and anchor in pages[at].anchors()):
                 yield number, f"no heading #{anchor} in {at}"
         yield from ((number, it) for it in dead_lines(page, line))
 

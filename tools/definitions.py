@@ -1,7 +1,7 @@
 """Reads the definitions of specs/ (.antt) and the types of src/ (.rt) by their text: what each names, and its lines.
 
-It goes by names, not by types. Variables that an equation, a record, a λ or a binder of a type binds hide definitions of
-the same name, as far as their scope goes by the parentheses. What the text leaves open counts as a use.
+It goes by names, not by types. Variables that an equation, a record, a λ or a binder of a type binds hide definitions
+of the same name, as far as their scope goes by the parentheses. What the text leaves open counts as a use.
 """
 import functools
 import glob
