@@ -168,8 +168,9 @@ def missing_entries(pages):
     yield from (f"{it}: no such page" for it in wanted if it not in pages)
     if "docs/ARCHITECTURE.md" in pages:
         yield from missing_crates(pages["docs/ARCHITECTURE.md"])
-    rules = re.findall(r'Rule::\w+ => "([a-z]+)"', sources_with("diagnostics.rt"))
-    enum = re.search(r"pub enum Refusal \{(.*?)\n\}", sources_with("refusals.rt"), re.S)
+    code = code_of_crates()
+    rules = sorted(set(re.findall(r'Rule::\w+ => "([a-z]+)"', code)))
+    enum = re.search(r"pub enum Refusal \{(.*?)\n\}", code, re.S)
     refusals = re.findall(r"^    ([A-Z]\w+)", enum.group(1), re.M) if enum else []
     for path, names in (("docs/rules.md", rules), ("docs/refusals.md", refusals)):
         there = pages[path].anchors() if path in pages else {it.lower() for it in names}
@@ -187,9 +188,9 @@ def missing_crates(page):
     yield from (f"{page.path}: has the crate {it}, which does not exist" for it in sorted(listed - crates))
 
 
-def sources_with(name):
-    """Returns the text of the files of code with a name, wherever they are below crates/."""
-    return "\n".join(text_of(it) for it in sorted(glob.glob(f"{ROOT}/crates/*/src/**/{name}", recursive=True)))
+def code_of_crates():
+    """Returns the text of all code below crates/."""
+    return "\n".join(text_of(it) for it in sorted(files_below("crates")) if it.endswith(".rt") and "/src/" in it)
 
 
 def stale_pages():
