@@ -4,6 +4,8 @@ Tables, code, comments in HTML and headings are passed over. A sentence ends at 
 exclamation mark, and with its paragraph or its item of a list.
 """
 import re
+import signal
+import sys
 
 MOST_HABITS = 3      # in 1,000 words, rounded up
 MOST_MEAN = 18       # words in a sentence of a page
@@ -103,7 +105,7 @@ def faults_of(pages):
 
 def main():
     """Prints the figures of the pages that the command line names, with each habit in its sentence."""
-    import sys
+    signal.signal(signal.SIGPIPE, signal.SIG_DFL)
     if not sys.argv[1:] or sys.argv[1].startswith("-"):
         sys.exit("usage: tools/prose.py PAGE..: prints the figures of pages, their habits and long sentences")
     for path in sys.argv[1:]:
