@@ -1,7 +1,7 @@
 """Reads the definitions of specs/ (.antt) and the types of src/ (.rt) by their text: what each names, and its lines.
 
-It goes by names, not by types. Variables that an equation, a record, a λ or a binder of a type binds hide definitions
-of the same name, as far as their scope goes by the parentheses. What the text leaves open counts as a use.
+It goes by names, not by types: a variable that has the name of a definition counts as a use of it. So what `reached`
+gives may be too much, and is not too little.
 """
 import functools
 import glob
@@ -16,7 +16,6 @@ HEADER = re.compile(r"^\s*(?:(?:abbrev|unfoldable|mutual|def)\s+)*(?:pub\s+)?((?
 BEGINS = re.compile(r"^\s*(?:abbrev|unfoldable|def|pub|record|data)\b")
 BLOCK = re.compile(r"^\s*(?:module\b.*|(?:(?:abbrev|unfoldable)\s+)?mutual)\s*$")
 OPENS = re.compile(r"^\s*(?:abbrev|unfoldable)\s+mutual\s*$|^\s*mutual\s*$|^\s*module\b.*\bwhere\s*$")
-BARE = re.compile(r"(?<![\w.])[A-Za-z_]\w*(?![\w.])")
 TYPE = re.compile(r"^(?:pub(?:\(crate\))? )?(struct|enum|trait|const) (\w+)", re.M)
 
 
@@ -43,22 +42,8 @@ class Definition:
         names = [re.match(r"\s*pub (\w+) :", line) for line in self.lines]
         return [line for line, it in zip(self.lines, names) if not (it and (self.name, it.group(1)) in left_out)]
 
-    def parts(self, left_out):
-        """Yields its equations, each as one text, or its whole text where it is a type."""
-        lines = [line.partition(" -- ")[0] for line in self.kept(left_out)]
-        if re.search(r"\b(record|data)\b", lines[0]):
-            lines = ["\n".join(lines)]
-        text = ""
-        for line in lines:
-            if text and indent(line) <= indent(text):
-                yield text
-                text = line
-            else:
-                text = f"{text}\n{line}" if text else line
-        yield text
-
-    def words(self):
-        return {word for line in self.lines for word in WORD.findall(line.partition(" -- ")[0])}
+    def words(self, left_out=frozenset()):
+        return {word for line in self.kept(left_out) for word in WORD.findall(line.partition(" -- ")[0])}
 
 
 class Module:
@@ -199,38 +184,6 @@ def operators(names):
     return {it.strip("◌"): it for it in names if "◌" in it}
 
 
-def end_of_scope(text, at):
-    """Returns where the parenthesis ends that a place is in."""
-    depth = 0
-    for place in range(at, len(text)):
-        depth += {"(": 1, "{": 1, ")": -1, "}": -1}.get(text[place], 0)
-        if depth < 0:
-            return place
-    return len(text)
-
-
-def scopes(text, module):
-    """Yields what a part of a definition binds: the name, and where its scope begins and ends."""
-    for match in re.finditer("λ ([^.]*)\\.", text):
-        yield from ((it, match.start(), end_of_scope(text, match.end())) for it in BARE.findall(match.group(1)))
-    for match in re.finditer(r"[({]([\w ]+) :", text):
-        outer = end_of_scope(text, end_of_scope(text, match.end()) + 1)
-        yield from ((it, match.start(), outer) for it in BARE.findall(match.group(1)))
-    for match in re.finditer(r"(?m)^\s+pub (\w+) :", text):
-        yield match.group(1), match.start(), len(text)
-    left, equals, _ = text.partition(" = ")
-    if equals and not BEGINS.match(text):
-        yield from ((it, 0, len(text)) for it in BARE.findall(left)[1:] if not is_constructor(module, it))
-
-
-def is_constructor(module, name):
-    """Says whether a bare name of a pattern is that of a constructor, and no variable."""
-    if name in module.definitions:
-        return module.definitions[name].name != name
-    found = find(module.names[name], name) if name in module.names else None
-    return name in module.names and (found is None or found.name != name or found.path.endswith(".rt"))
-
-
 def resolved(word, module):
     """Returns the definition that a word of a module means, (module, name) where it is outside, or None."""
     first, _, rest = word.partition(".")
@@ -248,15 +201,10 @@ def outer_names(definition, left_out=frozenset()):
     """Yields the definitions that a definition of an .antt file names, and (module, name) of those outside."""
     module = module_at(definition.path)
     signs = operators(module.names)
-    for text in definition.parts(left_out):
-        bound = list(scopes(text, module))
-        for match in WORD.finditer(text):
-            word = signs.get(match.group(), match.group())
-            first, at = word.partition(".")[0], match.start()
-            hidden = any(name == first and begin <= at < end for name, begin, end in bound)
-            found = None if hidden and first not in module.aliases else resolved(word, module)
-            if found:
-                yield found
+    for word in definition.words(left_out):
+        found = resolved(signs.get(word, word), module)
+        if found:
+            yield found
 
 
 @functools.lru_cache(maxsize=None)

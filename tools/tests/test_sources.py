@@ -108,14 +108,14 @@ class Definitions(OverATree):
         found, outside = definitions.reached([root], left_out)
         return sorted(it.name for it in found), outside
 
-    def test_what_is_named_is_reached_and_a_variable_hides_a_definition(self):
+    def test_what_is_named_is_reached_also_by_a_variable_of_its_name(self):
         found, outside = self.reached()
-        self.assertEqual(found, ["Hidden", "HoldsAll", "IsSmall", "Place", "Tree", "depth"])
+        self.assertEqual(found, ["Hidden", "HoldsAll", "IsSmall", "Place", "Tree", "depth", "unused"])
         self.assertEqual(outside, {("Rattle.std.specs.Prelude", "List")})
 
     def test_a_field_can_be_left_out(self):
         found, outside = self.reached(frozenset([("HoldsAll", "second")]))
-        self.assertEqual(found, ["HoldsAll", "IsSmall", "Place", "Tree", "depth"])
+        self.assertEqual(found, ["HoldsAll", "IsSmall", "Place", "Tree", "depth", "unused"])
         self.assertEqual(outside, set())
 
     def test_lines_are_counted_without_comments(self):
