@@ -7,6 +7,7 @@ import tempfile
 import unittest
 
 TOOLS = os.path.realpath(os.path.join(os.path.dirname(__file__), ".."))
+sys.dont_write_bytecode = True
 sys.path.insert(0, TOOLS)
 import check_docs  # noqa: E402
 import contracts  # noqa: E402
