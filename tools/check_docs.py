@@ -44,13 +44,14 @@ QUALIFIED = re.compile(r"[A-Za-z_][A-Za-z0-9_]*(?:(?:::|\.)[A-Za-z_][A-Za-z0-9_]
 
 
 def text_of(path):
-    with open(path, encoding="utf-8") as file:
+    """Returns the text of a file; bytes that are not UTF-8, as sources of tests may have, become other signs."""
+    with open(path, encoding="utf-8", errors="replace") as file:
         return file.read()
 
 
 def files_below(folder):
     for at, folders, names in os.walk(f"{ROOT}/{folder}"):
-        folders[:] = [it for it in folders if it != "out"]
+        folders[:] = [it for it in folders if it not in (".git", "out", "__pycache__")]
         yield from (f"{at}/{name}" for name in names)
 
 
@@ -123,14 +124,12 @@ class Sources:
     """The files of the repository, and the words of its sources."""
 
     def __init__(self):
-        folders = ("crates", "tools", "examples", "docs", "man", ".ci")
-        self.files = [os.path.relpath(it, ROOT) for folder in folders for it in files_below(folder)]
-        self.files += [it for it in os.listdir(ROOT) if os.path.isfile(f"{ROOT}/{it}")]
+        self.files = [os.path.relpath(it, ROOT) for it in files_below("")]
         self.names = {os.path.basename(it) for it in self.files}
         self.stems = {it.rpartition(".")[0] or it for it in self.names}
         self.words = set(re.findall(r"crates/(\w+)", " ".join(self.files)))
         for it in self.files:
-            if it.endswith(SOURCES):
+            if it.endswith(SOURCES) and not it.startswith("docs/"):
                 self.words.update(NAME.findall(text_of(f"{ROOT}/{it}")))
 
     def has_path(self, path):
