@@ -8,6 +8,8 @@ It prints each fault with its place and exits with status 1 if there is one, wit
 - Links inside the repository lead to files, headings and lines that exist. In [`name`](file#L1) the line has the name.
 - Paths and names in `code` exist: files, crates, and identifiers of the sources.
 - docs/ARCHITECTURE.md has just the crates of crates.txt, docs/rules.md each rule, docs/refusals.md each refusal.
+- <!-- CRATE::CALL: clause NAME (DEFINITION, ..) --> after a claim names a public call, its clause, and definitions; so
+  does <!-- CRATE::THEOREM, THEOREM; .. -->.
 - What tools/make-ledger and tools/trusted write is what they would write now.
 - The English of README.md and docs/*.md keeps the limits of tools/prose.py: habits, and lengths of sentences.
 - Each C example does what its mark says when PROGRAM (the built one) checks it, with the options after the mark:
@@ -26,6 +28,7 @@ import sys
 import tempfile
 
 sys.dont_write_bytecode = True
+import contracts
 import prose
 
 ROOT = os.path.realpath(os.path.join(os.path.dirname(__file__), ".."))
@@ -40,6 +43,8 @@ NAME = re.compile(r"[A-Za-z_][A-Za-z0-9_]*")
 PATH = re.compile(r"[\w.*-]+(/[\w.*-]+)+/?")
 MADE = re.compile(r"(^|/)out(/|$)")
 LINE_LINK = re.compile(r"\[`([^`]+)`\]\(([^)#\s]+)#L(\d+)\)")
+GROUND = re.compile(r"<!-- (\w+::.*?) -->")
+CALL = re.compile(r"(\w+)::(\w+)(?:: clauses? ([\w, ]+?))?(?: \((.*?)\))?(?:, (.*))?")
 QUALIFIED = re.compile(r"[A-Za-z_][A-Za-z0-9_]*(?:(?:::|\.)[A-Za-z_][A-Za-z0-9_]*)*")
 
 
@@ -159,6 +164,30 @@ def lost_names(page, sources):
                     yield number, f"no file {code}"
             elif QUALIFIED.fullmatch(code) and not sources.has_words(code):
                 yield number, f"no name {code}"
+
+
+def lost_grounds(page, sources):
+    """Yields what is wrong with the comments that name the clauses on which claims rest."""
+    for number, line in page.prose:
+        for part in (it.strip() for ground in GROUND.findall(line) for it in ground.split(";")):
+            match = CALL.fullmatch(part)
+            if match:
+                yield from ((number, it) for it in lost_ground(*match.groups(), sources))
+            else:
+                yield number, f"{part} is not CRATE::CALL: clause NAME (DEFINITION, ..)"
+
+
+def lost_ground(crate, call, labels, names, further, sources):
+    """Yields what does not exist of a call, its clauses, the definitions that they cite, and further theorems."""
+    calls = [it for path in contracts.sources_of(crate) for it in contracts.functions_of(path)]
+    found = [it for it in calls if it.name == call and it.is_public]
+    if not found:
+        yield f"no public call {call} in {crate}"
+    there = {label for it in found for label, _ in it.ensures()}
+    wanted = [it for it in re.split(r", | and ", labels or "") if it]
+    yield from (f"no clause {it} of {crate}::{call}" for it in wanted if found and it not in there)
+    others = NAME.findall(f"{names or ''} {further or ''}")
+    yield from (f"no name {it}" for it in others if it not in sources.words)
 
 
 def missing_entries(pages):
@@ -286,7 +315,8 @@ def main():
     pages, sources = found_pages(), Sources()
     faults, examples = [*missing_entries(pages), *stale_pages(), *man_warnings()], 0
     for path, page in pages.items():
-        found = [*long_lines(page), *dead_links(page, pages), *lost_names(page, sources), *bad_examples(page, program)]
+        found = [*long_lines(page), *dead_links(page, pages), *lost_names(page, sources), *lost_grounds(page, sources)]
+        found += bad_examples(page, program)
         faults += [f"{path}:{number}: {fault}" for number, fault in found]
         examples += sum(mark[:1] == ["console"] or mark[:1] == ["c"] and len(mark) > 1 for _, mark, _ in page.blocks)
     faults += [f"{path}: {fault}" for path, fault in prose.faults_of(user_pages(pages))]

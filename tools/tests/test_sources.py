@@ -150,6 +150,14 @@ class Pages(OverATree):
         page = self.page("[`find`](crates/low/src/places.rt#L21) and [`find`](crates/low/src/places.rt#L1)\n")
         self.assertEqual(len(list(check_docs.dead_links(page, {"README.md": page}))), 1)
 
+    def test_grounds_of_claims_are_looked_up(self):
+        sources = check_docs.Sources()
+        for text, count in (("low::find: clause all (HoldsAll)", 0), ("low::find: clauses all and small", 0),
+                            ("top::all_is_small, depth; low::find", 0), ("low::lost", 1), ("low::find: clause no", 1),
+                            ("low::find: clause all (Lost)", 1), ("low::find, lost_theorem", 1), ("low::find: all", 1)):
+            page = self.page(f"A claim. <!-- {text} -->\n")
+            self.assertEqual(len(list(check_docs.lost_grounds(page, sources))), count, text)
+
     def test_tables_may_be_wider_than_other_lines(self):
         page = self.page("| " + "x" * 130 + " |\n" + "x" * 130 + "\n")
         self.assertEqual([number for number, _ in check_docs.long_lines(page)], [2])
