@@ -17,7 +17,7 @@ from ccheck_tools.rewriting import Assumption, rewrite
 from ccheck_tools.sources import Sources, UnitFault
 from ccheck_tools.stand_ins import INPUT_LINES, stand_ins
 
-ASSUMES = re.compile(r"/\* assumes: (.*?) \*/", re.DOTALL)
+ASSUMES = re.compile(r"\bassumes: (.*?) \*/", re.DOTALL)
 MACRO_NAME = re.compile(r"#\s*define\s+(\w+)")
 
 
@@ -92,6 +92,10 @@ class Analysis:
             with open(path, encoding="latin-1") as file:
                 found = ASSUMES.search(file.read())
             told.append(Assumption(f"{name} is the stub of ccheck" + (f": {found[1]}" if found else "")))
+        for path, source in self.sources.stub_files.items():
+            found = ASSUMES.search(source.text)
+            name = os.path.relpath(path, self.sources.stubs)
+            told.append(Assumption(f"<{name}> is the stub of ccheck" + (f": {found[1]}" if found else "")))
         return told
 
     def notes(self):

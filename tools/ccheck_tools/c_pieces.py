@@ -85,6 +85,8 @@ class Cutter:
         elif name == "endif" and self.saved:
             self.saved.pop()
         else:
+            if self.depth == 0 and self.body is None and self.head and self.head[-1].text not in (",", ")"):
+                self.end()
             return
         if self.head and self.body is None or self.saved and not self.saved[-1][1] and self.body is not None:
             self.mixed = True

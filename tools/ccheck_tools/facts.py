@@ -1,12 +1,9 @@
 """What the files of a unit say together: functions that are defined, declared and called, macros, words, conditions."""
 import collections
-import re
 
 from ccheck_tools.c_pieces import KEYWORDS, declarator_of, split_at
 from ccheck_tools.c_tokens import line_tokens
 from ccheck_tools.old_style import parameter_text
-
-MACRO = re.compile(r"([A-Za-z_]\w*)(\()?")
 
 
 class Facts:
@@ -20,6 +17,9 @@ class Facts:
             self.read_pieces(one)
             self.read_directives(one)
             self.words.update(one.words())
+        for one in sources.stub_files.values():
+            self.read_pieces(one)
+            self.macros.update(one.macros())
 
     def read_pieces(self, source):
         """Takes the functions of a file."""
@@ -51,12 +51,10 @@ class Facts:
 
     def read_directives(self, source):
         """Takes macros and conditions of a file."""
+        self.macros.update(source.macros())
         for name, rest in source.directives():
             if name == "define":
-                found = MACRO.match(rest)
-                if found:
-                    self.macros.add(found[1])
-                    self.read_calls(line_tokens(rest)[1:])
+                self.read_calls(line_tokens(rest)[1:])
             elif name in ("if", "elif", "ifdef", "ifndef"):
                 for kind, text in line_tokens(rest):
                     if kind == "name" and text.startswith("__"):
@@ -65,4 +63,4 @@ class Facts:
     def parameters(self):
         """Returns the parameter lists of the functions that are defined, in the new style."""
         found = {name: parameter_text(piece) for name, (piece, _, _) in self.definitions.items()}
-        return {name: text for name, text in found.items() if text}
+        return {name: text for name, text in found.items() if text is not None}

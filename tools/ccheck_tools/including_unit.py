@@ -68,9 +68,10 @@ class Including:
         if self.facts.words["__builtin_expect"]:
             found["__builtin_expect(a, b)"] = "((long)(a))"
             self.tell("__builtin_expect(a, b) is read as (long)(a)")
-        if self.facts.words["__builtin_trap"]:
-            found["__builtin_trap"] = "abort"
-            self.tell("__builtin_trap is read as abort")
+        for word in ("__builtin_trap", "__builtin_unreachable"):
+            if self.facts.words[word]:
+                found[word] = "abort"
+                self.tell(f"{word} is read as abort")
 
     def tell(self, sentence):
         """Keeps an assumption of the whole unit."""
@@ -78,7 +79,7 @@ class Including:
 
     def used_stubs(self):
         """Returns the files of the stub functions that the unit calls and does not define, and what they assume."""
-        names = {it.removeprefix(BUILTIN) for it in self.facts.called}
+        names = self.facts.called | {it.removeprefix(BUILTIN) for it in self.facts.called}
         taken = sorted(it for it in names if it in self.stubs and it not in self.facts.definitions
                        and it not in self.facts.macros)
         return {name: self.stubs[name] for name in taken}
