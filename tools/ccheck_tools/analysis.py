@@ -9,7 +9,7 @@ from ccheck_tools.c_types import Types
 from ccheck_tools.command_line import CommandFault
 from ccheck_tools.entries import ENTRY, Entry, entries_of, library_entries
 from ccheck_tools.facts import Facts
-from ccheck_tools.including_unit import UNIT, Including, write_file
+from ccheck_tools.including_unit import UNIT, Including, copy_name, write_file
 from ccheck_tools.library import BUILT_IN, stub_folder, stub_functions
 from ccheck_tools.predefined import model_of
 from ccheck_tools.refusal_words import explained
@@ -90,6 +90,7 @@ class Analysis:
         self.outcome.assumed += told + self.including.told + stand_in_told + self.stubs_told(used)
         self.outcome.notes += self.notes()
         self.including.write_copies(self.folder)
+        self.copies = {f"{self.folder}/{copy_name(key)}": it for key, it in self.sources.files.items()}
 
     def stubs_told(self, used):
         """Returns what the used stub functions assume, by the comment at their beginning."""
@@ -207,11 +208,9 @@ class Analysis:
 
     def place(self, one):
         """Returns the source, the line and the column of a place of ccheck's report; no source outside of the tree."""
-        tree = f"{self.folder}/tree"
-        if one.file.startswith(tree):
-            source = self.sources.files.get(os.path.normpath(one.file[len(tree):]))
-            if source:
-                return source, *source.edited.original_place(one.line, one.column)
+        source = self.copies.get(os.path.normpath(one.file))
+        if source:
+            return source, *source.edited.original_place(one.line, one.column)
         return None, one.line, one.column
 
     def mapped(self, one):
