@@ -127,12 +127,13 @@ def syntax(source, tokens):
 
 
 def piece_end(tokens):
-    """Returns how many tokens the first piece has."""
-    depth = 0
+    """Returns how many tokens the first piece has: it ends at a `;`, or at the `}` of a function's body."""
+    depth, body = 0, False
     for index, one in enumerate(tokens):
+        if one.text == "{" and depth == 0:
+            body = index > 0 and tokens[index - 1].text == ")"
         depth += (one.text == "{") - (one.text == "}")
-        if depth <= 0 and (one.text == ";" or one.text == "}" and tokens[index + 1:index + 2] and
-                           tokens[index + 1].text not in (";", ",", ")")):
+        if depth <= 0 and (one.text == ";" or one.text == "}" and body):
             return index + 1
     return len(tokens)
 

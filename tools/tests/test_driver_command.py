@@ -9,6 +9,8 @@ from driver_helpers import BAD, GOOD, DriverTest
 from ccheck_tools.command_line import CommandFault, read_command
 from ccheck_tools.predefined import data_macros, language_macros, model_of
 
+QUICK = True
+
 
 class CommandLine(unittest.TestCase):
     """Words of a compiler's command line."""
