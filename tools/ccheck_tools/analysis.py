@@ -1,4 +1,4 @@
-"""The analysis of one unit: its including unit is written, ccheck is run from each entry, and places are mapped back."""
+"""The analysis of one unit: an including unit is written, ccheck runs from each entry, and places are mapped back."""
 import dataclasses
 import os
 import re

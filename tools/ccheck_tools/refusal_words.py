@@ -48,8 +48,8 @@ UNSUPPORTED = {
     "_Thread_local": "thread-local objects are not accepted",
 }
 VARIADIC = frozenset(
-    "fprintf sprintf snprintf vprintf vfprintf vsprintf vsnprintf scanf fscanf sscanf open fcntl ioctl execl execlp syslog "
-    "err errx warn warnx dprintf asprintf va_start va_arg va_end va_copy".split())
+    "fprintf sprintf snprintf vprintf vfprintf vsprintf vsnprintf scanf fscanf sscanf open fcntl ioctl execl execlp "
+    "syslog err errx warn warnx dprintf asprintf va_start va_arg va_end va_copy".split())
 
 
 def explained(analysis, refusal):
@@ -211,8 +211,8 @@ def compound_literal(tokens, at):
         if depth == 0:
             inside = tokens[index + 1:at]
             before = tokens[index - 1].text if index else ""
-            kinds = inside and all(it.kind == "name" or it.text in ("*", "[", "]") or it.kind == "number" for it in inside)
-            return bool(kinds) and before in ("=", "(", ",", "return", "&", "*", "{")
+            typed = inside and all(it.kind in ("name", "number") or it.text in ("*", "[", "]") for it in inside)
+            return bool(typed) and before in ("=", "(", ",", "return", "&", "*", "{")
     return False
 
 

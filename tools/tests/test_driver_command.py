@@ -106,7 +106,8 @@ class Database(DriverTest):
 
     def test_unknown_options_are_told(self):
         self.write("good.c", GOOD)
-        self.assertIn("note: good.c: options that are not looked at: -fwrapv\n", self.run_driver("-fwrapv", "good.c")[1])
+        output = self.run_driver("-fwrapv", "good.c")[1]
+        self.assertIn("note: good.c: options that are not looked at: -fwrapv\n", output)
 
 
 @unittest.skipUnless(shutil.which("gcc"), "gcc is not here")

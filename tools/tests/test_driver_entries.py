@@ -33,7 +33,8 @@ class Entries(DriverTest):
         self.assertEqual(["3:24 diverr"], self.found(text, "--entry", "h"))
 
     def test_pointer_parameters(self):
-        text = "struct p { int x; char *s; };\nint f(struct p *p, const char *s) { return p->s ? 1 : strlen(s) / p->x; }\n"
+        text = "struct p { int x; char *s; };\n" \
+               "int f(struct p *p, const char *s) { return p->s ? 1 : strlen(s) / p->x; }\n"
         word, reason = self.refused(text)
         self.assertEqual("NoEntry", word)
         self.assertIn("--objects passes fresh objects", reason)
@@ -88,7 +89,8 @@ class StandIns(DriverTest):
                       self.assumed(text))
 
     def test_nothing(self):
-        self.assertEqual([], self.found("void hit(int [], unsigned char c[3]);\nint main(void) { hit(0, 0); return 0; }\n"))
+        text = "void hit(int [], unsigned char c[3]);\nint main(void) { hit(0, 0); return 0; }\n"
+        self.assertEqual([], self.found(text))
 
     def test_pointers(self):
         text = "struct s { int n; };\nstruct s *make(void);\nint main(void) { return make()->n; }\n"
@@ -116,7 +118,8 @@ class Replays(DriverTest):
                                "--replay")
         self.assertEqual([{"end": "violation", "entry": "main", "used": 0}], report["units"][0]["ends"])
         self.assertEqual(1, len(report["diagnostics"]))
-        report = self.analysed("int main(void) { return getchar(); }", "--replay", "--draws", self.write("d.txt", "65\n"))
+        draws = self.write("draws.txt", "65\n")
+        report = self.analysed("int main(void) { return getchar(); }", "--replay", "--draws", draws)
         self.assertEqual([{"end": "ended", "entry": "main", "used": 1}], report["units"][0]["ends"])
 
 

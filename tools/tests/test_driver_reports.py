@@ -109,7 +109,8 @@ class Formats(DriverTest):
 
     def test_keep(self):
         self.run_driver("bad.c", "--keep", "kept")
-        done = subprocess.run([self.program, "check", "kept/1/unit.c"], cwd=self.folder, stdout=subprocess.PIPE, check=False)
+        call = [self.program, "check", "kept/1/unit.c"]
+        done = subprocess.run(call, cwd=self.folder, stdout=subprocess.PIPE, check=False)
         self.assertEqual(1, done.returncode)
 
 
