@@ -4,12 +4,12 @@ import os
 import shlex
 
 WITH_VALUE = {"-o", "-MF", "-MT", "-MQ", "-x", "-L", "-l", "-u", "-z", "-T", "-Xlinker", "-Xassembler",
-              "-Xpreprocessor", "-arch", "--param", "-isysroot", "--sysroot", "-target", "-aux-info", "-dumpbase", "-G", "-B"}
+              "-Xpreprocessor", "-arch", "--param", "-isysroot", "--sysroot", "-target", "-dumpbase", "-G", "-B"}
 KINDS = ("quoted", "plain", "system", "after")
 DIRECTORIES = {"-iquote": "quoted", "-I": "plain", "-isystem": "system", "-idirafter": "after"}
 WITHOUT_MEANING = ("-W", "-O", "-g", "-M", "-pipe", "-c", "-S", "-E", "-o", "-L", "-l", "-s", "-v", "-w", "-pedantic",
                    "-ansi", "-static", "-shared", "-rdynamic", "-pthread", "-nostdinc", "-no-pie", "-pie", "-m64",
-                   "-fPI", "-fpi", "-fdiagnostics", "-fcolor", "-fstack-protector", "-ffile-prefix-map", "-fdebug-prefix-map",
+                   "-fPI", "-fpi", "-fdiagnostics", "-fcolor", "-fstack-protector", "-ffile-prefix", "-fdebug-prefix",
                    "-fvisibility", "-ffunction-sections", "-fdata-sections", "-P", "-H")
 LINKED = (".o", ".a", ".so", ".lo", ".la", ".ld")
 STANDARDS = {"89": "", "90": "", "iso9899:1990": "", "iso9899:199409": "199409L", "99": "199901L", "9x": "199901L",

@@ -1,5 +1,7 @@
 """The reports of ccheck-cc, and the refusals in words."""
 import json
+import os
+import shutil
 import subprocess
 import unittest
 
@@ -8,6 +10,7 @@ from ccheck_tools import reports
 from ccheck_tools.refusal_words import GENERAL
 
 QUICK = True
+ROOT = os.path.dirname(reports.TOOLS)
 
 REFUSALS = (
     ("int price@;\n" + GOOD, "BadByte", "cannot begin a token"),
@@ -112,6 +115,23 @@ class Formats(DriverTest):
         call = [self.program, "check", "kept/1/unit.c"]
         done = subprocess.run(call, cwd=self.folder, stdout=subprocess.PIPE, check=False)
         self.assertEqual(1, done.returncode)
+
+
+class Page(DriverTest):
+    """docs/driver.md prints what ccheck-cc prints."""
+
+    def test_examples(self):
+        with open(os.path.join(ROOT, "docs", "driver.md"), encoding="utf-8") as file:
+            page = file.read()
+        shutil.copytree(os.path.join(ROOT, "examples", "project"), self.folder, dirs_exist_ok=True)
+        self.write("old.c", page.split("```c\n")[1].split("```")[0])
+        self.write("shape.c", "struct shape { int sides; int (*area)(int); };\n" + GOOD)
+        blocks = [it.split("\n```")[0] for it in page.split("```text\n$ ccheck-cc ")[1:]]
+        self.assertEqual(4, len(blocks))
+        for block in blocks:
+            words, _, printed = block.partition("\n")
+            with self.subTest(words):
+                self.assertEqual(printed + "\n", self.run_driver(*words.split())[1])
 
 
 if __name__ == "__main__":

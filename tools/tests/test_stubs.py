@@ -82,8 +82,8 @@ BODIES = {
     "strcoll": "prepare(); if (below(2)) strcpy(b, a); SAME(sign(stub_strcoll(a, b)), sign(strcoll(a, b)));",
     "strcasecmp": "int i; prepare(); if (below(2)) for (i = 0; (b[i] = toupper((unsigned char)a[i])) != 0; i++); "
                   "SAME(sign(stub_strcasecmp(a, b)), sign(strcasecmp(a, b)));",
-    "strncasecmp": "int i, n = below(50); prepare(); if (below(2)) for (i = 0; (b[i] = toupper((unsigned char)a[i])) != "
-                   "0; i++); SAME(sign(stub_strncasecmp(a, b, n)), sign(strncasecmp(a, b, n)));",
+    "strncasecmp": "int i, n = below(50); prepare(); if (below(2)) for (i = 0; (b[i] = toupper((unsigned char)a[i])) "
+                   "!= 0; i++); SAME(sign(stub_strncasecmp(a, b, n)), sign(strncasecmp(a, b, n)));",
     "strncat": "int n = below(50); prepare(); strcpy(c, a); strcpy(d, a); SAME(stub_strncat(c, b, n), c); "
                "strncat(d, b, n); SAME(strcmp(c, d), 0);",
     "strnlen": "int n = below(50); prepare(); SAME(stub_strnlen(a, n), strnlen(a, n));",
