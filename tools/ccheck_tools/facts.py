@@ -6,6 +6,9 @@ from ccheck_tools.c_tokens import line_tokens
 from ccheck_tools.old_style import parameter_text
 
 
+NO_RETURN = ("noreturn", "__noreturn__", "_Noreturn")
+
+
 class Facts:
     """Facts about all files of a unit; conditions are not evaluated, so all branches count."""
 
@@ -13,7 +16,7 @@ class Facts:
         self.definitions, self.declarations = {}, {}
         self.called, self.macros, self.conditions = set(), set(), {}
         self.words = collections.Counter()
-        self.unnamed, self.bodies = [], {}
+        self.unnamed, self.bodies, self.no_return, self.objects = [], {}, set(), set()
         for one in sources.stub_files.values():
             self.macros.update(one.macros())
         for one in sources.files.values():
@@ -29,7 +32,11 @@ class Facts:
             found = self.resolved(declarator_of(piece.head))
             if piece.body is not None:
                 self.read_calls([(it.kind, it.text) for it in piece.body])
-            elif found is None or any(it.text == "typedef" for it in found.spec):
+            elif found is None:
+                if any(it.text == "extern" for it in piece.head[:1]):
+                    self.objects.update(it.text for it in piece.head if it.kind == "name")
+                continue
+            elif any(it.text == "typedef" for it in found.spec):
                 continue
             if found is None:
                 self.unnamed.append((source, piece))
@@ -58,6 +65,8 @@ class Facts:
 
     def read_declarators(self, piece, found, source):
         """Takes the functions of one declaration."""
+        if any(it.text in NO_RETURN for it in piece.head):
+            self.no_return.add(found.name.text)
         for index, part in enumerate(split_at(piece.head[:-1], ",")):
             one = found if index == 0 else self.resolved(declarator_of([*found.spec, *part]))
             if one is not None:

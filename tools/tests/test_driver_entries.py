@@ -92,6 +92,11 @@ class StandIns(DriverTest):
         text = "void hit(int [], unsigned char c[3]);\nint main(void) { hit(0, 0); return 0; }\n"
         self.assertEqual([], self.found(text))
 
+    def test_functions_that_do_not_return(self):
+        text = "void die(int) __attribute__((noreturn));\nint f(int n) { if (n < 1) die(1); return 1 / n; }\n"
+        self.assertEqual([], self.found(text))
+        self.assertIn("die has no definition: it is read as a function that ends the run", self.assumed(text))
+
     def test_pointers(self):
         text = "struct s { int n; };\nstruct s *make(void);\nint main(void) { return make()->n; }\n"
         word, reason = self.refused(text)
