@@ -1,7 +1,7 @@
 """What the files of a unit say together: functions that are defined, declared and called, macros, words, conditions."""
 import collections
 
-from ccheck_tools.c_pieces import KEYWORDS, declarator_of, renamed, split_at
+from ccheck_tools.c_pieces import KEYWORDS, declarator_of, last_declarator, renamed, split_at
 from ccheck_tools.c_tokens import line_tokens
 from ccheck_tools.old_style import parameter_text
 
@@ -30,6 +30,8 @@ class Facts:
         """Takes the functions of a file."""
         for piece in source.pieces:
             found = self.resolved(declarator_of(piece.head))
+            if found is None and piece.body is not None:
+                found = self.resolved(last_declarator(piece.head))
             if piece.body is not None:
                 self.read_calls([(it.kind, it.text) for it in piece.body])
             elif found is None:
@@ -53,6 +55,11 @@ class Facts:
         if last is None or last.text in KEYWORDS or found.stars:
             return None
         return renamed(found, [])
+
+    def is_macro_call(self, piece):
+        """Says whether a piece begins with the call of a macro, so that its text says little."""
+        found = declarator_of(piece.head)
+        return found is not None and found.name.text in self.macros
 
     def closure(self):
         """Returns the macros whose text, or that of a macro in it, has a brace, and so may define functions."""
