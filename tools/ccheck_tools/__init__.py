@@ -1,0 +1,1 @@
+"""Modules that the Python tools of ccheck share."""
