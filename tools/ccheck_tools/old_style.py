@@ -1,0 +1,88 @@
+"""Old-style definitions `int f(a, b) int a; char *b; {` made new: `int f(int a, char *b) {`."""
+from ccheck_tools.c_pieces import KEYWORDS, declarator_of, has_type, split_at, text_of
+
+
+def new_parameters(piece):
+    """Returns the parameter list that an old-style definition has in the new style, None where it cannot be found."""
+    found = declarator_of(piece.head)
+    names = found.old_style_names() if found else None
+    if not names or piece.body is None or piece.mixed:
+        return None
+    types = {}
+    for part in split_at(found.after, ";"):
+        if part and not declared(part, names, types):
+            return None
+    return ", ".join(types.get(name, f"int {name}") for name in names)
+
+
+def declared(tokens, names, types):
+    """Adds the parameters of one declaration, such as `char *a, b[3]`, to their types."""
+    first = next((index for index, one in enumerate(tokens)
+                  if one.text in ("*", "(") or one.text in names and index > 0), None)
+    if first is None:
+        return False
+    spec, rest = tokens[:first], tokens[first:]
+    if any(one.kind != "name" for one in spec):
+        return False
+    for part in split_at(rest, ","):
+        name = next((one.text for one in part if one.kind == "name" and one.text in names), None)
+        if name is None or name in types:
+            return False
+        types[name] = f"{text_of(spec)} {text_of(part)}"
+    return True
+
+
+def lacks_type(piece):
+    """Says whether a definition leaves out its type, which is int in the old style."""
+    found = declarator_of(piece.head)
+    return found is not None and piece.body is not None and not has_type(found.spec) and not found.stars
+
+
+def parameter_text(piece):
+    """Returns the parameter list of a definition as text, in the new style; None where it is not plain."""
+    found = declarator_of(piece.head)
+    if found is None or piece.mixed:
+        return None
+    if found.old_style_names():
+        return new_parameters(piece) if found.after or all_plain(found) else text_of(found.parameters)
+    return text_of(found.parameters)
+
+
+def all_plain(found):
+    """Says whether a list of names is one of parameters without a declaration, which are int."""
+    return all(one.text not in KEYWORDS for one in found.parameters)
+
+
+def edit_definition(piece, edits):
+    """Makes an old-style definition new. Returns a sentence on it, or None where nothing was done."""
+    found = declarator_of(piece.head)
+    if found is None or piece.body is None or piece.mixed:
+        return None
+    told = None
+    if found.old_style_names():
+        new = new_parameters(piece)
+        if new is None:
+            return None
+        edits.replace(found.opening.end, found.closing.start, new)
+        if found.after:
+            edits.blank(found.closing.end, piece.body[0].start)
+        told = f"the old-style definition of {found.name.text} is read with the parameters ({new})"
+    if lacks_type(piece):
+        edits.insert(found.name.start, "int ")
+        told = told or f"the definition of {found.name.text} has no type and is read as int"
+    return told
+
+
+def edit_declaration(piece, edits, parameters):
+    """Gives declarations `int f();` the parameters of the definition of f. Returns sentences on them."""
+    found = declarator_of(piece.head)
+    if found is None or piece.body is not None or piece.mixed:
+        return []
+    told = []
+    for part in split_at(piece.head[:-1], ","):
+        for index, one in enumerate(part[:-2]):
+            new = parameters.get(one.text)
+            if new and new != "void" and part[index + 1].text == "(" and part[index + 2].text == ")":
+                edits.replace(part[index + 1].end, part[index + 2].start, new)
+                told.append(f"the old-style declaration of {one.text} is read with the parameters ({new})")
+    return told
