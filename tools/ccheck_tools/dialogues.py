@@ -204,3 +204,63 @@ class Dialogue:
     def is_last_taken(self, draws):
         """Whether the last draw is in its range."""
         return not draws or self.questions.takes(draws[:-1], draws[-1])
+
+
+def exact_answers(replays, world):
+    """Returns the answers to the run in a world, with each question found by trying, and the outcome of the run."""
+    questions, answers = Questions(replays), Answers(world)
+    guess = None
+    while len(answers.draws) < MOST and answers.past < 4 * EXTRA:
+        guess = guess if guess and is_this(questions, answers.draws, guess) else questions.find(answers)
+        if guess is None:
+            break
+        answers.give(guess)
+    return answers, replays.run(answers.draws)
+
+
+def is_this(questions, draws, kind):
+    """Whether the next question is the one that is guessed, which is the last one: a character or a line."""
+    if kind == CHARACTER:
+        return questions.takes(draws, -1) and not questions.takes(draws, 256)
+    if kind.name == "line":
+        return questions.is_asked([*draws, 1]) and questions.takes([*draws, 1], kind.high) \
+            and not questions.takes([*draws, 1], kind.high + 1) and not questions.takes(draws, 2)
+    return False
+
+
+def read_back(replays, draws):
+    """Returns the answers that draws are, the text that they read, and why no stream gives it, as sentences."""
+    questions, answers, text, faults = Questions(replays), Answers(World()), bytearray(), []
+    is_over, guess = False, None
+    while len(answers.draws) < len(draws):
+        guess = guess if guess and is_this(questions, answers.draws, guess) else questions.find(answers)
+        if guess is None:
+            break
+        at, value = len(answers.draws), draws[len(answers.draws)]
+        answers.kinds.append((guess, at))
+        answers.draws.append(value)
+        if guess.name == "line" and value == 1 and at + 1 < len(draws):
+            line = draws[at + 2:at + 2 + draws[at + 1]]
+            answers.draws += draws[at + 1:at + 2 + len(line)]
+            faults += line_faults(line, guess.high, at + 1, is_over)
+            text += bytes(it % 256 for it in line)
+        elif guess == CHARACTER and value >= 0:
+            faults += [f"draw {at + 1} is a character after the end of the input"] if is_over else []
+            text.append(value % 256)
+        elif guess.name in ("line", "character"):
+            is_over = True
+    return answers, bytes(text), faults
+
+
+def line_faults(line, room, number, is_over):
+    """Returns why no stream gives a line to fgets."""
+    faults = []
+    if is_over:
+        faults.append(f"draw {number} is a line after the end of the input")
+    if not line:
+        faults.append(f"draw {number} is a line without characters")
+    if 10 in line[:-1]:
+        faults.append(f"draw {number} is a line with a line end before its last character")
+    if line and line[-1] != 10 and len(line) < room:
+        faults.append(f"draw {number} is a line without a line end: it is the last one of the input")
+    return faults
