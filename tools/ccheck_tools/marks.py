@@ -12,9 +12,10 @@ from typing import NamedTuple
 
 HEAD = ("static char ccheck_marked[1];\n"
         "#define CCHECK_REACHED (ccheck_marked + (0u - 1u + 1u), 1)\n"
-        "#define CCHECK_PASSED (ccheck_marked + (0u - 1u + 1u), 0)\n")
+        "#define CCHECK_PASSED (ccheck_marked + (0u - 1u + 1u), 0)\n"
+        "#define CCHECK_NEAR (ccheck_marked + (0u - 1u + 1u), 1)\n")
 HEAD_LINES = HEAD.count("\n")
-TRUE, FALSE = "CCHECK_REACHED", "CCHECK_PASSED"
+TRUE, FALSE, CLOSE = "CCHECK_REACHED", "CCHECK_PASSED", "CCHECK_NEAR"
 COMPARED = ("==", "!=", "<", "<=", ">", ">=")
 NEAR = (1, 3, 10, 30, 100, 300)
 TOKEN = re.compile(
@@ -118,7 +119,7 @@ class Marker:
         if not (is_whole and re.fullmatch(r"[A-Za-z_]\w*", name) and re.fullmatch(r"'[^']+'|[1-9]\d{0,5}", constant)
                 or is_whole and sign not in ("==", "!=") and constant == "0") or self.is_in_case(place):
             return
-        grades = "".join(f"({name} >= {constant} - {near} && {name} <= {constant} + {near} && {TRUE}), " for near in NEAR)
+        grades = "".join(f"({name} >= {constant} - {near} && {name} <= {constant} + {near} && {CLOSE}), " for near in NEAR)
         self.put_before(place, f"({grades}")
         self.put_after(place + 2, ")")
 
@@ -170,10 +171,10 @@ def marked_text(text):
     return marker.text()
 
 
-def mark_places(text):
-    """Returns the places of all marks of a text: lines and columns in bytes."""
+def mark_places(text, names=(TRUE, FALSE, CLOSE)):
+    """Returns the places of the marks of a text: lines and columns in bytes."""
     return {(number, found.start() + 1) for number, line in enumerate(text.split("\n"), 1)
-            for found in re.finditer(rf"{TRUE}|{FALSE}", line)}
+            for found in re.finditer("|".join(names), line)}
 
 
 class MarkedUnit:
@@ -181,7 +182,7 @@ class MarkedUnit:
 
     def __init__(self, unit, folder, directories, is_graded=True):
         self.folder, self.directories, self.is_graded = folder, directories, is_graded
-        self.names, self.marks, self.text = {}, set(), ""
+        self.names, self.marks, self.grades, self.text = {}, set(), set(), ""
         self.path = self.copy(os.path.realpath(unit), unit, HEAD)
 
     def copy(self, path, name, head=""):
@@ -200,8 +201,8 @@ class MarkedUnit:
         target = os.path.join(self.folder, short)
         with open(target, "w", encoding="latin-1") as file:
             file.write(made)
-        lines = mark_places(made) - (mark_places(head) if head else set())
-        self.marks |= {(target, line, column) for line, column in lines}
+        self.marks |= {(target, *it) for it in mark_places(made) - mark_places(head)}
+        self.grades |= {(target, *it) for it in mark_places(made, (CLOSE,))}
         return target
 
     def included(self, token, path, name):

@@ -41,7 +41,7 @@ class Search:
         self.chance, self.tries = random.Random(seed), tries
         self.until = time.monotonic() + seconds if seconds else None
         self.found, self.pool, self.seen, self.hits = {}, [], set(), {}
-        self.worlds, self.ways, self.asked = set(), set(), set()
+        self.worlds, self.ways, self.asked, self.followers = set(), set(), set(), []
 
     def run(self):
         """Searches until each wanted pair is shown or the tries are used up; returns the runs by their pairs."""
@@ -76,22 +76,54 @@ class Search:
         return is_late or self.runs.count + self.plain.count >= self.tries or self.wanted <= self.found.keys()
 
     def try_all(self):
-        """Takes runs: the worlds that come first, then changes of those that reached most."""
-        for world in self.firsts():
-            if self.is_done:
-                return
-            self.try_world(world)
+        """Takes runs: of worlds that come first, of those that follow one which reached new code, and of random ones."""
+        first = self.firsts()
+        self.try_world(dialogues.World())
         while not self.is_done:
+            dice = self.chance.random()
+            if dice < 0.45 and self.try_next(first) or dice < 0.8 and self.try_follower():
+                continue
             if self.chance.random() < BLIND:
                 self.try_draws(some_draws(self.chance, self.pieces.numbers))
             else:
                 self.try_world(self.changed(self.picked()))
 
+    def try_next(self, worlds):
+        """Takes the run of the next of some worlds; returns whether there is one."""
+        world = next(worlds, None)
+        if world is not None:
+            self.try_world(world)
+        return world is not None
+
+    def try_follower(self):
+        """Takes the run of a world that follows the last one which reached new code; returns whether there is one."""
+        while self.followers:
+            if self.try_next(self.followers[-1]):
+                return True
+            self.followers.pop()
+        return False
+
+    def following(self, world):
+        """Worlds that go on from one: other arguments in each place, and more text behind its own."""
+        for place in range(len(world.numbers)):
+            for number in sorted(self.pieces.numbers, key=abs)[:60]:
+                yield world._replace(numbers=(*world.numbers[:place], number, *world.numbers[place + 1:]))
+        if self.asks_text:
+            end = b"\n" if "line" in self.asked else b""
+            named = self.pieces
+            for word in [*(bytes([it]) for it in named.characters[:24]), *named.words()[:16]]:
+                yield world._replace(text=world.text + word)
+                if end and not word.endswith(end):
+                    yield world._replace(text=world.text + word + end)
+            for length in named.lengths[:16]:
+                yield world._replace(text=world.text + b"a" * length + end)
+
     def firsts(self):
-        """Worlds that are tried before any change: no input, failing allocations, numbers and lengths of the unit."""
-        yield dialogues.World()
+        """Worlds that need no other: no input, failing allocations, numbers and lengths of the unit."""
         yield dialogues.World(denied=frozenset({0}))
         yield from self.first_numbers()
+        if not self.asks_text:
+            return
         named = self.pieces
         for text in [bytes([it]) for it in named.characters] + named.words()[:60] + [b"\n", b"a", b"\xff", b"-1", b"0"]:
             yield dialogues.World(text + b"\n")
@@ -104,32 +136,30 @@ class Search:
             yield dialogues.World(b"\n".join(named.strings) + b"\n")
 
     def first_numbers(self):
-        """Worlds for the parameters of the entry: each number of the unit in each place, then a few together."""
-        count = sum(kind.name == "number" for kind, _ in dialogues.Dialogue(self.runs).answer(dialogues.World())[0].kinds)
-        if not count:
-            return
-        numbers = sorted({*self.pieces.numbers, *pieces.ENDS}, key=abs)[:120]
-        for number in numbers:
+        """Worlds for the parameters of the entry: the same number in each place, then the ends of ranges in each."""
+        count = sum(kind.name == "number" for kind, _ in self.dialogue.answer(dialogues.World())[0].kinds)
+        for number in sorted({*self.pieces.numbers, *pieces.ENDS}, key=abs)[:120] if count else ():
             yield dialogues.World(numbers=(number,) * count)
         for place in range(count if count > 1 else 0):
             for other in (1, -1):
-                for number in numbers:
+                for number in pieces.ENDS:
                     yield dialogues.World(numbers=tuple(number if at == place else other for at in range(count)))
 
     def try_world(self, world):
-        """Takes the run of a world; a world that reached something new is kept, and its allocations fail one by one."""
+        """Takes the run of a world. One that reached something new is kept; one that reached new code is followed."""
         if world in self.worlds:
             return
         self.worlds.add(world)
         answers, outcome = self.dialogue.answer(world)
         self.asked |= {kind.name for kind, _ in answers.kinds}
-        is_new, reached = self.note(answers.draws[:outcome.used], outcome, world)
+        reached, is_new_code, is_new = self.note(answers.draws[:outcome.used], outcome, world)
         if is_new:
             self.pool.append(Kept(world, reached))
-            if not world.denied:
-                for number in range(1, min(answers.asked_memory, DENIED_AT_MOST) + 1):
-                    if not self.is_done:
-                        self.try_world(world._replace(denied=frozenset({number})))
+        if is_new_code:
+            self.followers.append(self.following(world))
+            for number in range(1, min(answers.asked_memory, DENIED_AT_MOST) + 1 if not world.denied else 1):
+                if not self.is_done:
+                    self.try_world(world._replace(denied=frozenset({number})))
 
     def try_draws(self, draws):
         """Takes a run over draws that no world was asked for."""
@@ -137,10 +167,9 @@ class Search:
         self.note(draws[:outcome.used], outcome, None)
 
     def note(self, draws, outcome, world):
-        """Keeps what a run has shown; returns whether it reached something new, and the marks that it reached."""
+        """Keeps what a run has shown; returns its marks, whether code is new among them, and whether anything is."""
         reached, others = self.marked.reached(outcome.pairs)
-        length = (outcome.end, len(draws).bit_length())
-        new = (reached | others | {length}) - self.seen
+        new = (reached | others | {(outcome.end, len(draws).bit_length())}) - self.seen
         self.seen |= new
         for it in reached:
             self.hits[it] = self.hits.get(it, 0) + 1
@@ -150,7 +179,7 @@ class Search:
         way = frozenset(reached)
         is_new = bool(new) or way not in self.ways and len(self.pool) < POOL_AT_MOST
         self.ways.add(way)
-        return is_new, way
+        return way, bool((new & (reached | others)) - self.marked.grades), is_new
 
     def picked(self):
         """Picks a kept world: mostly one of the fewest that reached a mark, before what is wanted or seldom reached."""
