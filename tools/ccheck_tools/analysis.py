@@ -7,9 +7,9 @@ import subprocess
 from ccheck_tools import reports
 from ccheck_tools.c_types import Types
 from ccheck_tools.command_line import CommandFault
-from ccheck_tools.entries import ENTRY, entries_of
+from ccheck_tools.entries import ENTRY, Entry, entries_of, library_entries
 from ccheck_tools.facts import Facts
-from ccheck_tools.including_unit import UNIT, Including, write_file
+from ccheck_tools.including_unit import UNIT, Including, copy_name, write_file
 from ccheck_tools.library import BUILT_IN, stub_folder, stub_functions
 from ccheck_tools.predefined import model_of
 from ccheck_tools.refusal_words import explained
@@ -17,14 +17,17 @@ from ccheck_tools.rewriting import Assumption, rewrite
 from ccheck_tools.sources import Sources, UnitFault
 from ccheck_tools.stand_ins import INPUT_LINES, stand_ins
 
-ASSUMES = re.compile(r"/\* assumes: (.*?) \*/", re.DOTALL)
+ASSUMES = re.compile(r"\bassumes: (.*?) \*/", re.DOTALL)
 MACRO_NAME = re.compile(r"#\s*define\s+(\w+)")
+OF_ENTRY = ("NoEntry", "TooLarge", "ReplayMemory")
+WITH_NAME = ("Unsupported", "HeaderMissing")
 
 
 @dataclasses.dataclass
 class Fault:
     """Why something was not analysed: a refusal of ccheck, or a sentence."""
     text: str
+    word: str = "not read"      # the word by which it is counted
     refusal: object = None
     line: str = ""              # the line of source at the refusal's place
     reason: str = ""            # the refusal in words
@@ -52,13 +55,16 @@ class Analysis:
     def __init__(self, compilation, folder, options, program):
         self.compilation, self.folder, self.options, self.program = compilation, folder, options, program
         self.outcome = Outcome(compilation.source, notes=list(compilation.notes))
+        self.refused_whole = False      # a refusal that does not depend on the entry has come
 
     def run(self):
         """Returns the outcome."""
         try:
             self.prepare()
-            for entry in entries_of(self.sources, self.facts, self.types, self.options):
-                self.analyse(entry)
+            entries = entries_of(self.sources, self.facts, self.types, self.options)
+            if entries[0].function == "main" and not self.options.entry and not self.analyse(entries.pop(0)):
+                entries = library_entries(self.sources, self.facts, self.types, self.options)
+            self.analyse_all(entries)
         except (UnitFault, CommandFault) as fault:
             self.outcome.faults.append(Fault(str(fault)))
         self.outcome.diagnostics = sorted(set(self.outcome.diagnostics), key=self.order)
@@ -84,6 +90,7 @@ class Analysis:
         self.outcome.assumed += told + self.including.told + stand_in_told + self.stubs_told(used)
         self.outcome.notes += self.notes()
         self.including.write_copies(self.folder)
+        self.copies = {f"{self.folder}/{copy_name(key)}": it for key, it in self.sources.files.items()}
 
     def stubs_told(self, used):
         """Returns what the used stub functions assume, by the comment at their beginning."""
@@ -92,6 +99,10 @@ class Analysis:
             with open(path, encoding="latin-1") as file:
                 found = ASSUMES.search(file.read())
             told.append(Assumption(f"{name} is the stub of ccheck" + (f": {found[1]}" if found else "")))
+        for path, source in self.sources.stub_files.items():
+            found = ASSUMES.search(source.text)
+            name = os.path.relpath(path, self.sources.stubs)
+            told.append(Assumption(f"<{name}> is the stub of ccheck" + (f": {found[1]}" if found else "")))
         return told
 
     def notes(self):
@@ -131,15 +142,28 @@ class Analysis:
             raise UnitFault(f"{self.program} could not be started: {fault.strerror}") from fault
         return done.returncode, reports.read_text(reports.decoded(done.stdout))
 
+    def analyse_all(self, entries):
+        """Analyses the unit from each entry on. At least one of them has to be there."""
+        for entry in entries:
+            if self.refused_whole:
+                break
+            self.analyse(entry)
+        if not self.outcome.entries:
+            text = "none of the functions that were found is in a group that is taken here; --entry can name one"
+            self.outcome.faults.append(Fault(text, "NoEntry"))
+
     def analyse(self, entry):
-        """Analyses the unit from one entry on."""
-        self.outcome.entries += 1
+        """Analyses the unit from one entry on. Says whether the entry is in the unit."""
+        if entry.probe and entry.fault and not self.defines(entry):
+            return False
         if entry.fault:
-            self.outcome.faults.append(Fault(entry.fault))
-            return
-        status, report = self.call("replay" if self.options.replay else "check", entry)
-        while status == reports.REFUSED and self.drops_macro(report.refusal):
-            status, report = self.call("replay" if self.options.replay else "check", entry)
+            self.outcome.entries += 1
+            self.outcome.faults.append(Fault(entry.fault, "NoEntry"))
+            return True
+        status, report = self.checked(entry)
+        if report.refusal and report.refusal.word in ("NoEntry", "Undeclared") and not self.defines(entry):
+            return False
+        self.outcome.entries += 1
         if status in (reports.CLEAN, reports.FOUND):
             self.outcome.assumed += entry.told
             self.outcome.diagnostics += [self.mapped(it) for it in report.diagnostics]
@@ -147,6 +171,27 @@ class Analysis:
                 self.outcome.ends.append((entry.shown, report.end, report.used))
         else:
             self.add_fault(status, report)
+        return True
+
+    def checked(self, entry):
+        """Runs ccheck from an entry, without macros of ours that the unit defines itself."""
+        verb = "replay" if self.options.replay else "check"
+        status, report = self.call(verb, entry)
+        while status == reports.REFUSED and self.drops_macro(report.refusal):
+            status, report = self.call(verb, entry)
+        return status, report
+
+    def defines(self, entry):
+        """Says whether the function of an entry is in a group of the unit that is taken."""
+        lines = entry.lines or entry.probe
+        if not lines or entry.shown == "nothing":
+            return True
+        _, report = self.call("check", Entry(ENTRY, entry.shown, lines))
+        refusal = report.refusal
+        missing = refusal and refusal.word == "Undeclared" and refusal.file == f"{self.folder}/{UNIT}"
+        if missing:
+            self.outcome.notes.append(f"{entry.function} is in a group that is not taken here, and is not analysed")
+        return not missing
 
     def drops_macro(self, refusal):
         """Leaves out one of the macros before the unit, where the unit defines it in another way."""
@@ -163,11 +208,9 @@ class Analysis:
 
     def place(self, one):
         """Returns the source, the line and the column of a place of ccheck's report; no source outside of the tree."""
-        tree = f"{self.folder}/tree"
-        if one.file.startswith(tree):
-            source = self.sources.files.get(os.path.normpath(one.file[len(tree):]))
-            if source:
-                return source, *source.edited.original_place(one.line, one.column)
+        source = self.copies.get(os.path.normpath(one.file))
+        if source:
+            return source, *source.edited.original_place(one.line, one.column)
         return None, one.line, one.column
 
     def mapped(self, one):
@@ -184,11 +227,14 @@ class Analysis:
         """Keeps why an entry was not analysed."""
         if report.refusal is None:
             text = report.answer if status is None else f"ccheck: {reports.status_words(status)}"
-            fault = Fault(text + (f": {report.answer}" if report.answer and status is not None else ""))
+            text += f": {report.answer}" if report.answer and status is not None else ""
+            fault = Fault(text, "status" if status is not None else "timeout")
         else:
             source, line, _ = self.place(report.refusal)
             mapped = self.mapped(report.refusal)
-            fault = Fault(mapped.as_text(), mapped, source.edited.original.line(line) if source else "",
+            self.refused_whole = report.refusal.word not in OF_ENTRY and source is not None
+            word = f"{mapped.word} {mapped.rest}" if mapped.word in WITH_NAME else mapped.word
+            fault = Fault(mapped.as_text(), word, mapped, source.edited.original.line(line) if source else "",
                           explained(self, report.refusal))
         if fault not in self.outcome.faults:
             self.outcome.faults.append(fault)

@@ -12,8 +12,39 @@ def attributes_of(source):
             if one.kind == "name" and one.text in ATTRIBUTE_WORDS:
                 lines = lines or Lines(source.text)
                 for name in names_in(tokens, at + 1):
+                    name = "aligned object" if name == "aligned" and is_object(tokens, at) else name
                     found.setdefault(name, f"{source.shown}:{lines.place(one.start)[0]}")
     return found
+
+
+def is_object(tokens, at):
+    """Says whether an attribute of alignment is one of an object or a function, and so changes no size."""
+    if tokens[0].start == tokens[-1].start:     # a directive: where its text is used is not known
+        return False
+    depth = 0
+    for index in range(at - 1, -1, -1):
+        text = tokens[index].text
+        depth += (text == "}") - (text == "{")
+        if text in ("struct", "union", "typedef") and depth <= 0 or depth < 0 and is_struct_brace(tokens, index):
+            return False
+        if depth == 0 and text == ";":
+            return enclosing_is_block(tokens, index)
+    return True
+
+
+def enclosing_is_block(tokens, at):
+    """Says whether the braces round a token, if any, are those of a block and not of a struct."""
+    depth = 0
+    for index in range(at, -1, -1):
+        depth += (tokens[index].text == "}") - (tokens[index].text == "{")
+        if depth < 0:
+            return not is_struct_brace(tokens, index)
+    return True
+
+
+def is_struct_brace(tokens, at):
+    """Says whether a `{` begins the members of a struct."""
+    return any(it.text in ("struct", "union", "enum") for it in tokens[max(at - 2, 0):at])
 
 
 def retold(directive):

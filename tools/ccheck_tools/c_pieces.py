@@ -39,10 +39,11 @@ class Declarator:
     closing: object
     parameters: list
     after: list
+    by_macro: bool = False      # the parameters are arguments of a macro
 
     def old_style_names(self):
         """Returns the names of an identifier list, None where the parameters are not one."""
-        return identifier_list(self.parameters)
+        return None if self.by_macro else identifier_list(self.parameters)
 
 
 def live_tokens(tokens):
@@ -85,6 +86,8 @@ class Cutter:
         elif name == "endif" and self.saved:
             self.saved.pop()
         else:
+            if self.depth == 0 and self.body is None and self.head and self.head[-1].text not in (",", ")"):
+                self.end()
             return
         if self.head and self.body is None or self.saved and not self.saved[-1][1] and self.body is not None:
             self.mixed = True
@@ -224,15 +227,36 @@ def checked_declarator(tokens, before, opening, closing):
     after = tokens[closing + 1:]
     if after and after[-1].text == ";" and len(split_at(after, ";")) == 2:
         after = after[:-1]
-    if not plausible_spec(spec) or parameters and parameters[0].text == "(":
+    if not plausible_spec(spec):
         return None
-    return Declarator(spec, stars, before[-1], tokens[opening], tokens[closing], parameters, after)
+    found = Declarator(spec, stars, before[-1], tokens[opening], tokens[closing], parameters, after)
+    return unwrapped(found) if parameters and parameters[0].text == "(" else found
+
+
+def unwrapped(found):
+    """Reads `int f P((int a))` and `int f P2((a, b), int a, int b)`, where P and P2 are macros of the unit."""
+    inner = group_end(found.parameters, 0)
+    if inner is None or found.stars or not found.spec or found.spec[-1].text in KEYWORDS:
+        return None
+    rest = found.parameters[inner + 1:]
+    parameters = rest[1:] if rest else found.parameters[1:inner]
+    return renamed(found, parameters)
+
+
+def renamed(found, parameters):
+    """Returns the declarator whose name is the last specifier: the name that was found is one of a macro."""
+    spec, stars = found.spec[:-1], []
+    while spec and spec[-1].text == "*":
+        stars.insert(0, spec.pop())
+    return Declarator(spec, stars, found.spec[-1], found.opening, found.closing, parameters, found.after, True)
 
 
 def plausible_spec(spec):
     """Says whether tokens can be declaration specifiers: no name follows a type word, but for a tag."""
     typed = False
     for index, one in enumerate(spec):
+        if one.text == "*" and index + 1 < len(spec) and spec[-1].kind == "name":
+            continue
         if one.kind != "name":
             return False
         if one.text in STATEMENT_WORDS:
@@ -240,7 +264,7 @@ def plausible_spec(spec):
         tag = index > 0 and spec[index - 1].text in ("struct", "union", "enum")
         if one.text in TYPE_WORDS:
             typed = True
-        elif one.text not in KEYWORDS and typed and not tag:
+        elif one.text not in KEYWORDS and typed and not tag and index + 1 < len(spec):
             return False
     return True
 

@@ -15,7 +15,7 @@ class Types:
 
     def __init__(self, sources):
         self.typedefs = {}
-        for source in sources.files.values():
+        for source in sources.all_files():
             for piece in source.pieces:
                 if piece.body is None and any(it.text == "typedef" for it in piece.head[:3]):
                     self.read_typedef(piece.head[:-1])

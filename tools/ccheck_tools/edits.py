@@ -1,19 +1,30 @@
 """Edits of a text that keep its lines, with a way back from places of the edited text to places of the original."""
 import bisect
+import re
 
 from ccheck_tools.c_tokens import Lines
 
 
+DIRECTIVE = re.compile(r"\n[ \t]*#")
+
+
 class Edits:
-    """A list of replacements in one text. Replacements may not overlap; a later one that overlaps is left out."""
+    """A list of replacements in one text. They may not overlap, nor touch a directive; one that does is left out."""
 
     def __init__(self, text):
         self.text = text
         self.pieces = {}
 
+    def allowed(self, start, end):
+        """Says whether the text from start to end may be replaced."""
+        if DIRECTIVE.search(self.text, start, end):
+            return False
+        return not any(start < other_end and other_start < end
+                       for other_start, (other_end, _) in self.pieces.items())
+
     def replace(self, start, end, new):
         """Puts `new` in place of the text from start to end. Its lines stay as many as they were."""
-        if any(start < other_end and other_start < end for other_start, (other_end, _) in self.pieces.items()):
+        if not self.allowed(start, end):
             return False
         missing = self.text.count("\n", start, end) - new.count("\n")
         self.pieces[start] = (end, new + "\n" * missing)
@@ -24,11 +35,9 @@ class Edits:
         return self.replace(start, end, "".join(it if it in "\r\n" else " " for it in self.text[start:end]))
 
     def insert(self, at, new):
-        """Puts `new` before an offset."""
-        if at in self.pieces:
-            return False
-        self.pieces[at] = (at, new)
-        return True
+        """Puts `new` before an offset, after what was put there already."""
+        end, old = self.pieces.get(at, (at, ""))
+        self.pieces[at] = (end, old + new if end == at else new + old)
 
     def applied(self):
         """Returns the edited text."""

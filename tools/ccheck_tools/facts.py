@@ -1,12 +1,9 @@
 """What the files of a unit say together: functions that are defined, declared and called, macros, words, conditions."""
 import collections
-import re
 
-from ccheck_tools.c_pieces import KEYWORDS, declarator_of, split_at
+from ccheck_tools.c_pieces import KEYWORDS, declarator_of, renamed, split_at
 from ccheck_tools.c_tokens import line_tokens
 from ccheck_tools.old_style import parameter_text
-
-MACRO = re.compile(r"([A-Za-z_]\w*)(\()?")
 
 
 class Facts:
@@ -16,30 +13,53 @@ class Facts:
         self.definitions, self.declarations = {}, {}
         self.called, self.macros, self.conditions = set(), set(), {}
         self.words = collections.Counter()
+        self.unnamed, self.bodies = [], {}
+        for one in sources.stub_files.values():
+            self.macros.update(one.macros())
         for one in sources.files.values():
-            self.read_pieces(one)
             self.read_directives(one)
             self.words.update(one.words())
+        for one in sources.all_files():
+            self.read_pieces(one)
+        self.make_functions = self.closure()
 
     def read_pieces(self, source):
         """Takes the functions of a file."""
         for piece in source.pieces:
-            found = declarator_of(piece.head)
+            found = self.resolved(declarator_of(piece.head))
             if piece.body is not None:
                 self.read_calls([(it.kind, it.text) for it in piece.body])
             elif found is None or any(it.text == "typedef" for it in found.spec):
                 continue
             if found is None:
-                continue
-            if piece.body is not None:
+                self.unnamed.append((source, piece))
+            elif piece.body is not None:
                 self.definitions.setdefault(found.name.text, (piece, found, source))
             else:
                 self.read_declarators(piece, found, source)
 
+    def resolved(self, found):
+        """Returns the declarator `int f P0()` as one of f, where P0 is a macro; None where no name is left."""
+        if found is None or found.by_macro or found.name.text not in self.macros:
+            return found
+        last = found.spec[-1] if found.spec else None
+        if last is None or last.text in KEYWORDS or found.stars:
+            return None
+        return renamed(found, [])
+
+    def closure(self):
+        """Returns the macros whose text, or that of a macro in it, has a brace, and so may define functions."""
+        found = {name for name, words in self.bodies.items() if "{" in words}
+        while True:
+            more = {name for name, words in self.bodies.items() if name not in found and words & found}
+            if not more:
+                return found
+            found |= more
+
     def read_declarators(self, piece, found, source):
         """Takes the functions of one declaration."""
         for index, part in enumerate(split_at(piece.head[:-1], ",")):
-            one = declarator_of(part) if index == 0 else declarator_of([*found.spec, *part])
+            one = found if index == 0 else self.resolved(declarator_of([*found.spec, *part]))
             if one is not None:
                 self.declarations.setdefault(one.name.text, (one, source))
 
@@ -51,12 +71,13 @@ class Facts:
 
     def read_directives(self, source):
         """Takes macros and conditions of a file."""
+        self.macros.update(source.macros())
         for name, rest in source.directives():
             if name == "define":
-                found = MACRO.match(rest)
-                if found:
-                    self.macros.add(found[1])
-                    self.read_calls(line_tokens(rest)[1:])
+                tokens = line_tokens(rest)
+                self.read_calls(tokens[1:])
+                if tokens:
+                    self.bodies.setdefault(tokens[0][1], set()).update(text for _, text in tokens[1:])
             elif name in ("if", "elif", "ifdef", "ifndef"):
                 for kind, text in line_tokens(rest):
                     if kind == "name" and text.startswith("__"):
@@ -65,4 +86,4 @@ class Facts:
     def parameters(self):
         """Returns the parameter lists of the functions that are defined, in the new style."""
         found = {name: parameter_text(piece) for name, (piece, _, _) in self.definitions.items()}
-        return {name: text for name, text in found.items() if text}
+        return {name: text for name, text in found.items() if text is not None}

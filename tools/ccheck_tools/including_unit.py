@@ -1,5 +1,6 @@
 """The including unit: a small C file with macros and stubs that includes the copy of the user's unit."""
 import os
+import urllib.parse
 
 from ccheck_tools import predefined
 from ccheck_tools.attributes import attributes_of, changing
@@ -68,9 +69,10 @@ class Including:
         if self.facts.words["__builtin_expect"]:
             found["__builtin_expect(a, b)"] = "((long)(a))"
             self.tell("__builtin_expect(a, b) is read as (long)(a)")
-        if self.facts.words["__builtin_trap"]:
-            found["__builtin_trap"] = "abort"
-            self.tell("__builtin_trap is read as abort")
+        for word in ("__builtin_trap", "__builtin_unreachable"):
+            if self.facts.words[word]:
+                found[word] = "abort"
+                self.tell(f"{word} is read as abort")
 
     def tell(self, sentence):
         """Keeps an assumption of the whole unit."""
@@ -78,7 +80,7 @@ class Including:
 
     def used_stubs(self):
         """Returns the files of the stub functions that the unit calls and does not define, and what they assume."""
-        names = {it.removeprefix(BUILTIN) for it in self.facts.called}
+        names = self.facts.called | {it.removeprefix(BUILTIN) for it in self.facts.called}
         taken = sorted(it for it in names if it in self.stubs and it not in self.facts.definitions
                        and it not in self.facts.macros)
         return {name: self.stubs[name] for name in taken}
@@ -106,7 +108,7 @@ class Including:
     def write_copies(self, folder):
         """Writes the copies of all files into a folder."""
         for key, source in self.sources.files.items():
-            path = f"{folder}/tree{key}"
+            path = f"{folder}/{copy_name(key)}"
             os.makedirs(os.path.dirname(path), exist_ok=True)
             write_file(path, source.edited.text)
 
@@ -116,12 +118,17 @@ class Including:
 
     def directories(self, folder):
         """Returns the directories of headers for the call of ccheck."""
-        return [it if it == self.sources.stubs else f"{folder}/tree{it}" for it in self.sources.searched]
+        return [it if it == self.sources.stubs else f"{folder}/{copy_name(it)}" for it in self.sources.searched]
 
 
 def include_line(key):
     """Returns the line that includes the copy of a file."""
-    return byte_text(f'#include "tree{key}"')
+    return f'#include "{copy_name(key)}"'
+
+
+def copy_name(key):
+    """Returns where the copy of a file is in the folder: its own name, without bytes that an #include cannot have."""
+    return "tree" + urllib.parse.quote(os.fsencode(key), safe="/ !#$&'()*+,;=:@^~{}|[]-._")
 
 
 def write_file(path, text):

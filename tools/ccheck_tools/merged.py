@@ -62,22 +62,13 @@ def unit_list(names):
 
 def summary(outcomes):
     """Returns the last lines, which count."""
-    words = collections.Counter(word_of(it) for one in outcomes for it in one.faults[:1])
+    words = collections.Counter(it.word for one in outcomes for it in one.faults[:1])
     accepted = [it for it in outcomes if it.accepted()]
     clean = sum(1 for it in accepted if not it.diagnostics)
     found = len(diagnostics_of(outcomes))
     lines = [f"{count} not analysed: {word}" for word, count in words.most_common()]
     return [*lines, f"{plural(len(outcomes), 'unit')}: {len(accepted)} accepted, {clean} of them without diagnostics, "
                     f"{len(outcomes) - len(accepted)} not analysed; {plural(found, 'diagnostic')}"]
-
-
-def word_of(fault):
-    """Returns the word by which a fault is counted."""
-    if fault.refusal is None:
-        return fault.text
-    if fault.refusal.word == "Unsupported":
-        return f"Unsupported {fault.refusal.rest}"
-    return fault.refusal.word
 
 
 def plural(count, word):
@@ -104,10 +95,9 @@ def unit_value(one):
 
 def fault_value(fault):
     """Returns the JSON object of something that was not analysed."""
-    value = {"text": fault.text, "reason": fault.reason, "source": fault.line}
+    value = {"text": fault.text, "reason": fault.reason, "source": fault.line, "word": fault.word}
     if fault.refusal:
-        value.update(file=fault.refusal.file, line=fault.refusal.line, column=fault.refusal.column,
-                     word=fault.refusal.word, rest=fault.refusal.rest)
+        value.update(file=fault.refusal.file, line=fault.refusal.line, column=fault.refusal.column)
     return value
 
 

@@ -61,7 +61,7 @@ def edit_definition(piece, edits):
     told = None
     if found.old_style_names():
         new = new_parameters(piece)
-        if new is None:
+        if new is None or not edits.allowed(found.opening.end, piece.body[0].start):
             return None
         edits.replace(found.opening.end, found.closing.start, new)
         if found.after:
@@ -71,6 +71,48 @@ def edit_definition(piece, edits):
         edits.insert(found.name.start, "int ")
         told = told or f"the definition of {found.name.text} has no type and is read as int"
     return told
+
+
+def implicit_declarations(pieces, edits, declared_names, parameters):
+    """Declares functions of type int that are called before their definition. Returns sentences with their pieces."""
+    told, seen = [], {}
+    for index, piece in enumerate(pieces):
+        for one, after in zip(piece.body or [], (piece.body or [])[1:]):
+            if one.kind == "name" and after.text == "(":
+                seen.setdefault(one.text, index)
+    for index, piece in enumerate(pieces):
+        found = declarator_of(piece.head) if piece.body is not None and not piece.mixed else None
+        name = found.name.text if found else ""
+        if name not in parameters or name in declared_names or seen.get(name, index) >= index or not is_int(found):
+            continue
+        first = pieces[seen[name]].head
+        if first:
+            edits.insert(first[0].start, f"int {name}({parameters[name] or 'void'}); ")
+            told.append((first[0], f"{name} is called before its definition and is read as declared here with the "
+                                   f"parameters ({parameters[name] or 'void'})"))
+    return told
+
+
+def edit_objects(piece, edits):
+    """Gives declarations of objects without a type, such as `static count;`, the type int. Returns sentences."""
+    told = []
+    tokens = piece.head if piece.body is None else piece.body
+    starts = [0] if piece.body is None else [at + 1 for at, one in enumerate(tokens) if one.text in ("{", "}", ";")]
+    for start in starts:
+        at = start
+        while at < len(tokens) and tokens[at].text in ("static", "extern", "register", "auto", "const"):
+            at += 1
+        after = tokens[at + 1].text if at + 1 < len(tokens) else ""
+        if at > start and tokens[at].kind == "name" and tokens[at].text not in KEYWORDS and after in ("=", ";", ",", "["):
+            edits.insert(tokens[at].start, "int ")
+            told.append((tokens[at], f"the declaration of {tokens[at].text} has no type and is read as int"))
+    return told
+
+
+def is_int(found):
+    """Says whether a function has the type int, in words or without them, and external linkage."""
+    words = [one.text for one in found.spec]
+    return not found.stars and all(it in ("int", "extern") for it in words)
 
 
 def edit_declaration(piece, edits, parameters):
@@ -83,6 +125,7 @@ def edit_declaration(piece, edits, parameters):
         for index, one in enumerate(part[:-2]):
             new = parameters.get(one.text)
             if new and new != "void" and part[index + 1].text == "(" and part[index + 2].text == ")":
-                edits.replace(part[index + 1].end, part[index + 2].start, new)
+                if not edits.replace(part[index + 1].end, part[index + 2].start, new):
+                    continue
                 told.append(f"the old-style declaration of {one.text} is read with the parameters ({new})")
     return told

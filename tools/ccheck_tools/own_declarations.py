@@ -1,5 +1,5 @@
 """Own declarations of library functions, which ccheck refuses, taken out of a file's text."""
-from ccheck_tools.c_pieces import QUALIFIERS, STORAGE_WORDS, TYPE_WORDS, declarator_of, split_at
+from ccheck_tools.c_pieces import KEYWORDS, QUALIFIERS, STORAGE_WORDS, TYPE_WORDS, declarator_of, split_at
 
 BEFORE = ("{", "}", ";")
 
@@ -35,10 +35,19 @@ def edit_declarators(tokens, edits, names):
     if not taken:
         return []
     if len(taken) == len(parts):
-        edits.blank(tokens[0].start, tokens[-1].end)
+        done = edits.blank(first_word(tokens, edits.text).start, tokens[-1].end)
     else:
-        blank_parts(parts, found, edits, names)
-    return taken
+        done = edits.allowed(tokens[0].start, tokens[-1].end) and blank_parts(parts, found, edits, names)
+    return taken if done else []
+
+
+def first_word(tokens, text):
+    """Returns the token at which a declaration begins: a name on a line of its own before it may be a macro."""
+    at = 0
+    while (tokens[at].kind == "name" and tokens[at].text not in KEYWORDS and at + 2 < len(tokens)
+           and tokens[at + 1].kind == "name" and "\n" in text[tokens[at].end:tokens[at + 1].start]):
+        at += 1
+    return tokens[at]
 
 
 def function_name(part, first):
@@ -64,6 +73,7 @@ def blank_parts(parts, found, edits, names):
             edits.blank(parts[index - 1][-1].end, part[-1].end)
         else:
             edits.blank(start, parts[index + 1][0].start)
+    return True
 
 
 def first_declarator(part, name):

@@ -56,6 +56,9 @@ def explained(analysis, refusal):
     """Returns the sentence on a refusal. Its place is one of ccheck's report."""
     source, line, column = analysis.place(refusal)
     tokens = tokens_from(source, line, column) if source else []
+    if source is None and refusal.word in ("TypeFault", "PointerInteger"):
+        return ("ccheck-cc could not make a call or a stand-in, since a type is incomplete here or does not fit; "
+                "write an entry of your own and name it by --entry")
     if refusal.word == "Unsupported":
         return unsupported(analysis, refusal.rest)
     if refusal.word == "Syntax":

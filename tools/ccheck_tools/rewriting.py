@@ -3,6 +3,7 @@ import dataclasses
 import os
 
 from ccheck_tools import old_style, own_declarations
+from ccheck_tools.c_pieces import declarator_of
 from ccheck_tools.c_tokens import Lines
 
 
@@ -24,9 +25,14 @@ def rewrite(sources, facts, library):
     parameters = facts.parameters()
     for source in sources.files.values():
         lines = Lines(source.text)
+        implicit = old_style.implicit_declarations(source.pieces, source.edits, facts.declarations, parameters)
+        told += [Assumption(it, source.shown, lines.place(one.start)[0]) for one, it in implicit]
         for piece in source.pieces:
             line = lines.place(piece.head[0].start if piece.head else 0)[0]
             told += [Assumption(it, source.shown, line) for it in edit_piece(piece, source.edits, parameters, library)]
+            told += [Assumption(it, source.shown, lines.place(one.start)[0])
+                     for one, it in old_style.edit_objects(piece, source.edits)]
+            told += name_functions(source, piece, lines)
         told += number_lines(source, lines)
         source.finish()
     return told
@@ -48,11 +54,22 @@ def number_lines(source, lines):
     """Puts the number of the line in place of __LINE__, and a literal in place of __FILE__, outside of directives."""
     told = []
     for one in source.tokens:
-        if one.kind != "name" or one.text not in ("__LINE__", "__FILE__"):
+        if one.text not in ("__LINE__", "__FILE__"):
             continue
         line = lines.place(one.start)[0]
         source.edits.replace(one.start, one.end, f"{line:8}" if one.text == "__LINE__" else literal(source.shown))
         told.append(Assumption(f"{one.text} is read as its value", source.shown, line))
+    return told
+
+
+def name_functions(source, piece, lines):
+    """Puts a literal with the function's name in place of __func__ and of its second names in GNU C."""
+    told = []
+    found = declarator_of(piece.head) if piece.body is not None else None
+    for one in piece.body or []:
+        if found and one.text in ("__func__", "__FUNCTION__", "__PRETTY_FUNCTION__"):
+            source.edits.replace(one.start, one.end, f'"{found.name.text}"')
+            told.append(Assumption(f"{one.text} is read as a literal", source.shown, lines.place(one.start)[0]))
     return told
 
 

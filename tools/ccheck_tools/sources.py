@@ -7,6 +7,7 @@ from ccheck_tools.c_tokens import directive_parts, line_tokens, tokens_of
 from ccheck_tools.edits import Edits
 
 INCLUDE = re.compile(r'"([^"\n]+)"|<([^>\n]+)>')
+MACRO = re.compile(r"[A-Za-z_]\w*")
 SYSTEM_FOLDERS = ("/usr/include", "/usr/local/include", "/usr/lib/gcc", "/usr/lib/clang")
 
 
@@ -43,6 +44,11 @@ class Source:
         """Returns the names and rests of the directives."""
         return [directive_parts(one) for one in self.tokens if one.kind == "directive"]
 
+    def macros(self):
+        """Returns the names that the file defines as macros."""
+        found = (MACRO.match(rest) for name, rest in self.directives() if name == "define")
+        return {it[0] for it in found if it}
+
     def words(self):
         """Returns all names of the file, those in directives included, with repetition."""
         for one in self.tokens:
@@ -72,7 +78,7 @@ class Sources:
 
     def __init__(self, compilation, stubs):
         self.compilation, self.stubs = compilation, stubs
-        self.files, self.unread, self.left_out = {}, {}, []
+        self.files, self.stub_files, self.unread, self.left_out = {}, {}, {}, []
         self.searched = self.search_list()
         whole = self.absolute(compilation.source)
         shown = compilation.source if compilation.folder == "." else shown_name(whole)
@@ -115,12 +121,20 @@ class Sources:
             one = queue.pop()
             for name, quoted in one.includes():
                 path = self.find(one, name, quoted)
-                if path is None or path in self.files or self.is_stub(path):
+                if path is None or path in self.files or path in self.stub_files:
+                    continue
+                if self.is_stub(path):
+                    self.stub_files[path] = Source(path, path)
+                    queue.append(self.stub_files[path])
                     continue
                 try:
                     queue.append(self.add(path, shown_name(path)))
                 except UnitFault as fault:
                     self.unread[path] = str(fault)
+
+    def all_files(self):
+        """Returns the files of the user and the stub headers that they include."""
+        return [*self.files.values(), *self.stub_files.values()]
 
     def find(self, one, name, quoted):
         """Returns the file that an inclusion finds, None where there is none."""

@@ -1,0 +1,20 @@
+/* strspn for ccheck. */
+#ifndef CCHECK_FUNCTION_strspn
+#define CCHECK_FUNCTION_strspn
+#include "size.h"
+
+CCHECK_SIZE strspn(const char *s, const char *set)
+{
+    const unsigned char *x = (const unsigned char *)s;
+    const unsigned char *y = (const unsigned char *)set;
+    CCHECK_SIZE n = strlen(s), m = strlen(set), i, k;
+    for (i = 0; i < n; i++) {
+        for (k = 0; k < m; k++)
+            if (x[i] == y[k])
+                break;
+        if (k == m)
+            return i;
+    }
+    return n;
+}
+#endif

@@ -1,0 +1,9 @@
+/* toascii for ccheck. */
+#ifndef CCHECK_FUNCTION_toascii
+#define CCHECK_FUNCTION_toascii
+
+int toascii(int c)
+{
+    return c & 127;
+}
+#endif

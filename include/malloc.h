@@ -1,0 +1,2 @@
+/* malloc.h for ccheck. */
+#include <stdlib.h>

@@ -1,0 +1,1 @@
+/* math.h for ccheck: nothing. Floating types are not accepted. */

@@ -1,0 +1,2 @@
+/* memory.h for ccheck. */
+#include <string.h>
