@@ -12,7 +12,7 @@
 PREFIX = /usr/local
 PROGRAM = crates/ccheck_main/out/ccheck_main
 TOOLS = ccheck-cc ccheck-show ccheck-html ccheck-baseline ccheck-draws show-me
-PAGES = $(wildcard README.md CHANGELOG.md docs/*.md docs/*.svg)
+PAGES = $(wildcard README.md CHANGELOG.md CONTRIBUTING.md LICENSE)
 CASES = tools/tests/cases
 SHARE = $(DESTDIR)$(PREFIX)/share
 
@@ -53,7 +53,8 @@ install: $(PROGRAM)
 	ln -sf ../../../bin/ccheck $(SHARE)/ccheck/tools/ccheck
 	for tool in $(TOOLS); do ln -sf ../share/ccheck/tools/$$tool $(DESTDIR)$(PREFIX)/bin/$$tool; done
 	cp -R include/. $(SHARE)/ccheck/include
-	install -m 644 LICENSE $(PAGES) $(SHARE)/doc/ccheck
+	install -m 644 $(PAGES) $(SHARE)/doc/ccheck
+	cp -R docs $(SHARE)/doc/ccheck
 	cp -R examples/. $(SHARE)/doc/ccheck/examples
 	install -d $(SHARE)/man/man1
 	install -m 644 man/*.1 $(SHARE)/man/man1

@@ -4,7 +4,7 @@ import re
 
 from ccheck_tools import reports
 
-PLACES = (("docs",), ("..", "doc", "ccheck"))
+PLACES = (("docs",), ("..", "doc", "ccheck", "docs"))
 
 
 class PageMissing(Exception):
@@ -12,7 +12,7 @@ class PageMissing(Exception):
 
 
 def find_page(name):
-    """Returns the path of a page: in docs/ of the tree, or in share/doc/ccheck next to share/ccheck."""
+    """Returns the path of a page: in docs/ of the tree, or in share/doc next to share/ccheck."""
     tree = os.path.dirname(reports.TOOLS)
     paths = [os.path.normpath(os.path.join(tree, *place, name)) for place in PLACES]
     for path in paths:
