@@ -96,7 +96,7 @@ def results_of(value):
 
 def text_of(value):
     """Returns a baseline as text: over many lines, or on one where that would be too long for `gate`."""
-    text = json.dumps(value, indent=1, sort_keys=True) + "\n"
+    text = json.dumps(value, indent=2, sort_keys=True) + "\n"
     if len(text) > MOST:
         text = json.dumps(value, sort_keys=True, separators=(",", ":")) + "\n"
     if len(text) > MOST:

@@ -10,9 +10,14 @@ def anchor_of(heading):
 
 def inline(text):
     """Returns a piece of a paragraph as HTML."""
-    parts = re.split(r"(`[^`]+`)", text)
-    return "".join(f"<code>{html.escape(it[1:-1])}</code>" if it.startswith("`") and len(it) > 2 else marked(it)
-                   for it in parts)
+    codes = []
+
+    def kept(match):
+        codes.append(f"<code>{html.escape(match[1])}</code>")
+        return f"\0{len(codes) - 1}\0"
+
+    made = marked(re.sub(r"`([^`]+)`", kept, text))
+    return re.sub("\0(\\d+)\0", lambda match: codes[int(match[1])], made)
 
 
 def marked(text):

@@ -4,6 +4,7 @@ import json
 import os
 import shutil
 
+from ccheck_tools import markdown
 from tooling import EXAMPLES, ToolTest, needs
 
 VOID = {"meta", "br", "link", "img", "hr"}
@@ -114,3 +115,18 @@ class Pages(ToolTest):
             data = file.read()
         self.assertEqual(data[:8], b"\x89PNG\r\n\x1a\n")
         self.assertGreater(len(data), 20000)
+
+
+class Markdown(ToolTest):
+    """What the pages of docs/ use."""
+
+    def test_pieces(self):
+        for text, wanted in (("**`--turns K`**: a", "<p><b><code>--turns K</code></b>: a</p>"),
+                             ("a *may* `*p` < `q*`", "<p>a <i>may</i> <code>*p</code> &lt; <code>q*</code></p>"),
+                             ("- one\n  more\n- two", "<ul><li>one\n  more</li><li>two</li></ul>"),
+                             ("## The `run`", '<h2 id="the-run">The <code>run</code></h2>'),
+                             ("[x](#y) [z](other.md#y)", '<p><a href="#y">x</a> z</p>'),
+                             ("```c bad\na < b\n```", "<pre>a &lt; b</pre>"),
+                             ("| a | b |\n|---|---|\n| `c` | d |",
+                              "<table><tr><td>a</td><td>b</td></tr><tr><td><code>c</code></td><td>d</td></tr></table>")):
+            self.assertEqual(markdown.as_html(text), wanted)
