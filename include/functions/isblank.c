@@ -1,9 +1,10 @@
-/* isblank for ccheck. */
+/* isblank for ccheck; isalpha looks at the range of its argument. */
 #ifndef CCHECK_FUNCTION_isblank
 #define CCHECK_FUNCTION_isblank
 
 int isblank(int c)
 {
-    return c == ' ' || c == '\t' || isalpha(c) > 1;
+    isalpha(c);
+    return c == ' ' || c == '\t';
 }
 #endif

@@ -1,4 +1,4 @@
-"""The analysis of one unit: its including unit is written, ccheck is run from each entry, and places are mapped back."""
+"""The analysis of one unit: an including unit is written, ccheck runs from each entry, and places are mapped back."""
 import dataclasses
 import os
 import re
@@ -10,7 +10,7 @@ from ccheck_tools.command_line import CommandFault
 from ccheck_tools.entries import ENTRY, Entry, entries_of, library_entries
 from ccheck_tools.facts import Facts
 from ccheck_tools.including_unit import UNIT, Including, copy_name, write_file
-from ccheck_tools.library import BUILT_IN, stub_folder, stub_functions
+from ccheck_tools.library import BUILT_IN, BUILT_IN_HEADERS, stub_folder, stub_functions
 from ccheck_tools.predefined import model_of
 from ccheck_tools.refusal_words import explained
 from ccheck_tools.rewriting import Assumption, rewrite
@@ -102,6 +102,8 @@ class Analysis:
         for path, source in self.sources.stub_files.items():
             found = ASSUMES.search(source.text)
             name = os.path.relpath(path, self.sources.stubs)
+            if name in BUILT_IN_HEADERS:
+                continue
             told.append(Assumption(f"<{name}> is the stub of ccheck" + (f": {found[1]}" if found else "")))
         return told
 
@@ -112,8 +114,8 @@ class Analysis:
         known |= {text.partition("=")[0] for _, text in self.compilation.macros}
         unknown = sorted(it for it in self.facts.conditions if it not in known)
         for name in unknown:
-            found.append(f"a condition in {self.facts.conditions[name]} depends on {name}, which is not defined here; "
-                         "give -D or -U to say what your compiler has")
+            found.append(f"a condition in {self.facts.conditions[name]} depends on {name}, which is not defined here "
+                         "(-D or -U settles it)")
         return found
 
     def call(self, verb, entry):

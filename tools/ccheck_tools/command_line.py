@@ -3,12 +3,13 @@ import dataclasses
 import os
 import shlex
 
-WITH_VALUE = {"-o", "-MF", "-MT", "-MQ", "-x", "-L", "-l", "-u", "-z", "-T", "-Xlinker", "-Xassembler", "-Xpreprocessor",
-              "-arch", "--param", "-isysroot", "--sysroot", "-target", "-aux-info", "-dumpbase", "-G", "-B"}
+WITH_VALUE = {"-o", "-MF", "-MT", "-MQ", "-x", "-L", "-l", "-u", "-z", "-T", "-Xlinker", "-Xassembler",
+              "-Xpreprocessor", "-arch", "--param", "-isysroot", "--sysroot", "-target", "-dumpbase", "-G", "-B"}
+KINDS = ("quoted", "plain", "system", "after")
 DIRECTORIES = {"-iquote": "quoted", "-I": "plain", "-isystem": "system", "-idirafter": "after"}
 WITHOUT_MEANING = ("-W", "-O", "-g", "-M", "-pipe", "-c", "-S", "-E", "-o", "-L", "-l", "-s", "-v", "-w", "-pedantic",
-                   "-ansi", "-static", "-shared", "-rdynamic", "-pthread", "-nostdinc", "-no-pie", "-pie", "-m64", "-fPI",
-                   "-fpi", "-fdiagnostics", "-fcolor", "-fstack-protector", "-ffile-prefix-map", "-fdebug-prefix-map",
+                   "-ansi", "-static", "-shared", "-rdynamic", "-pthread", "-nostdinc", "-no-pie", "-pie", "-m64",
+                   "-fPI", "-fpi", "-fdiagnostics", "-fcolor", "-fstack-protector", "-ffile-prefix", "-fdebug-prefix",
                    "-fvisibility", "-ffunction-sections", "-fdata-sections", "-P", "-H")
 LINKED = (".o", ".a", ".so", ".lo", ".la", ".ld")
 STANDARDS = {"89": "", "90": "", "iso9899:1990": "", "iso9899:199409": "199409L", "99": "199901L", "9x": "199901L",
@@ -25,7 +26,7 @@ class Compilation:
     """How one unit is compiled."""
     source: str
     folder: str = "."
-    directories: dict = dataclasses.field(default_factory=lambda: {"quoted": [], "plain": [], "system": [], "after": []})
+    directories: dict = dataclasses.field(default_factory=lambda: {kind: [] for kind in KINDS})
     macros: list = dataclasses.field(default_factory=list)      # ("D", "NAME=TEXT") or ("U", "NAME"), in order
     forced: list = dataclasses.field(default_factory=list)      # files of -include
     model: str = "lp64"
@@ -35,7 +36,7 @@ class Compilation:
 
     def searched(self):
         """Returns the directories in which headers are looked for, in order."""
-        return [it for kind in ("quoted", "plain", "system", "after") for it in self.directories[kind]]
+        return [it for kind in KINDS for it in self.directories[kind]]
 
 
 class Reader:

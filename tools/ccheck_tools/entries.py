@@ -160,7 +160,7 @@ def objects_entry(name, parameters, kinds, types, options):
     lines = [*outside, f"void {ENTRY}({', '.join(taken) or 'void'})", "{", *inside,
              f"    {name}({', '.join(arguments)});", "}"]
     return Entry(ENTRY, name, lines, [Assumption(
-        f"runs start at {name}, with any numbers and with pointers to fresh objects ({options.objects} elements, "
+        f"runs start at {name}, with any numbers and with pointers to fresh objects ({plural(options.objects)}, "
         f"strings of at most {options.argument_length} characters; pointers in them are null)")], function=name)
 
 
@@ -168,16 +168,32 @@ def object_lines(number, pointed, types, options):
     """Returns lines at file scope and in the entry that make objects filled from input; None where none can be."""
     own, kind = f"ccheck_{number}", types.kind(*pointed)
     if kind == "void" or is_char(pointed):
-        element = "char" if kind == "void" else text_of(it for it in pointed[0] if it.text not in QUALIFIERS)
+        element = "char" if kind == "void" else type_text(pointed[0])
         size = options.argument_length + 1
         return [f"static {element} {own}[{size}];"], [f"    fgets((char *){own}, {size}, 0);"]
     if kind not in ("integer", "struct") or any(it.text == "*" for it in pointed[1]):
         return None
-    element = text_of(it for it in pointed[0] if it.text not in QUALIFIERS | STORAGE_WORDS)
+    element = type_text(pointed[0])
+    if element is None:
+        return None
     declaration = f"static struct {{ {element} value[{options.objects}]; char room[8]; }} {own};"
     return [declaration], [f"    fgets((char *)&{own}, sizeof({own}.value) + 1, 0);"]
+
+
+def type_text(spec):
+    """Returns specifiers as the name of a type, without a struct's members; None for a struct without a tag."""
+    words = [it for it in spec if it.text not in QUALIFIERS | STORAGE_WORDS]
+    at = next((index for index, one in enumerate(words) if one.text == "{"), None)
+    if at is None:
+        return text_of(words)
+    return text_of(words[:at]) if at == 2 else None
 
 
 def is_char(pointed):
     """Says whether a pointer is one to characters."""
     return any(it.text == "char" for it in pointed[0]) and not any(it.text == "*" for it in pointed[1])
+
+
+def plural(number):
+    """Returns a number of elements in words."""
+    return "1 element" if number == 1 else f"{number} elements"

@@ -103,7 +103,8 @@ def edit_objects(piece, edits):
         while at < len(tokens) and tokens[at].text in ("static", "extern", "register", "auto", "const"):
             at += 1
         after = tokens[at + 1].text if at + 1 < len(tokens) else ""
-        if at > start and tokens[at].kind == "name" and tokens[at].text not in KEYWORDS and after in ("=", ";", ",", "["):
+        is_name = at > start and tokens[at].kind == "name" and tokens[at].text not in KEYWORDS
+        if is_name and after in ("=", ";", ",", "["):
             edits.insert(tokens[at].start, "int ")
             told.append((tokens[at], f"the declaration of {tokens[at].text} has no type and is read as int"))
     return told

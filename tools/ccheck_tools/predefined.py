@@ -78,11 +78,16 @@ def greatest(model, size, signed):
     return f"{number:#x}{unsigned}{suffix_of(model, words)}"
 
 
+def most(size):
+    """Returns the greatest number of a signed type of a size."""
+    return f"{2 ** (8 * size - 1) - 1:#x}"
+
+
 def data_macros(model):
     """Returns the predefined macros that follow from the data model, by name."""
-    found = {"__CHAR_BIT__": "8", "__SCHAR_MAX__": "0x7f", "__SHRT_MAX__": f"{2 ** (8 * model.short - 1) - 1:#x}",
-             "__INT_MAX__": f"{2 ** (8 * model.int - 1) - 1:#x}", "__LONG_MAX__": f"{2 ** (8 * model.long - 1) - 1:#x}L",
-             "__LONG_LONG_MAX__": f"{2 ** (8 * model.long_long - 1) - 1:#x}LL",
+    found = {"__CHAR_BIT__": "8", "__SCHAR_MAX__": "0x7f", "__SHRT_MAX__": most(model.short),
+             "__INT_MAX__": most(model.int), "__LONG_MAX__": f"{most(model.long)}L",
+             "__LONG_LONG_MAX__": f"{most(model.long_long)}LL",
              "__SCHAR_WIDTH__": "8", "__SHRT_WIDTH__": str(8 * model.short), "__INT_WIDTH__": str(8 * model.int),
              "__LONG_WIDTH__": str(8 * model.long), "__LONG_LONG_WIDTH__": str(8 * model.long_long)}
     for name, size in (("SHORT", model.short), ("INT", model.int), ("LONG", model.long), ("LONG_LONG", model.long_long),

@@ -48,8 +48,8 @@ UNSUPPORTED = {
     "_Thread_local": "thread-local objects are not accepted",
 }
 VARIADIC = frozenset(
-    "fprintf sprintf snprintf vprintf vfprintf vsprintf vsnprintf scanf fscanf sscanf open fcntl ioctl execl execlp syslog "
-    "err errx warn warnx dprintf asprintf va_start va_arg va_end va_copy".split())
+    "fprintf sprintf snprintf vprintf vfprintf vsprintf vsnprintf scanf fscanf sscanf open fcntl ioctl execl execlp "
+    "syslog err errx warn warnx dprintf asprintf va_start va_arg va_end va_copy".split())
 
 
 def explained(analysis, refusal):
@@ -127,12 +127,13 @@ def syntax(source, tokens):
 
 
 def piece_end(tokens):
-    """Returns how many tokens the first piece has."""
-    depth = 0
+    """Returns how many tokens the first piece has: it ends at a `;`, or at the `}` of a function's body."""
+    depth, body = 0, False
     for index, one in enumerate(tokens):
+        if one.text == "{" and depth == 0:
+            body = index > 0 and tokens[index - 1].text == ")"
         depth += (one.text == "{") - (one.text == "}")
-        if depth <= 0 and (one.text == ";" or one.text == "}" and tokens[index + 1:index + 2] and
-                           tokens[index + 1].text not in (";", ",", ")")):
+        if depth <= 0 and (one.text == ";" or one.text == "}" and body):
             return index + 1
     return len(tokens)
 
@@ -210,8 +211,8 @@ def compound_literal(tokens, at):
         if depth == 0:
             inside = tokens[index + 1:at]
             before = tokens[index - 1].text if index else ""
-            kinds = inside and all(it.kind == "name" or it.text in ("*", "[", "]") or it.kind == "number" for it in inside)
-            return bool(kinds) and before in ("=", "(", ",", "return", "&", "*", "{")
+            typed = inside and all(it.kind in ("name", "number") or it.text in ("*", "[", "]") for it in inside)
+            return bool(typed) and before in ("=", "(", ",", "return", "&", "*", "{")
     return False
 
 

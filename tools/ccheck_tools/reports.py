@@ -111,7 +111,8 @@ def find_program(environment=None):
     if environment.get("CCHECK"):
         return environment["CCHECK"]
     tree = os.path.dirname(TOOLS)
-    for path in (os.path.join(TOOLS, "ccheck"), os.path.join(tree, "bin", "ccheck")):
+    prefix = os.path.dirname(os.path.dirname(tree)) if os.path.basename(os.path.dirname(tree)) == "share" else tree
+    for path in (os.path.join(TOOLS, "ccheck"), os.path.join(prefix, "bin", "ccheck")):
         if os.path.isfile(path) and os.access(path, os.X_OK):
             return path
     found = shutil.which("ccheck", path=environment.get("PATH"))

@@ -1,6 +1,7 @@
 """Stand-ins: functions that a unit declares and calls but does not define get a body that returns input."""
 from ccheck_tools.c_pieces import STORAGE_WORDS, text_of
 from ccheck_tools.c_types import declared_name, parameters_of, result_of
+from ccheck_tools.entries import type_text
 from ccheck_tools.library import BUILT_IN
 from ccheck_tools.rewriting import Assumption
 
@@ -39,8 +40,10 @@ def stand_in(found, types, objects):
     pointed = types.pointed(spec, stars)
     if not objects or pointed is None or types.kind(*pointed) not in ("integer", "struct"):
         return None, f"{name} has no definition and returns a pointer"
-    element = f"{text_of(pointed[0])} {text_of(pointed[1])}"
-    lines = [f"{head} {{ return getchar() < 0 ? 0 : calloc({objects}, sizeof({element.strip()})); }}"]
+    element = type_text(pointed[0])
+    if element is None or pointed[1]:
+        return None, f"{name} has no definition and returns a pointer"
+    lines = [f"{head} {{ return getchar() < 0 ? 0 : calloc({objects}, sizeof({element})); }}"]
     return lines, f"{told} returns null or {objects} fresh zero objects"
 
 

@@ -9,6 +9,8 @@ from driver_helpers import BAD, GOOD, DriverTest
 from ccheck_tools.command_line import CommandFault, read_command
 from ccheck_tools.predefined import data_macros, language_macros, model_of
 
+QUICK = True
+
 
 class CommandLine(unittest.TestCase):
     """Words of a compiler's command line."""
@@ -104,7 +106,8 @@ class Database(DriverTest):
 
     def test_unknown_options_are_told(self):
         self.write("good.c", GOOD)
-        self.assertIn("note: good.c: options that are not looked at: -fwrapv\n", self.run_driver("-fwrapv", "good.c")[1])
+        output = self.run_driver("-fwrapv", "good.c")[1]
+        self.assertIn("note: good.c: options that are not looked at: -fwrapv\n", output)
 
 
 @unittest.skipUnless(shutil.which("gcc"), "gcc is not here")

@@ -6,6 +6,8 @@ from ccheck_tools.c_pieces import declarator_of, pieces_of, text_of
 from ccheck_tools.c_tokens import Lines, tokens_of
 from ccheck_tools.edits import Edits
 
+QUICK = True
+
 
 class Tokens(unittest.TestCase):
     """The lexer."""

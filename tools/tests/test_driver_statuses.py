@@ -6,6 +6,8 @@ import unittest
 
 from driver_helpers import BAD, GOOD, UNION, DriverTest
 
+QUICK = True
+
 
 class Statuses(DriverTest):
     """The exit status, and what is printed with it."""
