@@ -66,7 +66,8 @@ class Zsh(ToolTest):
         for line, wanted in (("ccheck ver", "verify"), ("ccheck-show explain swt", "swtchdflt"),
                              ("ccheck-baseline shr", "shrink")):
             script = ASK_ZSH.format(root=ROOT, folder=self.folder, line=line)
-            self.assertIn(wanted, self.call("timeout", "20", "zsh", "-f", "-c", script)[1], line)
+            text = self.call("timeout", "20", "zsh", "-f", "-c", script)[1]
+            self.assertIn(wanted, re.sub(r"\x1b\[[\d;?]*[A-Za-z]|[\x00-\x1f]", "", text), line)
 
     def test_the_file_parses(self):
         needs("zsh")

@@ -4,6 +4,7 @@ import os
 import re
 import shutil
 import subprocess
+import tempfile
 
 from tooling import ROOT, ToolTest, needs
 
@@ -14,6 +15,8 @@ FOUND = "a.c:1:38: diverr: division is undefined\n1 diagnostics in a.c\n"
 
 class Packages(ToolTest):
     """What `make install` and `make dist` make."""
+
+    packed = None
 
     def setUp(self):
         super().setUp()
@@ -27,11 +30,15 @@ class Packages(ToolTest):
         status, text, why = self.call("make", "-s", *words, f"PROGRAM={self.program}", folder=ROOT)
         self.assertEqual(status, 0, text + why)
 
-    def dist(self):
-        """Packs; returns the folder with the packages."""
-        status, text, why = self.call(f"{ROOT}/packaging/make-dist", self.program, f"{self.folder}/dist")
-        self.assertEqual(status, 0, text + why)
-        return f"{self.folder}/dist"
+    def dist(self, is_new=False):
+        """Packs, or takes what another test has packed; returns the folder with the packages."""
+        if is_new or not Packages.packed:
+            room = tempfile.TemporaryDirectory(prefix="ccheck-dist-")
+            self.addClassCleanup(room.cleanup)
+            status, text, why = self.call(f"{ROOT}/packaging/make-dist", self.program, room.name)
+            self.assertEqual(status, 0, text + why)
+            Packages.packed = room.name
+        return Packages.packed
 
     def runs_from(self, top):
         """Runs the program and each tool of an installation."""
@@ -62,11 +69,12 @@ class Packages(ToolTest):
 
     def test_tarball(self):
         needs("tar")
-        path, = glob.glob(f"{self.dist()}/*.tar.gz")
+        dist = self.dist()
+        path, = glob.glob(f"{dist}/*.tar.gz")
         self.assertEqual(self.call("tar", "xf", path)[0], 0)
         top, = glob.glob(f"{self.folder}/ccheck-*")
         self.runs_from(top)
-        status, text, _ = self.call("sha256sum", "-c", "SHA256SUMS", folder=f"{self.folder}/dist")
+        status, text, _ = self.call("sha256sum", "-c", "SHA256SUMS", folder=dist)
         self.assertEqual(status, 0, text)
 
     def test_the_package_in_an_empty_root(self):
@@ -93,8 +101,8 @@ class Packages(ToolTest):
     def test_the_same_commit_gives_the_same_packages(self):
         needs("dpkg-deb")
         sums = []
-        for _ in range(2):
-            with open(f"{self.dist()}/SHA256SUMS", encoding="ascii") as file:
+        for is_new in (False, True):
+            with open(f"{self.dist(is_new)}/SHA256SUMS", encoding="ascii") as file:
                 sums.append(file.read())
         self.assertEqual(sums[0], sums[1])
 
