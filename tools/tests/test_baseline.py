@@ -97,6 +97,16 @@ class Baselines(ToolTest):
             with open(f"{self.folder}/c.json", encoding="utf-8") as file, open(f"{self.folder}/b.json") as other:
                 self.assertEqual(file.read(), other.read())
 
+    def test_reports_of_the_driver(self):
+        for name in ("json", "sarif"):
+            report = self.tool("ccheck-cc", "a.c", "--format", name)[1].encode()
+            self.assertEqual(self.tool("ccheck-baseline", "make", "c.json", "--report", "-", data=report)[0], 0)
+            self.assertEqual(self.ccheck("gate", "a.c", "--base", "c.json")[0], 0)
+            report = self.tool("ccheck-cc", "a.c", "missing.c", "--format", name)[1].encode()
+            status, _, why = self.tool("ccheck-baseline", "make", "d.json", "--report", "-", data=report)
+            self.assertEqual(status, 2)
+            self.assertIn("missing.c: not analysed", why)
+
     def test_files_that_are_no_baselines(self):
         for text in ("", "{}", "[]", '{"version":"2.1.0"}', '{"version":"2.1.0","runs":3}'):
             self.file("bad.json", text)

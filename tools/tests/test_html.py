@@ -1,6 +1,5 @@
 """ccheck-html: the pages, their links, and what a browser makes of them."""
 import html.parser
-import json
 import os
 import shutil
 
@@ -85,11 +84,16 @@ class Pages(ToolTest):
             status, found = self.pages("--report", "report")
             self.assertEqual(status, 0)
             self.assertIn("division is undefined", "".join(found["a.c.html"].words))
-        units = [{"unit": "b.c", "accepted": False, "not_analysed": [{"text": "b.c:1:1: refused: NoEntry"}]}]
-        self.file("report", json.dumps({"diagnostics": [], "unit": "", "units": units}))
-        status, found = self.pages("--report", "report")
-        self.assertEqual(status, 2)
-        self.assertIn("refused: NoEntry", "".join(found["index.html"].words))
+        self.file("b.c", "union u { int i; };\nint main(void) { return 0; }\n")
+        self.file("c.c", "int main(void) { return 0; }\n")
+        for name in ("json", "sarif"):
+            self.file("report", self.tool("ccheck-cc", "a.c", "b.c", "c.c", "missing.c", "--format", name)[1])
+            status, found = self.pages("--report", "report")
+            self.assertEqual(status, 2)
+            text = "".join(found["index.html"].words)
+            self.assertIn("refused: Unsupported union", text)
+            self.assertIn("missing.c could not be read", text)
+            self.assertEqual("c.c.html" in found, name == "json")
 
     def test_the_page_on_the_rules_has_each_of_them(self):
         self.file("a.c", "int main(void) { return 0; }\n")

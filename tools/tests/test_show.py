@@ -57,6 +57,14 @@ class Shows(ToolTest):
                              ("ccheck: words refused\n", 3), ("nothing of ccheck\n", 2)):
             self.assertEqual(self.tool("ccheck-show", data=text.encode())[0], wanted, text)
 
+    def test_units_that_the_driver_did_not_analyse_are_named(self):
+        self.file("a.c", "int main(void) { return 0; }\n")
+        for name in ("json", "sarif"):
+            report = self.tool("ccheck-cc", "a.c", "missing.c", "--format", name)[1]
+            status, _, why = self.tool("ccheck-show", data=report.encode())
+            self.assertEqual(status, 2)
+            self.assertIn("not analysed: missing.c", why)
+
     def test_the_end_of_a_replay_is_explained(self):
         status, text, _ = self.tool("ccheck-show", "replay", "average.c", folder=EXAMPLES)
         self.assertEqual(status, 0)
