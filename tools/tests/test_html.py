@@ -93,7 +93,7 @@ class Pages(ToolTest):
             text = "".join(found["index.html"].words)
             self.assertIn("refused: Unsupported union", text)
             self.assertIn("missing.c could not be read", text)
-            self.assertEqual("c.c.html" in found, name == "json")
+            self.assertIn("c.c.html", found)
 
     def test_the_page_on_the_rules_has_each_of_them(self):
         self.file("a.c", "int main(void) { return 0; }\n")
