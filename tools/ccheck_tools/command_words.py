@@ -67,6 +67,6 @@ def value_faults(option, value):
         return [f"{option} is one of {', '.join(CHOICES[option])}, not {value}"]
     if option in RANGES:
         low, high = RANGES[option]
-        if not value.isdecimal() or not low <= int(value) <= high:
-            return [f"{option} is a number from {low} to {high}, not {value}"]
+        if not value.isdecimal() or value != str(int(value)) or not low <= int(value) <= high:
+            return [f"{option} is a number from {low} to {high} in decimal digits, not {value}"]
     return []

@@ -34,8 +34,8 @@ PRINTED = Kind("printed", 0, GREATEST_INT)
 class World(NamedTuple):
     """What the outside is like: its text, which allocations fail, what printf gives, and the entry's arguments.
 
-    `denied` counts allocations from 1; 0 in it denies all of them. The default of `printed` is no character, so that a
-    character that was guessed wrongly is seen.
+    `denied` counts allocations from 1; 0 in it denies all of them. The default of `printed` is not a character, so
+    that a character that was guessed wrongly is seen.
     """
     text: bytes = b""
     denied: frozenset = frozenset()

@@ -104,7 +104,7 @@ class Search:
         return False
 
     def following(self, world):
-        """Worlds that go on from one: other arguments in each place, and more text behind its own."""
+        """Worlds that go on from one: other arguments in each place, and more text after its own."""
         for place in range(len(world.numbers)):
             for number in sorted(self.pieces.numbers, key=abs)[:60]:
                 yield world._replace(numbers=(*world.numbers[:place], number, *world.numbers[place + 1:]))

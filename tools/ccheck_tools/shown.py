@@ -107,8 +107,8 @@ class Shown:
         rest = f" {one.rest}" if one.rest else ""
         head = f"{self.place(one)}: {self.style.paint('refused', f'{one.kind}: {one.word}{rest}')}\n"
         why = self.reason(one)
-        told = f"        {self.style.paint('note', why)}\n" if why else ""
-        return head + self.source(one) + told + self.help(one.word, rule_pages.link_to("refusals.md", one.word.lower()))
+        sentence = f"        {self.style.paint('note', why)}\n" if why else ""
+        return head + self.source(one) + sentence + self.help(one.word, rule_pages.link_to("refusals.md", one.word.lower()))
 
     def reason(self, one):
         """Returns a sentence on a refusal."""

@@ -132,7 +132,7 @@ class Statuses(ToolTest):
         self.file("a.c", DIVIDE)
         for words, wanted in ((["check"], "no unit"), (["chek", "a.c"], "not a verb"), (["check", "a.c", "-Iinc"], "no -I"),
                               (["check", "a.c", "--turn", "3"], "--turns must be written out"),
-                              (["check", "a.c", "--turns", "65"], "from 0 to 64"), (["check", "a.c", "--turns"], "lacks"),
+                              (["check", "a.c", "--turns", "65"], "from 0 to 64 in decimal digits"), (["check", "a.c", "--turns"], "lacks"),
                               (["check", "a.c", "--format", "JSON"], "one of text, json, sarif"),
                               (["check", "a.c", "--entry=f", "--entry=g"], "given twice"),
                               (["gate", "a.c"], "needs --base"), (["verify", "a.c"], "needs --cert"),
