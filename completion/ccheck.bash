@@ -15,7 +15,7 @@ _ccheck_value() {
         mapfile -t COMPREPLY < <(compgen -f -- "$2") ;;
     --out | --keep) compopt -o filenames 2>/dev/null; mapfile -t COMPREPLY < <(compgen -d -- "$2") ;;
     --tag) _ccheck_words "$_ccheck_rules" "$2" ;;
-    --entry | --turns | --steps | --seed | --count | --tries | --deny | --printed | --arguments | --text | --since | \
+    --entry | --turns | --steps | --seed | --count | --tries | --seconds | --deny | --printed | --arguments | --text | --since | \
         --jobs | --argument-length | --object-count | --timeout | --drop-attribute | --bin) COMPREPLY=() ;;
     *) return 1 ;;
     esac
@@ -38,7 +38,7 @@ _ccheck() {
             return
         fi
         options="--model --format --entry --turns --base --cert --draws --steps" ;;
-    ccheck-html) options="--out --runs --tries --report --help" ;;
+    ccheck-html) options="--out --runs --tries --seconds --report --help" ;;
     ccheck-baseline)
         if [ "$COMP_CWORD" -eq 1 ]; then
             _ccheck_words "make shrink move --help" "$word"
@@ -49,7 +49,7 @@ _ccheck() {
         fi
         options="--report --since --help" ;;
     ccheck-draws) options="--text --input --deny --printed --arguments --back --entry --model --help" ;;
-    show-me) options="--tag --tries --seed --bin --entry --model --help" ;;
+    show-me) options="--tag --tries --seconds --seed --bin --entry --model --help" ;;
     ccheck-cc)
         options="--jobs --format --entry --arguments --argument-length --objects --object-count --drop-volatile
             --drop-attribute --model --turns --timeout --base --keep --replay --steps --draws --help
