@@ -65,7 +65,7 @@ def as_html(text):
             made.append(block(lines))
             lines.clear()
 
-    for line in text.split("\n"):
+    for line in re.sub(r"<!--.*?-->", "", text, flags=re.S).split("\n"):
         if line.startswith("```"):
             close()
             if code is not None:

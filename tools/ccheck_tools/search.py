@@ -106,7 +106,8 @@ class Search:
     def following(self, world):
         """Worlds that go on from one: other arguments in each place, and more text after its own."""
         for place in range(len(world.numbers)):
-            for number in sorted(self.pieces.numbers, key=abs)[:60]:
+            near = [world.numbers[place] + it for it in (1, -1, 2, -2, 3, -3, 4, -4)]
+            for number in near + sorted(self.pieces.numbers, key=abs)[:60]:
                 yield world._replace(numbers=(*world.numbers[:place], number, *world.numbers[place + 1:]))
         if self.asks_text:
             end = b"\n" if "line" in self.asked else b""
@@ -156,10 +157,27 @@ class Search:
         if is_new:
             self.pool.append(Kept(world, reached))
         if is_new_code:
+            world = self.trimmed(world, reached)
             self.followers.append(self.following(world))
             for number in range(1, min(answers.asked_memory, DENIED_AT_MOST) + 1 if not world.denied else 1):
                 if not self.is_done:
                     self.try_world(world._replace(denied=frozenset({number})))
+
+    def trimmed(self, world, reached):
+        """Returns the world without the end of its text, as far as its run reaches the same marks."""
+        size = len(world.text) // 2
+        while size and not self.is_done:
+            less = world._replace(text=world.text[:-size])
+            if self.reaches(less, reached):
+                world, size = less, min(size, len(less.text))
+            else:
+                size //= 2
+        return world
+
+    def reaches(self, world, reached):
+        """Whether the run of a world reaches all of some marks."""
+        answers, outcome = self.dialogue.answer(world)
+        return self.note(answers.draws[:outcome.used], outcome, world)[0] >= reached
 
     def try_draws(self, draws):
         """Takes a run over draws that no world was asked for."""
@@ -249,18 +267,19 @@ class Search:
         at = self.chance.randint(0, len(text))
         end = min(len(text), at + self.chance.choice([1, 1, 1, 2, 4, 16]))
         choice = self.chance.random()
-        if choice < 0.3:
+        if choice < 0.28:
             return text[:at] + self.piece() + text[at:]
-        if choice < 0.45:
+        if choice < 0.42:
             return text + self.piece() + self.chance.choice([b"", b"\n", b" "])
-        if choice < 0.65:
+        if choice < 0.58:
             return text[:at] + self.piece() + text[end:]
-        if choice < 0.75:
+        if choice < 0.68:
             return text[:at] + text[end:]
-        if choice < 0.85:
+        if choice < 0.8:
             return text[:at] + text[at:end] * self.chance.choice([2, 3, 8, 33, 65]) + text[end:]
-        if choice < 0.92:
-            return text[:at] + self.chance.choice(self.pool).world.text[-at:]
+        if choice < 0.94:
+            other = self.chance.choice(self.pool).world.text
+            return text + other if choice < 0.9 else text[:at] + other
         if at < len(text):
             near = (text[at] + self.chance.choice([-1, 1])) % 256
             return text[:at] + bytes([near]) + text[at + 1:]
