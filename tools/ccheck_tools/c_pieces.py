@@ -218,6 +218,19 @@ def declarator_of(tokens):
     return None
 
 
+def last_declarator(tokens):
+    """Returns the declarator at the end of a definition's head, where calls of macros may be before it, or None."""
+    kept = without_groups(tokens)
+    closing = kept[-1] if kept else -1
+    opening = next((it for it in kept if tokens[it].text == "(" and group_end(tokens, it) == closing), None)
+    if opening is None:
+        return None
+    start = kept.index(opening)
+    while start and (tokens[kept[start - 1]].kind == "name" or tokens[kept[start - 1]].text == "*"):
+        start -= 1
+    return declarator_of([tokens[it] for it in kept[start:]])
+
+
 def checked_declarator(tokens, before, opening, closing):
     """Makes a declarator where what is before the name can be a type and stars."""
     spec, stars = before[:-1], []

@@ -7,7 +7,7 @@ from ccheck_tools.predefined import EMPTIED, RENAMED
 INTEGER_WORDS = {"char", "short", "int", "long", "signed", "unsigned", "__signed__", "__signed"}
 OTHER_WORDS = {"float", "double", "_Bool", "_Complex", "_Atomic", "union", "__int128"}
 LIBRARY_INTEGERS = re.compile(r"(u?int(_least|_fast)?(8|16|32|64)_t|u?intmax_t|u?intptr_t|s?size_t|ptrdiff_t|bool"
-                              r"|time_t|clock_t|off_t|mode_t|[pugi]id_t|ino_t|dev_t)")
+                              r"|time_t|clock_t|off_t|mode_t|[pugi]id_t|ino_t|dev_t|__U?(INT|SIZE|PTRDIFF)\w*_TYPE__)")
 
 
 class Types:

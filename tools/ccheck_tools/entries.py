@@ -63,7 +63,7 @@ def unknown_entries(sources, facts):
     for piece in sources.unit.pieces:
         head = head_before_value(piece)
         made = next((it for it in head if it.text in facts.make_functions), None)
-        if made and piece.body is None:
+        if made:
             line = lines.place(made.start)[0]
             sentence = f"the macro {made.text} in line {line} may define functions; --entry can name them"
             found.append(Entry("", "", fault=sentence))

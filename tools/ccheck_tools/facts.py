@@ -1,9 +1,12 @@
 """What the files of a unit say together: functions that are defined, declared and called, macros, words, conditions."""
 import collections
 
-from ccheck_tools.c_pieces import KEYWORDS, declarator_of, renamed, split_at
+from ccheck_tools.c_pieces import KEYWORDS, declarator_of, last_declarator, renamed, split_at
 from ccheck_tools.c_tokens import line_tokens
 from ccheck_tools.old_style import parameter_text
+
+
+NO_RETURN = ("noreturn", "__noreturn__", "_Noreturn")
 
 
 class Facts:
@@ -13,7 +16,7 @@ class Facts:
         self.definitions, self.declarations = {}, {}
         self.called, self.macros, self.conditions = set(), set(), {}
         self.words = collections.Counter()
-        self.unnamed, self.bodies = [], {}
+        self.unnamed, self.bodies, self.no_return, self.objects = [], {}, set(), set()
         for one in sources.stub_files.values():
             self.macros.update(one.macros())
         for one in sources.files.values():
@@ -27,9 +30,15 @@ class Facts:
         """Takes the functions of a file."""
         for piece in source.pieces:
             found = self.resolved(declarator_of(piece.head))
+            if found is None and piece.body is not None:
+                found = self.resolved(last_declarator(piece.head))
             if piece.body is not None:
                 self.read_calls([(it.kind, it.text) for it in piece.body])
-            elif found is None or any(it.text == "typedef" for it in found.spec):
+            elif found is None:
+                if any(it.text == "extern" for it in piece.head[:1]):
+                    self.objects.update(it.text for it in piece.head if it.kind == "name")
+                continue
+            elif any(it.text == "typedef" for it in found.spec):
                 continue
             if found is None:
                 self.unnamed.append((source, piece))
@@ -47,6 +56,11 @@ class Facts:
             return None
         return renamed(found, [])
 
+    def is_macro_call(self, piece):
+        """Says whether a piece begins with the call of a macro, so that its text says little."""
+        found = declarator_of(piece.head)
+        return found is not None and found.name.text in self.macros
+
     def closure(self):
         """Returns the macros whose text, or that of a macro in it, has a brace, and so may define functions."""
         found = {name for name, words in self.bodies.items() if "{" in words}
@@ -58,6 +72,8 @@ class Facts:
 
     def read_declarators(self, piece, found, source):
         """Takes the functions of one declaration."""
+        if any(it.text in NO_RETURN for it in piece.head):
+            self.no_return.add(found.name.text)
         for index, part in enumerate(split_at(piece.head[:-1], ",")):
             one = found if index == 0 else self.resolved(declarator_of([*found.spec, *part]))
             if one is not None:

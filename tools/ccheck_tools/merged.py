@@ -22,13 +22,28 @@ def diagnostics_of(outcomes):
 def as_text(outcomes):
     """Returns the report as text."""
     lines = [it.as_text() for it in diagnostics_of(outcomes)]
+    lines += all_fault_lines(outcomes)
     for one in outcomes:
-        for fault in one.faults:
-            lines += fault_lines(one, fault)
         lines += [f"{one.unit}: run from {entry}: end: {end}, {used} draws used" for entry, end, used in one.ends]
     lines += section("assumed", [(one.unit, it.as_text(), it.file != "") for one in outcomes for it in one.assumed])
     lines += section("note", [(one.unit, it, False) for one in outcomes for it in one.notes])
     return "\n".join([*lines, *summary(outcomes)]) + "\n"
+
+
+def all_fault_lines(outcomes):
+    """Returns the lines on all that was not analysed. The same refusal of several units is printed once."""
+    units, first = collections.defaultdict(list), {}
+    for one in outcomes:
+        for fault in one.faults:
+            key = (fault.text, fault.reason) if fault.refusal else (one.unit, fault.text)
+            units[key].append(one.unit)
+            first.setdefault(key, (one, fault))
+    lines = []
+    for key, (one, fault) in first.items():
+        lines += fault_lines(one, fault)
+        if len(units[key]) > 1:
+            lines.append(f"    in {len(units[key])} units: {', '.join(units[key])}")
+    return lines
 
 
 def fault_lines(one, fault):

@@ -12,6 +12,8 @@ def new_parameters(piece):
     for part in split_at(found.after, ";"):
         if part and not declared(part, names, types):
             return None
+    if any(name.endswith("_t") for name in names if name not in types):
+        return None                             # types without names, which are no old-style list
     return ", ".join(types.get(name, f"int {name}") for name in names)
 
 

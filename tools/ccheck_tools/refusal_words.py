@@ -107,6 +107,8 @@ def undeclared(analysis, name):
         return f"the macro {name} makes a name that has no declaration or no definition in the unit"
     if name in analysis.facts.declarations:
         return f"{name} is declared and has no definition in the unit"
+    if name in analysis.facts.objects:
+        return f"the object {name} has no definition in the unit; define it in a file that -include names"
     if name in analysis.facts.definitions:
         return f"{name} is used before its declaration"
     return f"{name or 'a name'} has no declaration here, or no definition in the unit"

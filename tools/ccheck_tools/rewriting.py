@@ -22,14 +22,19 @@ class Assumption:
 def rewrite(sources, facts, library):
     """Makes the edits of all files of a unit. `library` has the names whose own declarations are taken out."""
     told = []
-    parameters = facts.parameters()
+    parameters, library = facts.parameters(), library - facts.macros
     for source in sources.files.values():
         lines = Lines(source.text)
         implicit = old_style.implicit_declarations(source.pieces, source.edits, facts.declarations, parameters)
         told += [Assumption(it, source.shown, lines.place(one.start)[0]) for one, it in implicit]
         for piece in source.pieces:
             line = lines.place(piece.head[0].start if piece.head else 0)[0]
-            told += [Assumption(it, source.shown, line) for it in edit_piece(piece, source.edits, parameters, library)]
+            taken = own_declarations.edit_piece(piece, source.edits, library)
+            sentences = [f"the own declaration of {name} is taken out; it is a function of the library"
+                         for name in dict.fromkeys(taken)]
+            if not facts.is_macro_call(piece):
+                sentences += old_style_edits(piece, source.edits, parameters)
+            told += [Assumption(it, source.shown, line) for it in sentences]
             told += [Assumption(it, source.shown, lines.place(one.start)[0])
                      for one, it in old_style.edit_objects(piece, source.edits)]
             told += name_functions(source, piece, lines)
@@ -38,16 +43,10 @@ def rewrite(sources, facts, library):
     return told
 
 
-def edit_piece(piece, edits, parameters, library):
-    """Makes the edits of one piece and returns sentences on them."""
-    told = []
-    taken = own_declarations.edit_piece(piece, edits, library)
-    for name in dict.fromkeys(taken):
-        told.append(f"the own declaration of {name} is taken out; it is a function of the library")
+def old_style_edits(piece, edits, parameters):
+    """Makes a piece in the old style new and returns sentences on it."""
     definition = old_style.edit_definition(piece, edits)
-    if definition:
-        told.append(definition)
-    return told + old_style.edit_declaration(piece, edits, parameters)
+    return ([definition] if definition else []) + old_style.edit_declaration(piece, edits, parameters)
 
 
 def number_lines(source, lines):

@@ -22,7 +22,7 @@ def missing_functions(facts, stubs):
             and name not in facts.macros]
 
 
-def stand_in(found, types, objects):
+def stand_in(found, types, objects, no_return=False):
     """Returns the lines of a stand-in and a sentence on it, or None and why there is none."""
     name = found.name.text
     if any(it.text == "..." for it in found.parameters):
@@ -33,6 +33,8 @@ def stand_in(found, types, objects):
         return None, f"the result of {name} is neither an integer nor a pointer"
     head = f"{text_of(spec)} {text_of(stars)}{name}({named_parameters(found)})"
     told = f"{name} has no definition: it is read as a function that changes nothing and"
+    if no_return:
+        return [f"{head} {{ abort(); }}"], f"{name} has no definition: it is read as a function that ends the run"
     if kind == "void":
         return [f"{head} {{ }}"], f"{told} returns"
     if kind == "integer":
@@ -65,7 +67,7 @@ def stand_ins(facts, types, stubs, objects):
     """Returns the lines of all stand-ins, the assumptions, and why some functions have none, by name."""
     lines, told, without = [], [], {}
     for found in missing_functions(facts, stubs):
-        body, sentence = stand_in(found, types, objects)
+        body, sentence = stand_in(found, types, objects, found.name.text in facts.no_return)
         if body is None:
             without[found.name.text] = sentence
         else:

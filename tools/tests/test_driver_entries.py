@@ -62,10 +62,14 @@ class Entries(DriverTest):
 
     def test_functions_that_macros_make(self):
         text = "#define MAKE(n) int n(int x) { return 1 / x; }\nMAKE(one)\nMAKE(two)\nint f(void) { return 0; }\n"
-        self.assertIn("not recognised", self.refused(text)[1])
+        self.assertIn("the macro MAKE in line 2 may define functions", self.refused(text)[1])
         self.assertEqual(["2:1 diverr"], self.found(text, "--entry", "one"))
         all_made = "#define MAKE(n) int n(int x) { return 1 / x; }\n#define ALL MAKE(a) MAKE(b)\nALL\nint x;\n"
         self.assertIn("the macro ALL in line 3 may define functions", self.refused(all_made)[1])
+
+    def test_main_after_calls_of_macros(self):
+        text = "#define MAKE(n) int n(int x) { return 1 / x; }\nMAKE(one)\nMAKE(two)\nint main(void) { return two(0); }\n"
+        self.assertEqual(["3:1 diverr"], self.found(text))
 
     def test_parameters_in_macros(self):
         text = "#define P(x) x\n#define P1(n, a) (a)\nint f P((int n));\nint f P1((n), int n) { return 1 / n; }\n"
@@ -91,6 +95,11 @@ class StandIns(DriverTest):
     def test_nothing(self):
         text = "void hit(int [], unsigned char c[3]);\nint main(void) { hit(0, 0); return 0; }\n"
         self.assertEqual([], self.found(text))
+
+    def test_functions_that_do_not_return(self):
+        text = "void die(int) __attribute__((noreturn));\nint f(int n) { if (n < 1) die(1); return 1 / n; }\n"
+        self.assertEqual([], self.found(text))
+        self.assertIn("die has no definition: it is read as a function that ends the run", self.assumed(text))
 
     def test_pointers(self):
         text = "struct s { int n; };\nstruct s *make(void);\nint main(void) { return make()->n; }\n"

@@ -30,7 +30,7 @@ REFUSALS = (
     ("#include <stdio.h>\nint main(void) { fprintf(stderr, \"x\"); return 0; }\n", "Undeclared",
      "fprintf takes a variable number of arguments"),
     ("int main(void) { return y; }\n", "Undeclared", "y has no declaration"),
-    ("extern int y; int main(void) { return y; }\n", "Undeclared", "y has no declaration here, or no definition"),
+    ("extern int y; int main(void) { return y; }\n", "Undeclared", "the object y has no definition in the unit"),
     ("#define Y y\nint main(void) { return Y; }\n", "Undeclared", "the macro Y makes a name"),
     ("int f(int n) { return n ? f(n - 1) : 0; }\nint main(void) { return f(3); }\n", "Recursion", "call itself"),
     ("int main(void) { int *p = (int *)4096; return *p; }\n", "PointerInteger", "converted to an integer"),
