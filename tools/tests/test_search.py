@@ -5,7 +5,7 @@ import tempfile
 from ccheck_tools import marks, pieces, replays, search
 from tooling import EXAMPLES, FAULTY, ToolTest, write
 
-SAMPLE = ("average_of_nothing", "cleaned_twice", "divisor_42", "long_line", "least_by_minus_one", "high_byte",
+SAMPLE = ("average_of_nothing", "cleaned_twice", "divisor_42", "long_line", "calendar", "high_byte",
           "third_memory", "trim")
 
 
