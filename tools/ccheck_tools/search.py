@@ -70,15 +70,25 @@ class Search:
         return replays.Replays(self.program, self.unit, self.words)
 
     @property
+    def count(self):
+        """How many runs were taken, those of the marked copy included."""
+        return self.runs.count + self.plain.count
+
+    @property
     def is_done(self):
         """Whether nothing is left to be found, or no try."""
         is_late = self.until is not None and time.monotonic() > self.until
-        return is_late or self.runs.count + self.plain.count >= self.tries or self.wanted <= self.found.keys()
+        return is_late or self.count >= self.tries or self.wanted <= self.found.keys()
 
     def try_all(self):
-        """Takes runs: of worlds that come first, of those that follow one which reached new code, and of random ones."""
+        """Takes runs: of worlds that come first, of those that follow one which reached new code, and of random ones.
+
+        A unit that asks for nothing has one run.
+        """
         first = self.firsts()
         self.try_world(dialogues.World())
+        if not self.asked:
+            return
         while not self.is_done:
             dice = self.chance.random()
             if dice < 0.45 and self.try_next(first) or dice < 0.8 and self.try_follower():

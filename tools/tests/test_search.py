@@ -49,6 +49,13 @@ class Finds(ToolTest):
         self.assertEqual((status, text), (1, ""))
         self.assertIn("proves nothing", why)
 
+    def test_a_unit_without_input_has_one_run(self):
+        self.file("a.c", "int main(void)\n{\n    int a[2] = {0};\n    int i;\n    for (i = 0; i < 2; i++)\n"
+                         "        a[i] = 1 + a[1 - i];\n    return 1 / a[0];\n}\n")
+        status, _, why = self.tool("show-me", "a.c", "7")
+        self.assertEqual(status, 1)
+        self.assertRegex(why, "none of [1-9] runs")
+
     def test_no_such_diagnostic_and_no_run(self):
         self.file("bad.c", "int price@;\n")
         self.file("big.c", "static char a[4194305];\nint main(void) { int z = 0; return a[0] / z; }\n")
