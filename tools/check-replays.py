@@ -9,8 +9,6 @@ each call. Prints each pair that is missing, with its unit and draws, and what w
 import argparse
 import collections
 import glob
-import importlib.machinery
-import importlib.util
 import os
 import random
 import re
@@ -19,19 +17,12 @@ import subprocess
 import sys
 import tempfile
 
-HERE = os.path.dirname(os.path.realpath(__file__))
+sys.path.insert(0, os.path.dirname(os.path.realpath(__file__)))
+from ccheck_tools import pieces, replays, reports, search  # noqa: E402
+
 RUNS_OF_A_UNIT = 10
 PAIR = re.compile(r"^([^\n]*:\d+:\d+: [a-z]+): ", re.M)
 END = re.compile(r"^end: (\w+), \d+ draws used$", re.M)
-
-
-def show_me():
-    """The tool beside this one, which draws numbers and takes runs."""
-    sys.dont_write_bytecode = True
-    loader = importlib.machinery.SourceFileLoader("show_me", f"{HERE}/show-me")
-    made = importlib.util.module_from_spec(importlib.util.spec_from_loader("show_me", loader))
-    loader.exec_module(made)
-    return made
 
 
 def units_of(source, folder):
@@ -78,32 +69,33 @@ class Count:
 
 
 def main():
-    tool = show_me()
     parser = argparse.ArgumentParser(description=__doc__.split("\n\n")[0])
     parser.add_argument("source")
     parser.add_argument("count", type=int)
-    parser.add_argument("--bin", default=tool.PROGRAM)
+    parser.add_argument("--bin")
     parser.add_argument("--seed", type=int, default=1)
     parser.add_argument("--steps", type=int, default=100000)
     asked, words = parser.parse_known_args()
+    program = asked.bin or reports.find_program()
     chance, count = random.Random(asked.seed), Count()
     with tempfile.TemporaryDirectory() as folder:
         for unit in units_of(asked.source, folder):
             if count.runs >= asked.count:
                 break
-            pairs = admitted(asked.bin, unit, words)
+            pairs = admitted(program, unit, words)
             count.units += 1
             if pairs is None:
                 count.passed_over += 1
                 continue
             with open(unit, encoding="latin-1") as file:
-                named = tool.numbers_of(file.read())
-            for _ in range(min(RUNS_OF_A_UNIT, asked.count - count.runs)):
-                draws = tool.some_draws(chance, named)
-                text, status = tool.replayed(asked.bin, unit, [*words, "--steps", str(asked.steps)], draws)
-                if status not in (0, 1):
-                    break
-                count.run(unit, draws, text, pairs)
+                named = pieces.Pieces(file.read()).numbers
+            with replays.Replays(program, unit, words, asked.steps) as runs:
+                for _ in range(min(RUNS_OF_A_UNIT, asked.count - count.runs)):
+                    draws = search.some_draws(chance, named)
+                    text, status = runs.text_of(draws)
+                    if status not in (0, 1):
+                        break
+                    count.run(unit, draws, text, pairs)
     print(count)
     sys.exit(1 if count.missing else 0)
 
