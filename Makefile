@@ -2,7 +2,8 @@
 # make quick                compiles the program without its proofs and tries it on a few units; leaves no program
 # make check                the whole gate: proofs, must-fail edits, tests (`rt ci`), except what it has kept
 # make check-tools          the tests of tools/, completion/ and packaging/: under three minutes
-# make docs                 links, names and examples of README.md and docs/ (tools/check-docs.sh)
+# make docs                 links, names and examples of README.md and docs/ (tools/check-docs.sh), and the crates' lines
+#                           (tools/unused-edges, tools/check-citations)
 # make install PREFIX=DIR   the program, the tools, stub headers, manual pages, pages and examples; DIR from the root
 # make dist                 a tarball and a Debian package of all that, in out/dist/
 # make clean                what was made: the program is made anew only where it is not there
@@ -44,6 +45,8 @@ check-tools:
 
 docs: $(PROGRAM)
 	tools/check-docs.sh
+	tools/unused-edges
+	tools/check-citations
 
 install: $(PROGRAM)
 	install -D -m 755 $(PROGRAM) $(DESTDIR)$(PREFIX)/bin/ccheck
