@@ -49,6 +49,12 @@ class Outcome:
         return not self.faults
 
 
+def shown_line(text):
+    """Returns a line of source for a report: characters that a terminal would obey are shown as `?`."""
+    text = text.encode("latin-1").decode("utf-8", "replace")
+    return "".join(one if one.isprintable() or one == "\t" else "?" for one in text)
+
+
 class Analysis:
     """Analyses one unit in a folder of its own."""
 
@@ -56,6 +62,7 @@ class Analysis:
         self.compilation, self.folder, self.options, self.program = compilation, folder, options, program
         self.outcome = Outcome(compilation.source, notes=list(compilation.notes))
         self.refused_whole = False      # a refusal that does not depend on the entry has come
+        self.analysed = False           # ccheck has accepted the unit from some entry on
 
     def run(self):
         """Returns the outcome."""
@@ -68,7 +75,7 @@ class Analysis:
         except (UnitFault, CommandFault) as fault:
             self.outcome.faults.append(Fault(str(fault)))
         self.outcome.diagnostics = sorted(set(self.outcome.diagnostics), key=self.order)
-        self.outcome.assumed = list(dict.fromkeys(self.outcome.assumed))
+        self.outcome.assumed = list(dict.fromkeys(self.outcome.assumed)) if self.analysed else []
         return self.outcome
 
     def order(self, diagnostic):
@@ -167,6 +174,7 @@ class Analysis:
             return False
         self.outcome.entries += 1
         if status in (reports.CLEAN, reports.FOUND):
+            self.analysed = True
             self.outcome.assumed += entry.told
             self.outcome.diagnostics += [self.mapped(it) for it in report.diagnostics]
             if self.options.replay:
@@ -236,7 +244,7 @@ class Analysis:
             mapped = self.mapped(report.refusal)
             self.refused_whole = report.refusal.word not in OF_ENTRY and source is not None
             word = f"{mapped.word} {mapped.rest}" if mapped.word in WITH_NAME else mapped.word
-            fault = Fault(mapped.as_text(), word, mapped, source.edited.original.line(line) if source else "",
-                          explained(self, report.refusal))
+            text = shown_line(source.edited.original.line(line)) if source else ""
+            fault = Fault(mapped.as_text(), word, mapped, text, explained(self, report.refusal))
         if fault not in self.outcome.faults:
             self.outcome.faults.append(fault)
