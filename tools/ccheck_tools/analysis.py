@@ -12,7 +12,7 @@ from ccheck_tools.facts import Facts
 from ccheck_tools.including_unit import UNIT, Including, copy_name, write_file
 from ccheck_tools.library import BUILT_IN, BUILT_IN_HEADERS, stub_folder, stub_functions
 from ccheck_tools.predefined import model_of
-from ccheck_tools.refusal_words import explained
+from ccheck_tools.refusal_words import explained, tokens_from
 from ccheck_tools.rewriting import Assumption, rewrite
 from ccheck_tools.sources import Sources, UnitFault
 from ccheck_tools.stand_ins import INPUT_LINES, stand_ins
@@ -187,9 +187,22 @@ class Analysis:
         """Runs ccheck from an entry, without macros of ours that the unit defines itself."""
         verb = "replay" if self.options.replay else "check"
         status, report = self.call(verb, entry)
-        while status == reports.REFUSED and self.drops_macro(report.refusal):
+        while status == reports.REFUSED and (self.drops_macro(report.refusal) or self.drops_stub(report.refusal)):
             status, report = self.call(verb, entry)
         return status, report
+
+    def drops_stub(self, refusal):
+        """Leaves out a stub function, where the unit has its name for something else."""
+        if refusal is None or refusal.word != "Redeclared":
+            return False
+        source, line, column = self.place(refusal)
+        name = tokens_from(source, line, column)[:1] if source else []
+        if not name or name[0].text not in self.including.used_stubs():
+            return False
+        self.including.other_names.add(name[0].text)
+        prefix = f"{name[0].text} is the stub of ccheck"
+        self.outcome.assumed = [it for it in self.outcome.assumed if not it.sentence.startswith(prefix)]
+        return True
 
     def defines(self, entry):
         """Says whether the function of an entry is in a group of the unit that is taken."""

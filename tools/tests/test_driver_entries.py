@@ -119,6 +119,12 @@ class StandIns(DriverTest):
         self.assertNotIn("strchr is the stub", self.assumed(text))
 
 
+    def test_an_object_with_the_name_of_a_stub_function(self):
+        text = "int index;\n#define AT(index) (index (3))\nint main(void) { return index; }\n"
+        self.assertEqual([], self.found(text))
+        self.assertEqual("", self.assumed(text))
+
+
 class Replays(DriverTest):
     """--replay runs the units in place of analysing them."""
 
