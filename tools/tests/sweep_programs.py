@@ -1,5 +1,5 @@
 #!/usr/bin/env python3
-"""sweep_programs.py FOLDER [--driver-option=WORD].. [--abort-violates] [--differences-only]: compared with real programs.
+"""sweep_programs.py FOLDER [--driver-option=WORD].. [--abort-violates] [--differences-only]: replays and real runs.
 
 Each C file of FOLDER that ccheck-cc accepts is built by gcc with -O0 -fsanitize=address,undefined and run without
 input. Where the program ends with 0 and without a report of a sanitizer, the same including unit is replayed over a

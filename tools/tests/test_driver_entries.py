@@ -68,7 +68,8 @@ class Entries(DriverTest):
         self.assertIn("the macro ALL in line 3 may define functions", self.refused(all_made)[1])
 
     def test_main_after_calls_of_macros(self):
-        text = "#define MAKE(n) int n(int x) { return 1 / x; }\nMAKE(one)\nMAKE(two)\nint main(void) { return two(0); }\n"
+        text = "#define MAKE(n) int n(int x) { return 1 / x; }\nMAKE(one)\nMAKE(two)\n" \
+               "int main(void) { return two(0); }\n"
         self.assertEqual(["3:1 diverr"], self.found(text))
 
     def test_parameters_in_macros(self):
