@@ -120,6 +120,8 @@ class Analysis:
         known = self.facts.macros | {it.partition("(")[0] for it in self.including.macros} | {"__STDC__", "__cplusplus"}
         known |= {text.partition("=")[0] for _, text in self.compilation.macros}
         unknown = sorted(it for it in self.facts.conditions if it not in known)
+        found += [f"the pragma {word} in {place} changes what a compiler does and is passed over here"
+                  for word, place in self.facts.pragmas.items()]
         for name in unknown:
             found.append(f"a condition in {self.facts.conditions[name]} depends on {name}, which is not defined here "
                          "(-D or -U settles it)")
@@ -244,6 +246,8 @@ class Analysis:
 
     def own_name(self, file):
         """Returns the name of a file that is not the user's: a stub, or the including unit."""
+        if file.startswith(f"{self.folder}/functions/"):
+            return self.sources.stubs + file[len(self.folder):]
         return f"{self.outcome.unit} (unit made by ccheck-cc)" if file == f"{self.folder}/{UNIT}" else file
 
     def add_fault(self, status, report):

@@ -6,6 +6,7 @@ from ccheck_tools.c_tokens import line_tokens
 from ccheck_tools.old_style import parameter_text
 
 
+PRAGMAS = ("pack", "push_macro", "pop_macro", "weak", "redefine_extname", "scalar_storage_order", "omp")
 NO_RETURN = ("noreturn", "__noreturn__", "_Noreturn")
 
 
@@ -17,6 +18,7 @@ class Facts:
         self.called, self.macros, self.conditions = set(), set(), {}
         self.words = collections.Counter()
         self.unnamed, self.bodies, self.no_return, self.objects = [], {}, set(), set()
+        self.pragmas = {}
         for one in sources.stub_files.values():
             self.macros.update(one.macros())
         for one in sources.files.values():
@@ -94,6 +96,8 @@ class Facts:
                 self.read_calls(tokens[1:])
                 if tokens:
                     self.bodies.setdefault(tokens[0][1], set()).update(text for _, text in tokens[1:])
+            elif name == "pragma" and first_word(rest) in PRAGMAS:
+                self.pragmas.setdefault(first_word(rest), source.shown)
             elif name in ("if", "elif", "ifdef", "ifndef"):
                 for kind, text in line_tokens(rest):
                     if kind == "name" and text.startswith("__"):
@@ -103,3 +107,8 @@ class Facts:
         """Returns the parameter lists of the functions that are defined, in the new style."""
         found = {name: parameter_text(piece) for name, (piece, _, _) in self.definitions.items()}
         return {name: text for name, text in found.items() if text is not None}
+
+
+def first_word(rest):
+    """Returns the first word of a pragma, such as `pack` of `pack(1)`."""
+    return rest.partition("(")[0].strip().partition(" ")[0]

@@ -112,6 +112,9 @@ class Including:
             path = f"{folder}/{copy_name(key)}"
             os.makedirs(os.path.dirname(path), exist_ok=True)
             write_file(path, source.edited.text)
+        link = f"{folder}/functions"
+        if not os.path.lexists(link):
+            os.symlink(os.path.join(self.sources.stubs, "functions"), link)
 
     def write_unit(self, folder, after):
         """Writes the including unit into a folder."""

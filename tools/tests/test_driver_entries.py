@@ -1,7 +1,9 @@
 """Where ccheck-cc lets runs begin: main, main with argument strings, functions of a library; and stand-ins."""
+import os
 import unittest
 
 from driver_helpers import DriverTest
+from ccheck_tools.library import stub_folder
 
 QUICK = True
 
@@ -119,6 +121,12 @@ class StandIns(DriverTest):
         self.assertEqual([], self.found(text))
         self.assertNotIn("strchr is the stub", self.assumed(text))
 
+
+    def test_the_place_of_a_diagnostic_in_a_stub(self):
+        self.write("own/functions/strchr.c", "#error not this one\n")
+        report = self.analysed("#include <string.h>\nint main(void) { char a[2]; return strchr(a, 1) == 0; }\n", "-Iown")
+        self.assertEqual([os.path.join(stub_folder(), "functions", "strchr.c")],
+                         [it["file"] for it in report["diagnostics"]])
 
     def test_an_object_with_the_name_of_a_stub_function(self):
         text = "int index;\n#define AT(index) (index (3))\nint main(void) { return index; }\n"
