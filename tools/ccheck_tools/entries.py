@@ -87,7 +87,10 @@ def function_entry(name, facts, types, options):
     parameters = parameters_of(found)
     kinds = [types.kind(*it) for it in parameters]
     if all(kind == "integer" for kind in kinds):
-        return Entry(name, name, told=told, probe=integer_probe(name, parameters))
+        probe = integer_probe(name, parameters)
+        if name in facts.macros:        # its own name is another one
+            return Entry(ENTRY, name, probe, told, function=name)
+        return Entry(name, name, told=told, probe=probe)
     if not options.objects:
         sentence = f"{name} has a parameter that is not an integer; --objects passes fresh objects to it"
         return Entry(name, name, fault=sentence, probe=[f"int {ENTRY}(void) {{ {name}(); return 0; }}"])

@@ -78,6 +78,11 @@ class Entries(DriverTest):
         text = "#define P(x) x\n#define P1(n, a) (a)\nint f P((int n));\nint f P1((n), int n) { return 1 / n; }\n"
         self.assertEqual(["4:33 diverr"], self.found(text))
 
+    def test_macros_that_rename_functions(self):
+        text = "#define f my_f\n#define g my_g\n" \
+               "int f(int n) { return 1 / n; }\nint g(char *s) { return 1 / s[0]; }\n"
+        self.assertEqual(["3:25 diverr", "4:27 diverr"], self.found(text, "--objects"))
+
     def test_no_function(self):
         self.assertEqual([], self.found("int table[3] = { 1, 2, 3 };\n"))
         self.assertIn("no run of it is looked at", self.assumed("int table[3] = { 1, 2, 3 };\n"))
