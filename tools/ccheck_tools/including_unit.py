@@ -26,6 +26,9 @@ class Including:
         found = dict(predefined.data_macros(self.model))
         found.update(predefined.language_macros(self.sources.compilation.standard))
         words = self.facts.words
+        used = sorted(it for it in found if words[it])
+        if used:
+            self.tell(f"macros that a compiler predefines: {', '.join(used)}")
         for word, text in predefined.RENAMED.items():
             if words[word]:
                 found[word] = text
