@@ -1,9 +1,10 @@
 """Where runs of a unit begin: `main`, `main` with argument strings from input, or each function of a library."""
 import dataclasses
 
-from ccheck_tools.c_pieces import QUALIFIERS, STORAGE_WORDS, text_of
+from ccheck_tools.c_pieces import text_of
 from ccheck_tools.c_tokens import Lines, tokens_of
 from ccheck_tools.c_types import parameters_of
+from ccheck_tools.objects import elements, objects_for
 from ccheck_tools.old_style import new_parameters
 from ccheck_tools.rewriting import Assumption
 
@@ -153,50 +154,15 @@ def objects_entry(name, parameters, kinds, types, options):
             arguments.append(own)
             continue
         pointed = types.pointed(spec, declarator) if kind == "pointer" else None
-        made = object_lines(number, pointed, types, options) if pointed else None
+        made = objects_for(own, pointed, types, options) if pointed else None
         if made is None:
             sentence = f"parameter {number} of {name} is of a type of which no fresh object is made"
             return Entry(name, name, fault=sentence)
-        outside += made[0]
-        inside += made[1]
-        arguments.append(own if types.kind(*pointed) == "void" or is_char(pointed) else f"{own}.value")
+        outside += made.outside
+        inside += made.inside
+        arguments.append(made.argument)
     lines = [*outside, f"void {ENTRY}({', '.join(taken) or 'void'})", "{", *inside,
              f"    {name}({', '.join(arguments)});", "}"]
     return Entry(ENTRY, name, lines, [Assumption(
-        f"runs start at {name}, with any numbers and with pointers to fresh objects ({plural(options.objects)}, "
-        f"strings of at most {options.argument_length} characters; pointers in them are null)")], function=name)
-
-
-def object_lines(number, pointed, types, options):
-    """Returns lines at file scope and in the entry that make objects filled from input; None where none can be."""
-    own, kind = f"ccheck_{number}", types.kind(*pointed)
-    if kind == "void" or is_char(pointed):
-        element = "char" if kind == "void" else type_text(pointed[0])
-        size = options.argument_length + 1
-        return [f"static {element} {own}[{size}];"], [f"    fgets((char *){own}, {size}, 0);"]
-    if kind not in ("integer", "struct") or any(it.text == "*" for it in pointed[1]):
-        return None
-    element = type_text(pointed[0])
-    if element is None:
-        return None
-    declaration = f"static struct {{ {element} value[{options.objects}]; char room[8]; }} {own};"
-    return [declaration], [f"    fgets((char *)&{own}, sizeof({own}.value) + 1, 0);"]
-
-
-def type_text(spec):
-    """Returns specifiers as the name of a type, without a struct's members; None for a struct without a tag."""
-    words = [it for it in spec if it.text not in QUALIFIERS | STORAGE_WORDS]
-    at = next((index for index, one in enumerate(words) if one.text == "{"), None)
-    if at is None:
-        return text_of(words)
-    return text_of(words[:at]) if at == 2 else None
-
-
-def is_char(pointed):
-    """Says whether a pointer is one to characters."""
-    return any(it.text == "char" for it in pointed[0]) and not any(it.text == "*" for it in pointed[1])
-
-
-def plural(number):
-    """Returns a number of elements in words."""
-    return "1 element" if number == 1 else f"{number} elements"
+        f"runs start at {name}, with any numbers and with pointers to fresh objects ({elements(options.objects)}, "
+        f"strings of at most {options.argument_length} characters; pointers in structs are null)")], function=name)

@@ -48,6 +48,11 @@ class Entries(DriverTest):
         self.assertEqual(["1:27 invptr"], self.found(text, "--objects"))
         self.assertEqual([], self.found(text, "--objects", "--object-count", "10"))
 
+    def test_pointers_to_pointers(self):
+        text = "int f(char **end, const char *const words[]) { *end = 0; return 1 / words[0][0] + words[1][0]; }\n"
+        self.assertEqual(["1:67 diverr", "1:91 nullref"], self.found(text, "--objects"))
+        self.assertEqual(["1:67 diverr"], self.found(text, "--objects", "--object-count", "2"))
+
     def test_typedefs_of_pointers(self):
         text = "typedef struct s { int n; } *handle;\nint f(handle h) { return 1 / h->n; }\n"
         self.assertEqual("NoEntry", self.refused(text)[0])
@@ -129,7 +134,8 @@ class StandIns(DriverTest):
 
     def test_the_place_of_a_diagnostic_in_a_stub(self):
         self.write("own/functions/strchr.c", "#error not this one\n")
-        report = self.analysed("#include <string.h>\nint main(void) { char a[2]; return strchr(a, 1) == 0; }\n", "-Iown")
+        text = "#include <string.h>\nint main(void) { char a[2]; return strchr(a, 1) == 0; }\n"
+        report = self.analysed(text, "-Iown")
         self.assertEqual([os.path.join(stub_folder(), "functions", "strchr.c")],
                          [it["file"] for it in report["diagnostics"]])
 
