@@ -63,6 +63,7 @@ class Analysis:
         self.outcome = Outcome(compilation.source, notes=list(compilation.notes))
         self.refused_whole = False      # a refusal that does not depend on the entry has come
         self.analysed = False           # ccheck has accepted the unit from some entry on
+        self.started = {}               # functions at which runs started, by what they were called with
 
     def run(self):
         """Returns the outcome."""
@@ -75,6 +76,8 @@ class Analysis:
         except (UnitFault, CommandFault) as fault:
             self.outcome.faults.append(Fault(str(fault)))
         self.outcome.diagnostics = sorted(set(self.outcome.diagnostics), key=self.order)
+        self.outcome.assumed += [Assumption(f"runs start at {', '.join(names)}, {passed}")
+                                 for passed, names in self.started.items()]
         self.outcome.assumed = list(dict.fromkeys(self.outcome.assumed)) if self.analysed else []
         return self.outcome
 
@@ -178,6 +181,8 @@ class Analysis:
         if status in (reports.CLEAN, reports.FOUND):
             self.analysed = True
             self.outcome.assumed += entry.told
+            if entry.passed:
+                self.started.setdefault(entry.passed, []).append(entry.function)
             self.outcome.diagnostics += [self.mapped(it) for it in report.diagnostics]
             if self.options.replay:
                 self.outcome.ends.append((entry.shown, report.end, report.used))

@@ -9,6 +9,7 @@ from ccheck_tools.old_style import new_parameters
 from ccheck_tools.rewriting import Assumption
 
 ENTRY = "ccheck_entry"
+NUMBERS = "with any numbers"
 
 
 @dataclasses.dataclass
@@ -21,6 +22,7 @@ class Entry:
     fault: str = ""             # why there is no such entry, "" where there is one
     probe: list = dataclasses.field(default_factory=list)       # lines that call the function, to see if it is there
     function: str = ""          # the function of the unit that runs begin with
+    passed: str = ""            # what it is called with, where a report says so
 
     def __post_init__(self):
         self.function = self.function or self.name
@@ -82,7 +84,6 @@ def function_entry(name, facts, types, options):
     if name not in facts.definitions:
         return Entry(name, name)
     found = facts.definitions[name][1]
-    told = [Assumption(f"runs start at {name}, with any numbers")] if name != "main" else []
     if found.old_style_names():
         found = new_declarator(facts.definitions[name][0], found)
     parameters = parameters_of(found)
@@ -90,8 +91,8 @@ def function_entry(name, facts, types, options):
     if all(kind == "integer" for kind in kinds):
         probe = integer_probe(name, parameters)
         if name in facts.macros:        # its own name is another one
-            return Entry(ENTRY, name, probe, told, function=name)
-        return Entry(name, name, told=told, probe=probe)
+            return Entry(ENTRY, name, probe, function=name, passed=NUMBERS)
+        return Entry(name, name, probe=probe, passed="" if name == "main" else NUMBERS)
     if not options.objects:
         sentence = f"{name} has a parameter that is not an integer; --objects passes fresh objects to it"
         return Entry(name, name, fault=sentence, probe=[f"int {ENTRY}(void) {{ {name}(); return 0; }}"])
@@ -163,6 +164,6 @@ def objects_entry(name, parameters, kinds, types, options):
         arguments.append(made.argument)
     lines = [*outside, f"void {ENTRY}({', '.join(taken) or 'void'})", "{", *inside,
              f"    {name}({', '.join(arguments)});", "}"]
-    return Entry(ENTRY, name, lines, [Assumption(
-        f"runs start at {name}, with any numbers and with pointers to fresh objects ({elements(options.objects)}, "
-        f"strings of at most {options.argument_length} characters; pointers in structs are null)")], function=name)
+    passed = (f"with any numbers and with pointers to fresh objects ({elements(options.objects)}, "
+              f"strings of at most {options.argument_length} characters; pointers in structs are null)")
+    return Entry(ENTRY, name, lines, function=name, passed=passed)
