@@ -18,6 +18,7 @@ class Including:
         self.sources, self.facts, self.model, self.options, self.stubs = sources, facts, model, options, stubs
         self.told, self.kept_attributes = [], []
         self.left_out = set()       # macros of ours that the unit defines itself
+        self.other_names = set()    # stubs whose names the unit has for something else
         self.macros = self.all_macros()
 
     def all_macros(self):
@@ -25,6 +26,9 @@ class Including:
         found = dict(predefined.data_macros(self.model))
         found.update(predefined.language_macros(self.sources.compilation.standard))
         words = self.facts.words
+        used = sorted(it for it in found if words[it])
+        if used:
+            self.tell(f"macros that a compiler predefines: {', '.join(used)}")
         for word, text in predefined.RENAMED.items():
             if words[word]:
                 found[word] = text
@@ -82,7 +86,7 @@ class Including:
         """Returns the files of the stub functions that the unit calls and does not define, and what they assume."""
         names = self.facts.called | {it.removeprefix(BUILTIN) for it in self.facts.called}
         taken = sorted(it for it in names if it in self.stubs and it not in self.facts.definitions
-                       and it not in self.facts.macros)
+                       and it not in self.facts.macros | self.other_names)
         return {name: self.stubs[name] for name in taken}
 
     def before(self):
@@ -111,6 +115,9 @@ class Including:
             path = f"{folder}/{copy_name(key)}"
             os.makedirs(os.path.dirname(path), exist_ok=True)
             write_file(path, source.edited.text)
+        link = f"{folder}/functions"
+        if not os.path.lexists(link):
+            os.symlink(os.path.join(self.sources.stubs, "functions"), link)
 
     def write_unit(self, folder, after):
         """Writes the including unit into a folder."""
