@@ -37,9 +37,9 @@ class Finds(ToolTest):
     def test_headers_that_the_unit_includes_are_searched(self):
         self.file("inc/part.h", "static int part(int n) { if (n == 77) return 1 / (n - 77); return 0; }\n")
         self.file("a.c", '#include "part.h"\n#include <stdio.h>\nint main(void) { return part(getchar()); }\n')
-        for place in ("1", "1:1", "inc/part.h:1", "inc/part.h:1:48"):
-            column = self.ccheck("check", "a.c", "inc")[1].split(":")[2]
-            words = ["a.c", place.replace("1:1", f"1:{column}").replace(":48", f":{column}"), "--tag", "diverr", "inc"]
+        column = self.ccheck("check", "a.c", "inc")[1].split(":")[2]
+        for place in ("1", f"inc/part.h:1:{column}"):
+            words = ["a.c", place, "--tag", "diverr", "inc"]
             self.assertEqual(self.tool("show-me", *words)[:2], (0, "77\n"), place)
         self.assertEqual(self.tool("show-me", "a.c", "a.c:1", "--tag", "diverr", "inc")[0], 1)
         self.assertEqual(self.tool("show-me", "a.c", "x", "inc")[0], 2)
