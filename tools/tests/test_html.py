@@ -102,10 +102,10 @@ class Pages(ToolTest):
 
     def test_faults(self):
         self.assertEqual(self.tool("ccheck-html")[0], 2)
-        self.assertEqual(self.tool("ccheck-html", "--report", "missing")[0], 1)
+        self.assertEqual(self.tool("ccheck-html", "--report", "missing")[0], 2)
         self.file("pages", "a file\n")
         self.file("a.c", "int main(void) { return 0; }\n")
-        self.assertEqual(self.tool("ccheck-html", "--out", "pages", "a.c")[0], 1)
+        self.assertEqual(self.tool("ccheck-html", "--out", "pages", "a.c")[0], 2)
 
     def test_a_browser_shows_it(self):
         needs("chromium")
