@@ -35,12 +35,14 @@ class World(NamedTuple):
     """What the outside is like: its text, which allocations fail, what printf gives, and the entry's arguments.
 
     `denied` counts allocations from 1; 0 in it denies all of them. The default of `printed` is not a character, so
-    that a character that was guessed wrongly is seen.
+    that a character that was guessed wrongly is seen. With `is_bare` fgets gives lines without their ends, which no stream
+    does but `replay` takes: ccheck-cc makes arguments of main from such lines.
     """
     text: bytes = b""
     denied: frozenset = frozenset()
     printed: int = 1000
     numbers: tuple = ()
+    is_bare: bool = False
 
 
 class Answers:
@@ -67,7 +69,8 @@ class Answers:
         end = left.find(b"\n")
         line = left if end < 0 else left[:end + 1]
         self.at += len(line)
-        self.draws += [1, len(line), *line] if line else [0]
+        shown = line.removesuffix(b"\n") if self.world.is_bare else line
+        self.draws += [1, len(shown), *shown] if line else [0]
 
     def give_memory(self, _):
         """Answers whether there is memory."""

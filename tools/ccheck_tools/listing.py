@@ -8,9 +8,9 @@ EXACT = ("boolasgn", "sizeofptr", "swtchdflt")
 
 
 class Shown(NamedTuple):
-    """A diagnostic, and the run that shows it: its input as text or None, its draws, or no run."""
+    """A diagnostic, and the run that shows it: its input in words or None, its draws, or no run."""
     one: object
-    text: bytes | None = None
+    text: str | None = None
     draws: tuple | None = None
 
     @property
@@ -23,6 +23,14 @@ def quoted(data):
     """Returns input as the text of a C literal."""
     names = {10: "\\n", 9: "\\t", 13: "\\r", 0: "\\0", 34: '\\"', 92: "\\\\"}
     return '"' + "".join(names.get(it, chr(it) if 32 <= it < 127 else f"\\x{it:02x}") for it in data) + '"'
+
+
+def input_of(world):
+    """Returns the input of a world in words, or None where the entry has arguments or there is no world."""
+    if world is None or world.numbers:
+        return None
+    text = shortened(quoted(world.text))
+    return f"{text}, as lines without their ends" if world.is_bare else text
 
 
 def shortened(text, most=160):
@@ -69,7 +77,7 @@ def remark(shown, has_searched):
         return head + ('<div class="more">No run was found that shows it. It may be a false alarm.</div>'
                        if has_searched else "")
     numbers = shortened(" ".join(map(str, shown.draws))) or "no draws"
-    text = f"A run shows it, over the input <code>{html.escape(shortened(quoted(shown.text)))}</code>" \
+    text = f"A run shows it, over the input <code>{html.escape(shown.text)}</code>" \
         if shown.text is not None else "A run shows it"
     return head + f'<div class="more">{text}<br>Draws: <code>{numbers}</code></div>'
 

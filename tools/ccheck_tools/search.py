@@ -139,6 +139,8 @@ class Search:
         for text in [bytes([it]) for it in named.characters] + named.words()[:60] + [b"\n", b"a", b"\xff", b"-1", b"0"]:
             yield dialogues.World(text + b"\n")
             yield dialogues.World(text)
+            if "line" in self.asked:
+                yield dialogues.World((text + b"\n") * 2, is_bare=True)
         for length in named.lengths[:80]:
             yield dialogues.World(b"a" * length)
             yield dialogues.World(b"a" * length + b"\n")
@@ -231,12 +233,15 @@ class Search:
         """Returns a world with a few changes of what the unit asks for."""
         ways = (["number"] * 6 + ["text"] * 6) if world.numbers else ["text"] * 6
         ways = [it for it in ways + ["memory", "printed"] if it in self.asked or it == "text" and self.asks_text]
+        ways += ["bare"] if "line" in self.asked else []
         for _ in range(self.chance.choice([1, 1, 2, 3, 5]) if ways else 0):
             way = self.chance.choice(ways)
             if way == "number":
                 world = self.changed_numbers(world)
             elif way == "text":
                 world = world._replace(text=self.changed_text(world.text)[:TEXT_AT_MOST])
+            elif way == "bare":
+                world = world._replace(is_bare=not world.is_bare)
             elif way == "memory":
                 world = world._replace(denied=world.denied ^ {self.chance.randint(1, DENIED_AT_MOST)})
             else:

@@ -44,6 +44,15 @@ class Finds(ToolTest):
         self.assertEqual(self.tool("show-me", "a.c", "a.c:1", "--tag", "diverr", "inc")[0], 1)
         self.assertEqual(self.tool("show-me", "a.c", "x", "inc")[0], 2)
 
+    def test_lines_without_their_ends_are_tried(self):
+        self.file("a.c", "#include <stdio.h>\n#include <string.h>\nint main(void)\n{\n    char one[8] = \"\", two[8] = \"\";\n"
+                         "    if (fgets(one, 8, stdin) == NULL || fgets(two, 8, stdin) == NULL)\n        return 0;\n"
+                         "    if (strcmp(one, \"-x\") == 0)\n        return 1 / (one[0] - '-');\n    return 0;\n}\n")
+        status, draws, why = self.tool("show-me", "a.c", "9", "--tag", "diverr")
+        self.assertEqual(status, 0)
+        self.assertTrue(draws.startswith("1 2 45 120 "), draws)
+        self.assertIn("lines without their ends", why)
+
     def test_a_false_alarm_has_no_run(self):
         status, text, why = self.tool("show-me", f"{EXAMPLES}/average.c", "12", "--tries", "100")
         self.assertEqual((status, text), (1, ""))

@@ -130,7 +130,8 @@ class Statuses(ToolTest):
                 line = f'"$0" {TOOLS}/"$@" {output}'
                 status, _, why = self.call("sh", "-c", line, sys.executable, *words)
                 self.assertEqual(status, lost, words)
-                self.assertEqual(why.count("\n"), 1, why)
+                self.assertEqual(why.count(": the output "), 1, why)
+                self.assertNotIn("Traceback", why)
 
     def test_a_second_unit_is_named(self):
         self.file("a.c", "int main(void) { return 0; }\n")
