@@ -12,7 +12,7 @@ from ccheck_tools.facts import Facts
 from ccheck_tools.including_unit import UNIT, Including, copy_name, write_file
 from ccheck_tools.library import BUILT_IN, BUILT_IN_HEADERS, stub_folder, stub_functions
 from ccheck_tools.predefined import model_of
-from ccheck_tools.refusal_words import explained
+from ccheck_tools.refusal_words import explained, tokens_from
 from ccheck_tools.rewriting import Assumption, rewrite
 from ccheck_tools.sources import Sources, UnitFault
 from ccheck_tools.stand_ins import INPUT_LINES, stand_ins
@@ -49,6 +49,12 @@ class Outcome:
         return not self.faults
 
 
+def shown_line(text):
+    """Returns a line of source for a report: characters that a terminal would obey are shown as `?`."""
+    text = text.encode("latin-1").decode("utf-8", "replace")
+    return "".join(one if one.isprintable() or one == "\t" else "?" for one in text)
+
+
 class Analysis:
     """Analyses one unit in a folder of its own."""
 
@@ -56,6 +62,7 @@ class Analysis:
         self.compilation, self.folder, self.options, self.program = compilation, folder, options, program
         self.outcome = Outcome(compilation.source, notes=list(compilation.notes))
         self.refused_whole = False      # a refusal that does not depend on the entry has come
+        self.analysed = False           # ccheck has accepted the unit from some entry on
 
     def run(self):
         """Returns the outcome."""
@@ -68,7 +75,7 @@ class Analysis:
         except (UnitFault, CommandFault) as fault:
             self.outcome.faults.append(Fault(str(fault)))
         self.outcome.diagnostics = sorted(set(self.outcome.diagnostics), key=self.order)
-        self.outcome.assumed = list(dict.fromkeys(self.outcome.assumed))
+        self.outcome.assumed = list(dict.fromkeys(self.outcome.assumed)) if self.analysed else []
         return self.outcome
 
     def order(self, diagnostic):
@@ -167,6 +174,7 @@ class Analysis:
             return False
         self.outcome.entries += 1
         if status in (reports.CLEAN, reports.FOUND):
+            self.analysed = True
             self.outcome.assumed += entry.told
             self.outcome.diagnostics += [self.mapped(it) for it in report.diagnostics]
             if self.options.replay:
@@ -179,9 +187,22 @@ class Analysis:
         """Runs ccheck from an entry, without macros of ours that the unit defines itself."""
         verb = "replay" if self.options.replay else "check"
         status, report = self.call(verb, entry)
-        while status == reports.REFUSED and self.drops_macro(report.refusal):
+        while status == reports.REFUSED and (self.drops_macro(report.refusal) or self.drops_stub(report.refusal)):
             status, report = self.call(verb, entry)
         return status, report
+
+    def drops_stub(self, refusal):
+        """Leaves out a stub function, where the unit has its name for something else."""
+        if refusal is None or refusal.word != "Redeclared":
+            return False
+        source, line, column = self.place(refusal)
+        name = tokens_from(source, line, column)[:1] if source else []
+        if not name or name[0].text not in self.including.used_stubs():
+            return False
+        self.including.other_names.add(name[0].text)
+        prefix = f"{name[0].text} is the stub of ccheck"
+        self.outcome.assumed = [it for it in self.outcome.assumed if not it.sentence.startswith(prefix)]
+        return True
 
     def defines(self, entry):
         """Says whether the function of an entry is in a group of the unit that is taken."""
@@ -236,7 +257,7 @@ class Analysis:
             mapped = self.mapped(report.refusal)
             self.refused_whole = report.refusal.word not in OF_ENTRY and source is not None
             word = f"{mapped.word} {mapped.rest}" if mapped.word in WITH_NAME else mapped.word
-            fault = Fault(mapped.as_text(), word, mapped, source.edited.original.line(line) if source else "",
-                          explained(self, report.refusal))
+            text = shown_line(source.edited.original.line(line)) if source else ""
+            fault = Fault(mapped.as_text(), word, mapped, text, explained(self, report.refusal))
         if fault not in self.outcome.faults:
             self.outcome.faults.append(fault)

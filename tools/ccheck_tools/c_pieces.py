@@ -265,7 +265,7 @@ def renamed(found, parameters):
 
 
 def plausible_spec(spec):
-    """Says whether tokens can be declaration specifiers: no name follows a type word, but for a tag."""
+    """Says whether tokens can be declaration specifiers: no name follows a type word, except a tag."""
     typed = False
     for index, one in enumerate(spec):
         if one.text == "*" and index + 1 < len(spec) and spec[-1].kind == "name":

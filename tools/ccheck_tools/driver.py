@@ -146,10 +146,16 @@ def analysed(options, compilations):
         return run_all(compilations, options, program, folder)
 
 
-def main(words):
-    """Runs the command. Returns its exit status."""
+def read_options(words):
+    """Returns ccheck-cc's own options, and the words of the compiler's command line."""
     options, rest = parser().parse_known_args(words)
     options.objects = options.object_count if options.objects else 0
+    return options, rest
+
+
+def main(words):
+    """Runs the command. Returns its exit status."""
+    options, rest = read_options(words)
     try:
         compilations = compilations_of(rest)
         if not compilations:

@@ -18,6 +18,7 @@ class Including:
         self.sources, self.facts, self.model, self.options, self.stubs = sources, facts, model, options, stubs
         self.told, self.kept_attributes = [], []
         self.left_out = set()       # macros of ours that the unit defines itself
+        self.other_names = set()    # stubs whose names the unit has for something else
         self.macros = self.all_macros()
 
     def all_macros(self):
@@ -82,7 +83,7 @@ class Including:
         """Returns the files of the stub functions that the unit calls and does not define, and what they assume."""
         names = self.facts.called | {it.removeprefix(BUILTIN) for it in self.facts.called}
         taken = sorted(it for it in names if it in self.stubs and it not in self.facts.definitions
-                       and it not in self.facts.macros)
+                       and it not in self.facts.macros | self.other_names)
         return {name: self.stubs[name] for name in taken}
 
     def before(self):

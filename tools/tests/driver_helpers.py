@@ -5,11 +5,12 @@ import subprocess
 import sys
 import tempfile
 import unittest
+import unittest.mock
 
 TOOLS = os.path.dirname(os.path.dirname(os.path.realpath(__file__)))
 sys.path.insert(0, TOOLS)
 
-from ccheck_tools import reports  # noqa: E402
+from ccheck_tools import driver, merged, reports  # noqa: E402
 
 DRIVER = os.path.join(TOOLS, "ccheck-cc")
 GOOD = "int main(void) { return 0; }\n"
@@ -50,10 +51,16 @@ class DriverTest(unittest.TestCase):
         return done.returncode, (done.stdout or b"").decode(), done.stderr.decode()
 
     def analysed(self, text, *words):
-        """Runs ccheck-cc over one unit unit.c with a text. Returns its JSON report."""
+        """Analyses one unit unit.c with a text in this process. Returns its JSON report."""
         self.write("unit.c", text)
-        _, output, _ = self.run_driver("--format", "json", "unit.c", *words)
-        return json.loads(output)
+        here = os.getcwd()
+        os.chdir(self.folder)
+        try:
+            with unittest.mock.patch.dict(os.environ, {"CCHECK": self.program}):
+                options, rest = driver.read_options(["--jobs", "1", "unit.c", *words])
+                return json.loads(merged.as_json(driver.analysed(options, driver.compilations_of(rest))))
+        finally:
+            os.chdir(here)
 
     def found(self, text, *words):
         """Returns the diagnostics of a unit as `LINE:COLUMN RULE`; the unit has to be accepted."""

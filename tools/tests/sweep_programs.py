@@ -1,10 +1,11 @@
 #!/usr/bin/env python3
-"""sweep_programs.py FOLDER [--driver-option WORD].. [--abort-violates]: compares ccheck-cc with runs of real programs.
+"""sweep_programs.py FOLDER [--driver-option=WORD].. [--abort-violates] [--differences-only]: replays and real runs.
 
 Each C file of FOLDER that ccheck-cc accepts is built by gcc with -O0 -fsanitize=address,undefined and run without
 input. Where the program ends with 0 and without a report of a sanitizer, the same including unit is replayed over a
 file of ones as draws, so that allocations succeed. The replay has to end with `ended`, and without a diagnostic.
 With --abort-violates a call of abort is a division by 0 for the replay, so that `ended` means that no abort was called.
+With --differences-only programs are built only where the replay differs.
 Prints one line for each difference and the counts; ends with 1 where there is a difference.
 """
 import argparse
@@ -27,6 +28,7 @@ def arguments():
     parser.add_argument("folder")
     parser.add_argument("--driver-option", action="append", default=[])
     parser.add_argument("--abort-violates", action="store_true")
+    parser.add_argument("--differences-only", action="store_true")
     parser.add_argument("--steps", default="1000000")
     return parser.parse_args()
 
@@ -58,15 +60,34 @@ def runs_clean(path, folder):
     return done.returncode == 0 and b"Sanitizer" not in done.stderr and b"runtime error" not in done.stderr
 
 
-def difference(path, words):
-    """Replays a unit. Returns how its run differs from an ordinary end, "" where it does not."""
-    report = driver(["--replay", "--arguments", "0", *words, path])
-    unit = report["units"][0]
-    if not unit["accepted"]:
-        return f"not replayed: {unit['not_analysed'][0]['text']}"
-    ends = {it["end"] for it in unit["ends"]}
-    found = [f"{it['line']}:{it['column']} {it['rule']}" for it in report["diagnostics"]]
-    return "" if ends == {"ended"} and not found else f"{' '.join(sorted(ends))}: {', '.join(found)}"
+def replays(files, words):
+    """Replays units. Returns by file how its run differs from an ordinary end, "" where it does not."""
+    report = driver(["--replay", "--arguments", "0", *words, *files])
+    places = {}
+    for it in report["diagnostics"]:
+        places.setdefault(it["file"], []).append(f"{it['line']}:{it['column']} {it['rule']}")
+    found = {}
+    for unit in report["units"]:
+        ends = {it["end"] for it in unit.get("ends", ())}
+        if not unit["accepted"]:
+            found[unit["unit"]] = f"not replayed: {unit['not_analysed'][0]['text']}"
+        elif ends == {"ended"} and not unit["diagnostics"]:
+            found[unit["unit"]] = ""
+        else:
+            found[unit["unit"]] = f"{' '.join(sorted(ends))}: {', '.join(places.get(unit['unit'], []))}"
+    return found
+
+
+def all_replays(files, words):
+    """Replays units without draws, and those that ask for input over ones. Returns how they differ, and who asked."""
+    told = replays(files, words)
+    asked = [path for path, text in told.items() if text.startswith("draws")]
+    with tempfile.NamedTemporaryFile("w", suffix=".txt") as ones:
+        ones.write("1 " * 65000 + "\n")
+        ones.flush()
+        if asked:
+            told.update(replays(asked, [*words, "--draws", ones.name]))
+    return told, asked
 
 
 def main():
@@ -75,25 +96,19 @@ def main():
     files = files_below(asked.folder)
     accepted = [it["unit"] for it in driver([*asked.driver_option, *files])["units"] if it["accepted"]]
     print(f"{len(files)} files, {len(accepted)} accepted, {100 * len(accepted) / len(files):.1f} %", flush=True)
-    clean, different, inputs = 0, 0, 0
+    words = ["--steps", asked.steps, *asked.driver_option, *(ABORT if asked.abort_violates else [])]
+    told, inputs = all_replays(accepted, words)
+    looked_at = [it for it in accepted if told[it] or not asked.differences_only]
+    clean = []
     with tempfile.TemporaryDirectory() as folder:
-        draws = os.path.join(folder, "ones.txt")
-        with open(draws, "w", encoding="utf-8") as file:
-            file.write("1 " * 65000 + "\n")
-        words = ["--steps", asked.steps, *asked.driver_option, *(ABORT if asked.abort_violates else [])]
-        for path in accepted:
-            if not runs_clean(path, folder):
-                continue
-            clean += 1
-            told = difference(path, words)
-            if told.startswith("draws"):
-                inputs += 1
-                told = difference(path, [*words, "--draws", draws])
-            if told:
-                different += 1
-                print(f"{path}: {told}", flush=True)
-    print(f"{clean} programs ended with 0 and without a report; {inputs} of them ask for input; "
-          f"{clean - different} of the replays ended")
+        for path in looked_at:
+            if runs_clean(path, folder):
+                clean.append(path)
+                if told[path]:
+                    print(f"{path}: {told[path]}", flush=True)
+    different = [it for it in clean if told[it]]
+    print(f"{len(looked_at)} programs looked at, {len(clean)} of them end with 0 and without a report, "
+          f"{len(set(clean) & set(inputs))} of these ask for input; {len(different)} replays differ")
     sys.exit(1 if different else 0)
 
 

@@ -114,7 +114,7 @@ class Database(DriverTest):
 class Predefined(unittest.TestCase):
     """The predefined macros have the text that gcc gives them."""
 
-    def test_beside_gcc(self):
+    def test_against_gcc(self):
         for model, options, signed in (("lp64", [], True), ("ilp32", ["-m32"], True),
                                        ("lp64", ["-funsigned-char"], False)):
             done = subprocess.run(["gcc", "-std=gnu17", "-dM", "-E", *options, "-x", "c", "/dev/null"],

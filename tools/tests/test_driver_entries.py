@@ -68,7 +68,8 @@ class Entries(DriverTest):
         self.assertIn("the macro ALL in line 3 may define functions", self.refused(all_made)[1])
 
     def test_main_after_calls_of_macros(self):
-        text = "#define MAKE(n) int n(int x) { return 1 / x; }\nMAKE(one)\nMAKE(two)\nint main(void) { return two(0); }\n"
+        text = "#define MAKE(n) int n(int x) { return 1 / x; }\nMAKE(one)\nMAKE(two)\n" \
+               "int main(void) { return two(0); }\n"
         self.assertEqual(["3:1 diverr"], self.found(text))
 
     def test_parameters_in_macros(self):
@@ -117,6 +118,12 @@ class StandIns(DriverTest):
                "int main(void) { return strchr(\"a\", 0) == 0; }\n"
         self.assertEqual([], self.found(text))
         self.assertNotIn("strchr is the stub", self.assumed(text))
+
+
+    def test_an_object_with_the_name_of_a_stub_function(self):
+        text = "int index;\n#define AT(index) (index (3))\nint main(void) { return index; }\n"
+        self.assertEqual([], self.found(text))
+        self.assertEqual("", self.assumed(text))
 
 
 class Replays(DriverTest):

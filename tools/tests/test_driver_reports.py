@@ -61,6 +61,14 @@ class Refusals(DriverTest):
         self.assertEqual(("union u { int i; char c; };", 2, 1), (fault["source"], fault["line"], fault["column"]))
 
 
+    def test_characters_that_a_terminal_obeys(self):
+        fault = self.analysed("int main(void) { return \"a\bé\"; }\n")["units"][0]["not_analysed"][0]
+        self.assertEqual(("BadByte", "int main(void) { return \"a?é\"; }"), (fault["word"], fault["source"]))
+
+    def test_nothing_is_assumed_of_a_unit_that_is_refused(self):
+        self.assertEqual("", self.assumed("extern void abort(void);\n" + UNION))
+
+
 class Formats(DriverTest):
     """Text, JSON and SARIF."""
 

@@ -1,4 +1,4 @@
-"""The stub functions beside the C library here: the same values on a thousand inputs, built by gcc."""
+"""The stub functions compared with the C library here: the same values on a thousand inputs, built by gcc."""
 import os
 import shutil
 import subprocess
@@ -123,7 +123,7 @@ for _size, _type in ((16, "unsigned short"), (32, "unsigned int"), (64, "unsigne
 
 
 def text_of_stub(path, names):
-    """Returns the text of a stub with all names of stubs renamed, so that it can be beside the library's."""
+    """Returns the text of a stub with all names of stubs renamed, so that both can be in one program."""
     lines = [f"#define {name} stub_{name}" for name in names]
     with open(path, encoding="utf-8") as file:
         text = file.read()
@@ -155,7 +155,7 @@ class Stubs(DriverTest):
         self.assertEqual(set(), set(self.functions) & BUILT_IN)
 
     @unittest.skipUnless(shutil.which("gcc"), "gcc is not here")
-    def test_values_beside_the_library(self):
+    def test_values_against_the_library(self):
         with tempfile.TemporaryDirectory() as folder:
             source = os.path.join(folder, "harness.c")
             with open(source, "w", encoding="utf-8") as file:
@@ -189,7 +189,7 @@ class Stubs(DriverTest):
             self.assertEqual(b"0 diagnostics in all.c\n", done.stdout)
 
     @unittest.skipUnless(shutil.which("gcc"), "gcc is not here")
-    def test_stdint_beside_gcc(self):
+    def test_stdint_against_gcc(self):
         """Sizes and limits of <stdint.h> are those of the compiler."""
         lines = []
         for bits in (8, 16, 32, 64):
