@@ -64,7 +64,10 @@ class Answers:
         self.at += 1
 
     def give_line(self, kind):
-        """Answers with the next line, as far as there is room for it, or with 0."""
+        """Answers with the next line, as far as there is room for it, or with 0; without room nothing is read."""
+        if kind.high == 0:
+            self.draws += [1, 0]
+            return
         left = self.world.text[self.at:self.at + kind.high]
         end = left.find(b"\n")
         line = left if end < 0 else left[:end + 1]
@@ -159,9 +162,21 @@ class Questions:
     def memory_or_line(self, draws):
         """Which of the two a draw of 0 or 1 is for. A length follows that of a line."""
         then = [*draws, 1]
-        if not self.is_asked(then) or self.takes(then, -1) or not self.takes(then, 2) or self.takes(then, GREATEST_INT):
+        if not self.is_asked(then) or self.takes(then, -1):
+            return MEMORY
+        if not self.takes(then, 2):
+            return self.memory_or_short_line(then)
+        if self.takes(then, GREATEST_INT):
             return MEMORY
         return Kind("line", 0, self.greatest(then, 2, GREATEST_INT - 1))
+
+    def memory_or_short_line(self, then):
+        """The same, where what follows is 0 or 1: the length of a line with room for one character, or for none."""
+        if not self.takes(then, 1):
+            return Kind("line", 0, 0)
+        more = [*then, 1]
+        is_character = self.is_asked(more) and self.takes(more, 255) and not self.takes(more, 256)
+        return Kind("line", 0, 1) if is_character and not self.takes(more, -1) else MEMORY
 
 
 class Dialogue:
@@ -260,7 +275,7 @@ def line_faults(line, room, number, is_over):
     faults = []
     if is_over:
         faults.append(f"draw {number} is a line after the end of the input")
-    if not line:
+    if not line and room:
         faults.append(f"draw {number} is a line without characters")
     if 10 in line[:-1]:
         faults.append(f"draw {number} is a line with a line end before its last character")
