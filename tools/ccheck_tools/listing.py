@@ -3,6 +3,8 @@ import html
 import re
 from typing import NamedTuple
 
+from ccheck_tools import reports
+
 NAME = re.compile(rb"[A-Za-z_]\w*|\d\w*|&&|\|\||[-+*/%&|^<>=!]=|<<|>>|->|\+\+|--")
 EXACT = ("boolasgn", "sizeofptr", "swtchdflt")
 
@@ -17,6 +19,22 @@ class Shown(NamedTuple):
     def kind(self):
         """The class of the diagnostic on a page."""
         return "exact" if self.one.rule in EXACT else "open" if self.draws is None else "seen"
+
+
+class Refused(NamedTuple):
+    """The place at which a unit is refused, and the sentence on it."""
+    one: object
+    why: str
+    kind: str = "not"
+
+
+def refused(text):
+    """Returns the place of a refusal or a limit that begins a text, or None."""
+    found = reports.REFUSAL.match(text)
+    if not found:
+        return None
+    one = reports.Refusal(found["file"], int(found["line"]), int(found["column"]), found["kind"], found["word"], "")
+    return Refused(one, text[found.start("kind"):].split("\n")[0])
 
 
 def quoted(data):
@@ -67,8 +85,10 @@ def decoded(data):
 
 
 def remark(shown, has_searched):
-    """Returns the lines on one diagnostic."""
+    """Returns the lines on one diagnostic, or on a refusal."""
     one = shown.one
+    if shown.kind == "not":
+        return f'{html.escape(shown.why)} <span class="at">column {one.column}</span>'
     head = (f'<a class="rule" href="rules.html#{one.rule}">{one.rule}</a> {html.escape(one.text)}'
             f' <span class="at">column {one.column}</span>')
     if shown.kind == "exact":
@@ -101,4 +121,4 @@ def row_class(shown):
     if not shown:
         return ""
     kinds = {it.kind for it in shown}
-    return f' class="{"seen" if "seen" in kinds else "open" if "open" in kinds else "exact"}"'
+    return f' class="{next(it for it in ("seen", "open", "exact", "not") if it in kinds)}"'

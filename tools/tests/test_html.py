@@ -75,7 +75,9 @@ class Pages(ToolTest):
         text = "".join(found["src_average.c.html"].words)
         self.assertIn("src/../include/ring.h" if "src/../include/ring.h" in text else "include/ring.h", text)
         self.assertIn("refused: BadByte", "".join(found["index.html"].words))
-        self.assertIn('/* <b> & "x" */', "".join(found["src_bad.c.html"].words))
+        text = "".join(found["src_bad.c.html"].words)
+        self.assertIn('/* <b> & "x" */', text)
+        self.assertIn("refused: BadByte column 37", text)
 
     def test_reports_of_ccheck_and_of_the_driver(self):
         self.file("a.c", "int main(void) { int z = 0; return 1 / z; }\n")
