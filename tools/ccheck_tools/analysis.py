@@ -63,6 +63,7 @@ class Analysis:
         self.outcome = Outcome(compilation.source, notes=list(compilation.notes))
         self.refused_whole = False      # a refusal that does not depend on the entry has come
         self.analysed = False           # ccheck has accepted the unit from some entry on
+        self.started = {}               # functions at which runs started, by what they were called with
 
     def run(self):
         """Returns the outcome."""
@@ -75,6 +76,8 @@ class Analysis:
         except (UnitFault, CommandFault) as fault:
             self.outcome.faults.append(Fault(str(fault)))
         self.outcome.diagnostics = sorted(set(self.outcome.diagnostics), key=self.order)
+        self.outcome.assumed += [Assumption(f"runs start at {', '.join(names)}, {passed}")
+                                 for passed, names in self.started.items()]
         self.outcome.assumed = list(dict.fromkeys(self.outcome.assumed)) if self.analysed else []
         return self.outcome
 
@@ -120,6 +123,8 @@ class Analysis:
         known = self.facts.macros | {it.partition("(")[0] for it in self.including.macros} | {"__STDC__", "__cplusplus"}
         known |= {text.partition("=")[0] for _, text in self.compilation.macros}
         unknown = sorted(it for it in self.facts.conditions if it not in known)
+        found += [f"the pragma {word} in {place} changes what a compiler does and is passed over here"
+                  for word, place in self.facts.pragmas.items()]
         for name in unknown:
             found.append(f"a condition in {self.facts.conditions[name]} depends on {name}, which is not defined here "
                          "(-D or -U settles it)")
@@ -176,6 +181,8 @@ class Analysis:
         if status in (reports.CLEAN, reports.FOUND):
             self.analysed = True
             self.outcome.assumed += entry.told
+            if entry.passed:
+                self.started.setdefault(entry.passed, []).append(entry.function)
             self.outcome.diagnostics += [self.mapped(it) for it in report.diagnostics]
             if self.options.replay:
                 self.outcome.ends.append((entry.shown, report.end, report.used))
@@ -244,6 +251,8 @@ class Analysis:
 
     def own_name(self, file):
         """Returns the name of a file that is not the user's: a stub, or the including unit."""
+        if file.startswith(f"{self.folder}/functions/"):
+            return self.sources.stubs + file[len(self.folder):]
         return f"{self.outcome.unit} (unit made by ccheck-cc)" if file == f"{self.folder}/{UNIT}" else file
 
     def add_fault(self, status, report):

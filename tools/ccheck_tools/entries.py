@@ -1,13 +1,15 @@
 """Where runs of a unit begin: `main`, `main` with argument strings from input, or each function of a library."""
 import dataclasses
 
-from ccheck_tools.c_pieces import QUALIFIERS, STORAGE_WORDS, text_of
+from ccheck_tools.c_pieces import text_of
 from ccheck_tools.c_tokens import Lines, tokens_of
 from ccheck_tools.c_types import parameters_of
+from ccheck_tools.objects import elements, objects_for
 from ccheck_tools.old_style import new_parameters
 from ccheck_tools.rewriting import Assumption
 
 ENTRY = "ccheck_entry"
+NUMBERS = "with any numbers"
 
 
 @dataclasses.dataclass
@@ -20,6 +22,7 @@ class Entry:
     fault: str = ""             # why there is no such entry, "" where there is one
     probe: list = dataclasses.field(default_factory=list)       # lines that call the function, to see if it is there
     function: str = ""          # the function of the unit that runs begin with
+    passed: str = ""            # what it is called with, where a report says so
 
     def __post_init__(self):
         self.function = self.function or self.name
@@ -81,13 +84,15 @@ def function_entry(name, facts, types, options):
     if name not in facts.definitions:
         return Entry(name, name)
     found = facts.definitions[name][1]
-    told = [Assumption(f"runs start at {name}, with any numbers")] if name != "main" else []
     if found.old_style_names():
         found = new_declarator(facts.definitions[name][0], found)
     parameters = parameters_of(found)
     kinds = [types.kind(*it) for it in parameters]
     if all(kind == "integer" for kind in kinds):
-        return Entry(name, name, told=told, probe=integer_probe(name, parameters))
+        probe = integer_probe(name, parameters)
+        if name in facts.macros:        # its own name is another one
+            return Entry(ENTRY, name, probe, function=name, passed=NUMBERS)
+        return Entry(name, name, probe=probe, passed="" if name == "main" else NUMBERS)
     if not options.objects:
         sentence = f"{name} has a parameter that is not an integer; --objects passes fresh objects to it"
         return Entry(name, name, fault=sentence, probe=[f"int {ENTRY}(void) {{ {name}(); return 0; }}"])
@@ -150,50 +155,15 @@ def objects_entry(name, parameters, kinds, types, options):
             arguments.append(own)
             continue
         pointed = types.pointed(spec, declarator) if kind == "pointer" else None
-        made = object_lines(number, pointed, types, options) if pointed else None
+        made = objects_for(own, pointed, types, options) if pointed else None
         if made is None:
             sentence = f"parameter {number} of {name} is of a type of which no fresh object is made"
             return Entry(name, name, fault=sentence)
-        outside += made[0]
-        inside += made[1]
-        arguments.append(own if types.kind(*pointed) == "void" or is_char(pointed) else f"{own}.value")
+        outside += made.outside
+        inside += made.inside
+        arguments.append(made.argument)
     lines = [*outside, f"void {ENTRY}({', '.join(taken) or 'void'})", "{", *inside,
              f"    {name}({', '.join(arguments)});", "}"]
-    return Entry(ENTRY, name, lines, [Assumption(
-        f"runs start at {name}, with any numbers and with pointers to fresh objects ({plural(options.objects)}, "
-        f"strings of at most {options.argument_length} characters; pointers in them are null)")], function=name)
-
-
-def object_lines(number, pointed, types, options):
-    """Returns lines at file scope and in the entry that make objects filled from input; None where none can be."""
-    own, kind = f"ccheck_{number}", types.kind(*pointed)
-    if kind == "void" or is_char(pointed):
-        element = "char" if kind == "void" else type_text(pointed[0])
-        size = options.argument_length + 1
-        return [f"static {element} {own}[{size}];"], [f"    fgets((char *){own}, {size}, 0);"]
-    if kind not in ("integer", "struct") or any(it.text == "*" for it in pointed[1]):
-        return None
-    element = type_text(pointed[0])
-    if element is None:
-        return None
-    declaration = f"static struct {{ {element} value[{options.objects}]; char room[8]; }} {own};"
-    return [declaration], [f"    fgets((char *)&{own}, sizeof({own}.value) + 1, 0);"]
-
-
-def type_text(spec):
-    """Returns specifiers as the name of a type, without a struct's members; None for a struct without a tag."""
-    words = [it for it in spec if it.text not in QUALIFIERS | STORAGE_WORDS]
-    at = next((index for index, one in enumerate(words) if one.text == "{"), None)
-    if at is None:
-        return text_of(words)
-    return text_of(words[:at]) if at == 2 else None
-
-
-def is_char(pointed):
-    """Says whether a pointer is one to characters."""
-    return any(it.text == "char" for it in pointed[0]) and not any(it.text == "*" for it in pointed[1])
-
-
-def plural(number):
-    """Returns a number of elements in words."""
-    return "1 element" if number == 1 else f"{number} elements"
+    passed = (f"with any numbers and with pointers to fresh objects ({elements(options.objects)}, "
+              f"strings of at most {options.argument_length} characters; pointers in structs are null)")
+    return Entry(ENTRY, name, lines, function=name, passed=passed)

@@ -1,11 +1,12 @@
 """What the files of a unit say together: functions that are defined, declared and called, macros, words, conditions."""
 import collections
 
-from ccheck_tools.c_pieces import KEYWORDS, declarator_of, last_declarator, renamed, split_at
+from ccheck_tools.c_pieces import KEYWORDS, declarator_of, has_type, last_declarator, renamed, split_at
 from ccheck_tools.c_tokens import line_tokens
 from ccheck_tools.old_style import parameter_text
 
 
+PRAGMAS = ("pack", "push_macro", "pop_macro", "weak", "redefine_extname", "scalar_storage_order", "omp")
 NO_RETURN = ("noreturn", "__noreturn__", "_Noreturn")
 
 
@@ -17,6 +18,7 @@ class Facts:
         self.called, self.macros, self.conditions = set(), set(), {}
         self.words = collections.Counter()
         self.unnamed, self.bodies, self.no_return, self.objects = [], {}, set(), set()
+        self.pragmas, self.function_macros = {}, set()
         for one in sources.stub_files.values():
             self.macros.update(one.macros())
         for one in sources.files.values():
@@ -49,17 +51,19 @@ class Facts:
 
     def resolved(self, found):
         """Returns the declarator `int f P0()` as one of f, where P0 is a macro; None where no name is left."""
-        if found is None or found.by_macro or found.name.text not in self.macros:
+        name = found.name.text if found else ""
+        if name not in self.macros or found.by_macro:
             return found
         last = found.spec[-1] if found.spec else None
-        if last is None or last.text in KEYWORDS or found.stars:
-            return None
-        return renamed(found, [])
+        has_name = last is not None and last.text not in KEYWORDS and not found.stars
+        if name not in self.function_macros and not (has_name and has_type(found.spec[:-1])):
+            return found                # a macro that gives the function another name
+        return renamed(found, []) if has_name else None
 
     def is_macro_call(self, piece):
         """Says whether a piece begins with the call of a macro, so that its text says little."""
         found = declarator_of(piece.head)
-        return found is not None and found.name.text in self.macros
+        return found is not None and found.name.text in self.function_macros
 
     def closure(self):
         """Returns the macros whose text, or that of a macro in it, has a brace, and so may define functions."""
@@ -88,12 +92,15 @@ class Facts:
     def read_directives(self, source):
         """Takes macros and conditions of a file."""
         self.macros.update(source.macros())
+        self.function_macros.update(source.function_macros())
         for name, rest in source.directives():
             if name == "define":
                 tokens = line_tokens(rest)
                 self.read_calls(tokens[1:])
                 if tokens:
                     self.bodies.setdefault(tokens[0][1], set()).update(text for _, text in tokens[1:])
+            elif name == "pragma" and first_word(rest) in PRAGMAS:
+                self.pragmas.setdefault(first_word(rest), source.shown)
             elif name in ("if", "elif", "ifdef", "ifndef"):
                 for kind, text in line_tokens(rest):
                     if kind == "name" and text.startswith("__"):
@@ -103,3 +110,8 @@ class Facts:
         """Returns the parameter lists of the functions that are defined, in the new style."""
         found = {name: parameter_text(piece) for name, (piece, _, _) in self.definitions.items()}
         return {name: text for name, text in found.items() if text is not None}
+
+
+def first_word(rest):
+    """Returns the first word of a pragma, such as `pack` of `pack(1)`."""
+    return rest.partition("(")[0].strip().partition(" ")[0]

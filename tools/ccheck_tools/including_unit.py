@@ -26,6 +26,9 @@ class Including:
         found = dict(predefined.data_macros(self.model))
         found.update(predefined.language_macros(self.sources.compilation.standard))
         words = self.facts.words
+        used = sorted(it for it in found if words[it])
+        if used:
+            self.tell(f"macros that a compiler predefines: {', '.join(used)}")
         for word, text in predefined.RENAMED.items():
             if words[word]:
                 found[word] = text
@@ -112,6 +115,9 @@ class Including:
             path = f"{folder}/{copy_name(key)}"
             os.makedirs(os.path.dirname(path), exist_ok=True)
             write_file(path, source.edited.text)
+        link = f"{folder}/functions"
+        if not os.path.lexists(link):
+            os.symlink(os.path.join(self.sources.stubs, "functions"), link)
 
     def write_unit(self, folder, after):
         """Writes the including unit into a folder."""

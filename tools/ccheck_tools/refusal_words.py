@@ -167,7 +167,7 @@ def form(tokens, at, depth):
     if text[0] in ("{", ",") and text[1] == "." or text[0] in ("{", ",") and text[1] == "[" and depth:
         return "a designated initializer"
     if text[0] in ("struct", "enum") and depth and (text[1] == "{" or text[2] == "{") and before in ("{", "}", ";"):
-        return f"a {text[0]} body within a block" if not in_struct(tokens, at) else ""
+        return "" if in_struct(tokens, at) else f"{'an' if text[0] == 'enum' else 'a'} {text[0]} body within a block"
     if text[0] == "typedef" and depth:
         return "a typedef within a block"
     if text[0] == "extern" and depth:

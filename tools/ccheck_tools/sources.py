@@ -8,6 +8,7 @@ from ccheck_tools.edits import Edits
 
 INCLUDE = re.compile(r'"([^"\n]+)"|<([^>\n]+)>')
 MACRO = re.compile(r"[A-Za-z_]\w*")
+FUNCTION_MACRO = re.compile(r"([A-Za-z_]\w*)\(")
 SYSTEM_FOLDERS = ("/usr/include", "/usr/local/include", "/usr/lib/gcc", "/usr/lib/clang")
 
 
@@ -48,6 +49,11 @@ class Source:
         """Returns the names that the file defines as macros."""
         found = (MACRO.match(rest) for name, rest in self.directives() if name == "define")
         return {it[0] for it in found if it}
+
+    def function_macros(self):
+        """Returns the names that the file defines as macros with parameters."""
+        found = (FUNCTION_MACRO.match(rest) for name, rest in self.directives() if name == "define")
+        return {it[1] for it in found if it}
 
     def words(self):
         """Returns all names of the file, those in directives included, with repetition."""

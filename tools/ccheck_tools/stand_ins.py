@@ -1,8 +1,8 @@
 """Stand-ins: functions that a unit declares and calls but does not define get a body that returns input."""
 from ccheck_tools.c_pieces import STORAGE_WORDS, text_of
 from ccheck_tools.c_types import declared_name, parameters_of, result_of
-from ccheck_tools.entries import type_text
 from ccheck_tools.library import BUILT_IN
+from ccheck_tools.objects import type_text
 from ccheck_tools.rewriting import Assumption
 
 INPUT = "ccheck_input"

@@ -104,6 +104,12 @@ class Database(DriverTest):
         self.assertEqual(1, len(notes))
         self.assertIn("unit.c depends on __linux__, which is not defined here", notes[0])
 
+    def test_pragmas_that_change_the_meaning(self):
+        text = "#pragma once\n#pragma GCC diagnostic push\n#pragma pack(1)\n#pragma omp parallel\n" + GOOD
+        self.assertEqual(["the pragma pack in unit.c changes what a compiler does and is passed over here",
+                          "the pragma omp in unit.c changes what a compiler does and is passed over here"],
+                         self.analysed(text)["units"][0]["notes"])
+
     def test_unknown_options_are_told(self):
         self.write("good.c", GOOD)
         output = self.run_driver("-fwrapv", "good.c")[1]

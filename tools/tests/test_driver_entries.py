@@ -1,7 +1,9 @@
 """Where ccheck-cc lets runs begin: main, main with argument strings, functions of a library; and stand-ins."""
+import os
 import unittest
 
 from driver_helpers import DriverTest
+from ccheck_tools.library import stub_folder
 
 QUICK = True
 
@@ -46,6 +48,11 @@ class Entries(DriverTest):
         self.assertEqual(["1:27 invptr"], self.found(text, "--objects"))
         self.assertEqual([], self.found(text, "--objects", "--object-count", "10"))
 
+    def test_pointers_to_pointers(self):
+        text = "int f(char **end, const char *const words[]) { *end = 0; return 1 / words[0][0] + words[1][0]; }\n"
+        self.assertEqual(["1:67 diverr", "1:91 nullref"], self.found(text, "--objects"))
+        self.assertEqual(["1:67 diverr"], self.found(text, "--objects", "--object-count", "2"))
+
     def test_typedefs_of_pointers(self):
         text = "typedef struct s { int n; } *handle;\nint f(handle h) { return 1 / h->n; }\n"
         self.assertEqual("NoEntry", self.refused(text)[0])
@@ -75,6 +82,11 @@ class Entries(DriverTest):
     def test_parameters_in_macros(self):
         text = "#define P(x) x\n#define P1(n, a) (a)\nint f P((int n));\nint f P1((n), int n) { return 1 / n; }\n"
         self.assertEqual(["4:33 diverr"], self.found(text))
+
+    def test_macros_that_rename_functions(self):
+        text = "#define f my_f\n#define g my_g\n" \
+               "int f(int n) { return 1 / n; }\nint g(char *s) { return 1 / s[0]; }\n"
+        self.assertEqual(["3:25 diverr", "4:27 diverr"], self.found(text, "--objects"))
 
     def test_no_function(self):
         self.assertEqual([], self.found("int table[3] = { 1, 2, 3 };\n"))
@@ -119,6 +131,13 @@ class StandIns(DriverTest):
         self.assertEqual([], self.found(text))
         self.assertNotIn("strchr is the stub", self.assumed(text))
 
+
+    def test_the_place_of_a_diagnostic_in_a_stub(self):
+        self.write("own/functions/strchr.c", "#error not this one\n")
+        text = "#include <string.h>\nint main(void) { char a[2]; return strchr(a, 1) == 0; }\n"
+        report = self.analysed(text, "-Iown")
+        self.assertEqual([os.path.join(stub_folder(), "functions", "strchr.c")],
+                         [it["file"] for it in report["diagnostics"]])
 
     def test_an_object_with_the_name_of_a_stub_function(self):
         text = "int index;\n#define AT(index) (index (3))\nint main(void) { return index; }\n"

@@ -13,6 +13,7 @@ class Tokens(unittest.TestCase):
     """The lexer."""
 
     def kinds(self, text):
+        """Returns the kinds and texts of tokens."""
         return [(it.kind, it.text) for it in tokens_of(text)]
 
     def test_comments_literals_and_continued_lines(self):
@@ -59,6 +60,7 @@ class Pieces(unittest.TestCase):
     """Declarations and definitions at file scope."""
 
     def names(self, text):
+        """Returns the functions of a text: names, parameters, and whether there is a body."""
         found = [(declarator_of(it.head), it) for it in pieces_of(tokens_of(text))]
         return [(one.name.text, text_of(one.parameters), it.body is not None) for one, it in found if one]
 
@@ -150,6 +152,7 @@ class Rewriting(DriverTest):
                 "#if __STDC_VERSION__ >= 201112L\n__SIZE_TYPE__ n;\n_Static_assert(1, \"one\");\n"
                 "int main(void) { return n; }\n#endif\n#endif\n")
         self.assertEqual([], self.found(text))
+        self.assertIn("macros that a compiler predefines: __BYTE_ORDER__, __INT_MAX__, ", self.assumed(text))
 
     def test_a_macro_that_the_unit_defines_itself(self):
         text = "#define __attribute__(x)\n#define __inline\nint __inline __attribute__((y)) main(void) { return 0; }\n"

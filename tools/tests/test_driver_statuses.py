@@ -4,7 +4,7 @@ import shutil
 import subprocess
 import unittest
 
-from driver_helpers import BAD, GOOD, UNION, DriverTest
+from driver_helpers import BAD, DRIVER, GOOD, UNION, DriverTest
 
 QUICK = True
 
@@ -125,15 +125,10 @@ class Statuses(DriverTest):
         self.write("good.c", GOOD)
         self.assertEqual("", self.run_driver("good.c")[2])
         if shutil.which("script"):
-            words = f"{shutil.which('python3')} {self.driver_path()} --jobs 1 good.c > out.txt"
+            words = f"{shutil.which('python3')} {DRIVER} --jobs 1 good.c > out.txt"
             done = subprocess.run(["script", "-qec", words, "/dev/null"], cwd=self.folder, stdout=subprocess.PIPE,
                                   env={**os.environ, "CCHECK": self.program}, check=False)
             self.assertIn(b"1 of 1 units", done.stdout)
-
-    @staticmethod
-    def driver_path():
-        from driver_helpers import DRIVER
-        return DRIVER
 
 
 if __name__ == "__main__":
