@@ -35,12 +35,14 @@ class World(NamedTuple):
     """What the outside is like: its text, which allocations fail, what printf gives, and the entry's arguments.
 
     `denied` counts allocations from 1; 0 in it denies all of them. The default of `printed` is not a character, so
-    that a character that was guessed wrongly is seen.
+    that a character that was guessed wrongly is seen. With `is_bare` fgets gives lines without their ends, which no stream
+    does but `replay` takes: ccheck-cc makes arguments of main from such lines.
     """
     text: bytes = b""
     denied: frozenset = frozenset()
     printed: int = 1000
     numbers: tuple = ()
+    is_bare: bool = False
 
 
 class Answers:
@@ -62,12 +64,16 @@ class Answers:
         self.at += 1
 
     def give_line(self, kind):
-        """Answers with the next line, as far as there is room for it, or with 0."""
+        """Answers with the next line, as far as there is room for it, or with 0; without room nothing is read."""
+        if kind.high == 0:
+            self.draws += [1, 0]
+            return
         left = self.world.text[self.at:self.at + kind.high]
         end = left.find(b"\n")
         line = left if end < 0 else left[:end + 1]
         self.at += len(line)
-        self.draws += [1, len(line), *line] if line else [0]
+        shown = line.removesuffix(b"\n") if self.world.is_bare else line
+        self.draws += [1, len(shown), *shown] if line else [0]
 
     def give_memory(self, _):
         """Answers whether there is memory."""
@@ -156,9 +162,21 @@ class Questions:
     def memory_or_line(self, draws):
         """Which of the two a draw of 0 or 1 is for. A length follows that of a line."""
         then = [*draws, 1]
-        if not self.is_asked(then) or self.takes(then, -1) or not self.takes(then, 2) or self.takes(then, GREATEST_INT):
+        if not self.is_asked(then) or self.takes(then, -1):
+            return MEMORY
+        if not self.takes(then, 2):
+            return self.memory_or_short_line(then)
+        if self.takes(then, GREATEST_INT):
             return MEMORY
         return Kind("line", 0, self.greatest(then, 2, GREATEST_INT - 1))
+
+    def memory_or_short_line(self, then):
+        """The same, where what follows is 0 or 1: the length of a line with room for one character, or for none."""
+        if not self.takes(then, 1):
+            return Kind("line", 0, 0)
+        more = [*then, 1]
+        is_character = self.is_asked(more) and self.takes(more, 255) and not self.takes(more, 256)
+        return Kind("line", 0, 1) if is_character and not self.takes(more, -1) else MEMORY
 
 
 class Dialogue:
@@ -257,7 +275,7 @@ def line_faults(line, room, number, is_over):
     faults = []
     if is_over:
         faults.append(f"draw {number} is a line after the end of the input")
-    if not line:
+    if not line and room:
         faults.append(f"draw {number} is a line without characters")
     if 10 in line[:-1]:
         faults.append(f"draw {number} is a line with a line end before its last character")

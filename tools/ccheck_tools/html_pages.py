@@ -14,6 +14,7 @@ table { border-collapse: collapse; } .counts td, .counts th { padding: .25em .8e
 .counts th { text-align: left; font-weight: 600; } .counts td.n { text-align: right; }
 .listing { width: 100%; border: 1px solid #dde2ea; } .listing td { vertical-align: top; padding: 0 .7em; }
 .listing td.number { color: #8792a2; text-align: right; width: 3em; user-select: none; background: #f6f8fa; }
+tr.not td { background: #f3edfb; } mark.not { background: #6a3fa0; } .remark.not { border-color: #6a3fa0; }
 tr.seen td { background: #fdecea; } tr.open td { background: #fff6e5; } tr.exact td { background: #eef1fd; }
 mark { border-radius: 3px; padding: 0 1px; color: #fff; } mark.seen { background: var(--seen); }
 mark.open { background: var(--open); } mark.exact { background: var(--exact); }
@@ -21,7 +22,7 @@ mark.open { background: var(--open); } mark.exact { background: var(--exact); }
 .remark.seen { border-color: var(--seen); background: #fff7f6; } .remark.open { border-color: var(--open); }
 .remark.exact { border-color: var(--exact); } .remark .more { color: #46505f; } .remark .rule { font-weight: 600; }
 .at { color: #8792a2; font-size: 12px; } .seen-text { color: var(--seen); font-weight: 600; }
-.open-text { color: var(--open); } .exact-text { color: var(--exact); } .not { color: #6a3fa0; }
+.open-text { color: var(--open); } .exact-text { color: var(--exact); } .unread-text { color: #6a3fa0; }
 .rules pre { background: #f6f8fa; padding: .6em .9em; } .rules table td { border: 1px solid #dde2ea; padding: .2em .6em; }
 """
 LEGEND = {
@@ -84,12 +85,13 @@ def legend(has_searched):
 def unit_page(unit, has_searched, call):
     """Returns the page of a unit: `unit` has a name, files as pairs of name and bytes, and what is shown in them."""
     body = [f'<p><a href="index.html">All units</a>. Made by <code>{html.escape(call)}</code>.</p>',
-            f"<p>{sentence(unit.shown, has_searched)}</p>", rule_table(unit.shown, has_searched),
+            "" if unit.refusal and not unit.shown else f"<p>{sentence(unit.shown, has_searched)}</p>", rule_table(unit.shown, has_searched),
             legend(has_searched) if unit.shown else ""]
     if unit.refusal:
-        body.append(f'<p class="not">Not analysed: {html.escape(unit.refusal)}</p>')
+        body.append(f'<p class="unread-text">Not analysed: {html.escape(unit.refusal)}</p>')
     for name, data in unit.files:
-        body.append(listing.file_section(name, data, [it for it in unit.shown if it.one.file == name], has_searched))
+        here = [it for it in [*unit.shown, *unit.refused] if it.one.file == name]
+        body.append(listing.file_section(name, data, here, has_searched))
     return page(unit.name, "\n".join(body))
 
 
@@ -100,10 +102,12 @@ def index_page(units, has_searched):
     rows = []
     for unit in sorted(units, key=lambda it: (-counts_of(it.shown)["seen"], -len(it.shown), it.name)):
         counts = counts_of(unit.shown)
-        state = f'<span class="not">not analysed: {html.escape(unit.refusal)}</span>' if unit.refusal else \
+        state = f'<span class="unread-text">not analysed: {html.escape(unit.refusal)}</span>' if unit.refusal else \
             "no diagnostic" if not unit.shown else ""
-        rows.append(f'<tr><td><a href="{unit.page}">{html.escape(unit.name)}</a></td><td class="n">{len(unit.shown)}</td>'
-                    f'{seen_cell(unit.shown, has_searched)}<td class="n">{counts["exact"]}</td><td>{state}</td></tr>')
+        name = f'<td><a href="{unit.page}">{html.escape(unit.name)}</a></td>'
+        cells = '<td class="n">-</td>' * 3 if unit.refusal and not unit.shown else \
+            f'<td class="n">{len(unit.shown)}</td>{seen_cell(unit.shown, has_searched)}<td class="n">{counts["exact"]}</td>'
+        rows.append(f"<tr>{name}{cells}<td>{state}</td></tr>")
     head = "<tr><th>unit</th><th>diagnostics</th><th>shown by a run</th><th>on the text</th><th></th></tr>"
     body = [f"<p>{len(units)} unit{'' if len(units) == 1 else 's'}, {len(refused)} not analysed: "
             f"{sentence(shown, has_searched)}.</p>", f'<table class="counts">{head}{"".join(rows)}</table>',

@@ -3,14 +3,16 @@ import html
 import re
 from typing import NamedTuple
 
+from ccheck_tools import reports
+
 NAME = re.compile(rb"[A-Za-z_]\w*|\d\w*|&&|\|\||[-+*/%&|^<>=!]=|<<|>>|->|\+\+|--")
 EXACT = ("boolasgn", "sizeofptr", "swtchdflt")
 
 
 class Shown(NamedTuple):
-    """A diagnostic, and the run that shows it: its input as text or None, its draws, or no run."""
+    """A diagnostic, and the run that shows it: its input in words or None, its draws, or no run."""
     one: object
-    text: bytes | None = None
+    text: str | None = None
     draws: tuple | None = None
 
     @property
@@ -19,10 +21,34 @@ class Shown(NamedTuple):
         return "exact" if self.one.rule in EXACT else "open" if self.draws is None else "seen"
 
 
+class Refused(NamedTuple):
+    """The place at which a unit is refused, and the sentence on it."""
+    one: object
+    why: str
+    kind: str = "not"
+
+
+def refused(text):
+    """Returns the place of a refusal or a limit that begins a text, or None."""
+    found = reports.REFUSAL.match(text)
+    if not found:
+        return None
+    one = reports.Refusal(found["file"], int(found["line"]), int(found["column"]), found["kind"], found["word"], "")
+    return Refused(one, text[found.start("kind"):].split("\n")[0])
+
+
 def quoted(data):
     """Returns input as the text of a C literal."""
     names = {10: "\\n", 9: "\\t", 13: "\\r", 0: "\\0", 34: '\\"', 92: "\\\\"}
     return '"' + "".join(names.get(it, chr(it) if 32 <= it < 127 else f"\\x{it:02x}") for it in data) + '"'
+
+
+def input_of(world):
+    """Returns the input of a world in words, or None where the entry has arguments or there is no world."""
+    if world is None or world.numbers:
+        return None
+    text = shortened(quoted(world.text))
+    return f"{text}, as lines without their ends" if world.is_bare else text
 
 
 def shortened(text, most=160):
@@ -59,8 +85,10 @@ def decoded(data):
 
 
 def remark(shown, has_searched):
-    """Returns the lines on one diagnostic."""
+    """Returns the lines on one diagnostic, or on a refusal."""
     one = shown.one
+    if shown.kind == "not":
+        return f'{html.escape(shown.why)} <span class="at">column {one.column}</span>'
     head = (f'<a class="rule" href="rules.html#{one.rule}">{one.rule}</a> {html.escape(one.text)}'
             f' <span class="at">column {one.column}</span>')
     if shown.kind == "exact":
@@ -69,7 +97,7 @@ def remark(shown, has_searched):
         return head + ('<div class="more">No run was found that shows it. It may be a false alarm.</div>'
                        if has_searched else "")
     numbers = shortened(" ".join(map(str, shown.draws))) or "no draws"
-    text = f"A run shows it, over the input <code>{html.escape(shortened(quoted(shown.text)))}</code>" \
+    text = f"A run shows it, over the input <code>{html.escape(shown.text)}</code>" \
         if shown.text is not None else "A run shows it"
     return head + f'<div class="more">{text}<br>Draws: <code>{numbers}</code></div>'
 
@@ -93,4 +121,4 @@ def row_class(shown):
     if not shown:
         return ""
     kinds = {it.kind for it in shown}
-    return f' class="{"seen" if "seen" in kinds else "open" if "open" in kinds else "exact"}"'
+    return f' class="{next(it for it in ("seen", "open", "exact", "not") if it in kinds)}"'

@@ -33,10 +33,13 @@ def number_of(text):
 
 
 class Pieces:
-    """The numbers of a text with their neighbours, its characters, its strings, and the lengths near its numbers."""
+    """The numbers of a text with their neighbours, its characters, its strings, and the lengths near its numbers.
+
+    Macros whose names begin with __ do not count: they are the data model's.
+    """
 
     def __init__(self, text):
-        text = without_comments(text)
+        text = re.sub(r"^[ \t]*#[ \t]*define[ \t]+__[^\n]*", "", without_comments(text), flags=re.M)
         named = [ord(it[-1:]) for it in map(unescaped, re.findall(r"'((?:\\.[0-9a-fA-F]*|[^'\\\n]))'", text)) if it]
         whole = [it for it in map(number_of, re.findall(r"(?<![\w.])0[xX][\da-fA-F]+\w*|(?<![\w.])\d{1,19}[uUlL]*", text))
                  if it is not None]

@@ -12,6 +12,8 @@ RESULTS_OF_PRINTF = [0, 1, 2, 1000, dialogues.GREATEST_INT]
 DENIED_AT_MOST = 12
 TEXT_AT_MOST = 6000
 POOL_AT_MOST = 400
+STEPS_AT_MOST = 24
+TEXT_OF_A_STEP = 64
 MARKED_STEPS = 400000      # of the copy, whose marks take steps too
 BLIND = 0.1                # the share of tries that are random draws
 
@@ -41,7 +43,8 @@ class Search:
         self.chance, self.tries = random.Random(seed), tries
         self.until = time.monotonic() + seconds if seconds else None
         self.found, self.pool, self.seen, self.hits = {}, [], set(), {}
-        self.worlds, self.ways, self.asked, self.followers = set(), set(), set(), []
+        self.worlds, self.ways, self.asked = set(), set(), set()
+        self.followers, self.joined, self.steps = [], [], []
 
     def run(self):
         """Searches until each wanted pair is shown or the tries are used up; returns the runs by their pairs."""
@@ -107,11 +110,17 @@ class Search:
 
     def try_follower(self):
         """Takes the run of a world that follows the last one which reached new code; returns whether there is one."""
-        while self.followers:
-            if self.try_next(self.followers[-1]):
-                return True
-            self.followers.pop()
+        for worlds in (self.followers, self.joined):
+            while worlds:
+                if self.try_next(worlds[-1]):
+                    return True
+                worlds.pop()
         return False
+
+    def joining(self, world):
+        """Worlds that put the texts which reached new code after the text of one."""
+        for text in self.steps[:STEPS_AT_MOST]:
+            yield world._replace(text=world.text + text)
 
     def following(self, world):
         """Worlds that go on from one: other arguments in each place, and more text after its own."""
@@ -139,6 +148,8 @@ class Search:
         for text in [bytes([it]) for it in named.characters] + named.words()[:60] + [b"\n", b"a", b"\xff", b"-1", b"0"]:
             yield dialogues.World(text + b"\n")
             yield dialogues.World(text)
+            if "line" in self.asked:
+                yield dialogues.World((text + b"\n") * 2, is_bare=True)
         for length in named.lengths[:80]:
             yield dialogues.World(b"a" * length)
             yield dialogues.World(b"a" * length + b"\n")
@@ -166,9 +177,13 @@ class Search:
         reached, is_new_code, is_new = self.note(answers.draws[:outcome.used], outcome, world)
         if is_new:
             self.pool.append(Kept(world, reached))
+            if not is_new_code and len(world.text) <= TEXT_OF_A_STEP:
+                self.joined.insert(0, self.joining(world))
         if is_new_code:
             world = self.trimmed(world, reached)
             self.followers.append(self.following(world))
+            if 0 < len(world.text) <= TEXT_OF_A_STEP and world.text not in self.steps:
+                self.steps.append(world.text)
             for number in range(1, min(answers.asked_memory, DENIED_AT_MOST) + 1 if not world.denied else 1):
                 if not self.is_done:
                     self.try_world(world._replace(denied=frozenset({number})))
@@ -231,12 +246,15 @@ class Search:
         """Returns a world with a few changes of what the unit asks for."""
         ways = (["number"] * 6 + ["text"] * 6) if world.numbers else ["text"] * 6
         ways = [it for it in ways + ["memory", "printed"] if it in self.asked or it == "text" and self.asks_text]
+        ways += ["bare"] if "line" in self.asked else []
         for _ in range(self.chance.choice([1, 1, 2, 3, 5]) if ways else 0):
             way = self.chance.choice(ways)
             if way == "number":
                 world = self.changed_numbers(world)
             elif way == "text":
                 world = world._replace(text=self.changed_text(world.text)[:TEXT_AT_MOST])
+            elif way == "bare":
+                world = world._replace(is_bare=not world.is_bare)
             elif way == "memory":
                 world = world._replace(denied=world.denied ^ {self.chance.randint(1, DENIED_AT_MOST)})
             else:

@@ -3,7 +3,7 @@ import collections
 import os
 import re
 
-from ccheck_tools import refusal_words, reports, rule_pages
+from ccheck_tools import refusal_words, rule_pages
 
 NAME = re.compile(r"[A-Za-z_]\w*|\d\w*")
 COLOURS = {"place": "1", "rule": "1;31", "refused": "1;35", "caret": "1;32", "number": "34", "note": "36"}

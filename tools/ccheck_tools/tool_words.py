@@ -1,5 +1,6 @@
 """The command line of a tool: --help prints the text at the head of the tool, a mistake one sentence."""
 import argparse
+import os
 import sys
 
 
@@ -31,3 +32,28 @@ class Parser(argparse.ArgumentParser):
         """Ends with a sentence."""
         print(f"{self.prog}: {message}; see {self.prog} --help", file=sys.stderr)
         sys.exit(2)
+
+
+def run(name, main, lost=2):
+    """Runs a tool and ends the process with its status, or with `lost` where its output cannot be written."""
+    if sys.stdout is None:
+        print(f"{name}: the output is closed", file=sys.stderr)
+        sys.exit(lost)
+    sys.stdout.reconfigure(errors="surrogateescape")
+    try:
+        status = main(sys.argv[1:])
+        sys.stdout.flush()
+    except BrokenPipeError:
+        status = lost
+        forget_output()
+    except OSError as fault:
+        where = fault.filename or "the output could not be written"
+        print(f"{name}: {where}: {fault.strerror}", file=sys.stderr)
+        status = lost
+        forget_output()
+    sys.exit(status)
+
+
+def forget_output():
+    """Has nothing more be written, so that the end of the process finds no fault."""
+    os.dup2(os.open(os.devnull, os.O_WRONLY), 1)

@@ -55,6 +55,12 @@ class Draws(ToolTest):
         back = self.tool("ccheck-draws", "a.c", "--entry", "f", "--back", "draws.txt")[1]
         self.assertEqual(back.count("argument of the entry"), 3)
 
+    def test_lines_with_room_for_one_character_or_none(self):
+        self.file("a.c", "#include <stdio.h>\n#include <stdlib.h>\nint main(void)\n{\n    char a[2], b[1];\n"
+                         "    char *c = malloc(1), *d = malloc(1);\n    if (fgets(a, 2, stdin) != NULL)\n"
+                         "        fgets(b, 1, stdin);\n    free(c);\n    free(d);\n    return getchar();\n}\n")
+        self.there_and_back(["a.c"], "xy", "1 1 1 1 120 1 0 121")
+
     def test_draws_that_no_stream_gives(self):
         self.file("draws.txt", "1 3 65 10 66 1\n")
         status, _, why = self.tool("ccheck-draws", f"{EXAMPLES}/words.c", "--back", "draws.txt")

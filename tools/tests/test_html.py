@@ -75,7 +75,9 @@ class Pages(ToolTest):
         text = "".join(found["src_average.c.html"].words)
         self.assertIn("src/../include/ring.h" if "src/../include/ring.h" in text else "include/ring.h", text)
         self.assertIn("refused: BadByte", "".join(found["index.html"].words))
-        self.assertIn('/* <b> & "x" */', "".join(found["src_bad.c.html"].words))
+        text = "".join(found["src_bad.c.html"].words)
+        self.assertIn('/* <b> & "x" */', text)
+        self.assertIn("refused: BadByte column 37", text)
 
     def test_reports_of_ccheck_and_of_the_driver(self):
         self.file("a.c", "int main(void) { int z = 0; return 1 / z; }\n")
@@ -102,10 +104,10 @@ class Pages(ToolTest):
 
     def test_faults(self):
         self.assertEqual(self.tool("ccheck-html")[0], 2)
-        self.assertEqual(self.tool("ccheck-html", "--report", "missing")[0], 1)
+        self.assertEqual(self.tool("ccheck-html", "--report", "missing")[0], 2)
         self.file("pages", "a file\n")
         self.file("a.c", "int main(void) { return 0; }\n")
-        self.assertEqual(self.tool("ccheck-html", "--out", "pages", "a.c")[0], 1)
+        self.assertEqual(self.tool("ccheck-html", "--out", "pages", "a.c")[0], 2)
 
     def test_a_browser_shows_it(self):
         needs("chromium")

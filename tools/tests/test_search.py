@@ -37,12 +37,21 @@ class Finds(ToolTest):
     def test_headers_that_the_unit_includes_are_searched(self):
         self.file("inc/part.h", "static int part(int n) { if (n == 77) return 1 / (n - 77); return 0; }\n")
         self.file("a.c", '#include "part.h"\n#include <stdio.h>\nint main(void) { return part(getchar()); }\n')
-        for place in ("1", "1:1", "inc/part.h:1", "inc/part.h:1:48"):
-            column = self.ccheck("check", "a.c", "inc")[1].split(":")[2]
-            words = ["a.c", place.replace("1:1", f"1:{column}").replace(":48", f":{column}"), "--tag", "diverr", "inc"]
+        column = self.ccheck("check", "a.c", "inc")[1].split(":")[2]
+        for place in ("1", f"inc/part.h:1:{column}"):
+            words = ["a.c", place, "--tag", "diverr", "inc"]
             self.assertEqual(self.tool("show-me", *words)[:2], (0, "77\n"), place)
         self.assertEqual(self.tool("show-me", "a.c", "a.c:1", "--tag", "diverr", "inc")[0], 1)
         self.assertEqual(self.tool("show-me", "a.c", "x", "inc")[0], 2)
+
+    def test_lines_without_their_ends_are_tried(self):
+        self.file("a.c", "#include <stdio.h>\n#include <string.h>\nint main(void)\n{\n    char one[8] = \"\", two[8] = \"\";\n"
+                         "    if (fgets(one, 8, stdin) == NULL || fgets(two, 8, stdin) == NULL)\n        return 0;\n"
+                         "    if (strcmp(one, \"-x\") == 0)\n        return 1 / (one[0] - '-');\n    return 0;\n}\n")
+        status, draws, why = self.tool("show-me", "a.c", "9", "--tag", "diverr")
+        self.assertEqual(status, 0)
+        self.assertTrue(draws.startswith("1 2 45 120 "), draws)
+        self.assertIn("lines without their ends", why)
 
     def test_a_false_alarm_has_no_run(self):
         status, text, why = self.tool("show-me", f"{EXAMPLES}/average.c", "12", "--tries", "100")

@@ -121,6 +121,18 @@ class Statuses(ToolTest):
         self.assertEqual(done.returncode, 6)
         self.assertIn(b"could not be written", done.stderr)
 
+    def test_each_tool_says_that_its_output_is_lost(self):
+        self.file("a.c", "#include <stdio.h>\nint main(void)\n{\n    return 1 / (getchar() + 1);\n}\n")
+        for words, lost in ((["ccheck-show", "check", "a.c"], 6), (["ccheck-show", "explain", "diverr"], 6),
+                            (["ccheck-html", "--out", "pages", "a.c"], 2), (["ccheck-draws", "a.c", "--text", ""], 2),
+                            (["show-me", "a.c", "4", "--tag", "diverr"], 2), (["ccheck-baseline", "make", "b.json", "a.c"], 2)):
+            for output in (">/dev/full", ">&-"):
+                line = f'"$0" {TOOLS}/"$@" {output}'
+                status, _, why = self.call("sh", "-c", line, sys.executable, *words)
+                self.assertEqual(status, lost, words)
+                self.assertEqual(why.count(": the output "), 1, why)
+                self.assertNotIn("Traceback", why)
+
     def test_a_second_unit_is_named(self):
         self.file("a.c", "int main(void) { return 0; }\n")
         self.file("b.c", DIVIDE)
