@@ -5,9 +5,8 @@ RANGES = {"--turns": (0, 64), "--seed": (0, 2 ** 31 - 1), "--count": (1, 300), "
 TEXTS = ("--model", "--entry", "--base", "--cert", "--draws")
 OPTIONS = (*CHOICES, *RANGES, *TEXTS)
 NEEDED = {"gate": "--base", "verify": "--cert"}
-OTHERS = {"-I": "there is no -I: name the directory after the unit", "-h": "-h must be the only word",
-          "-D": "there is no -D: ccheck-cc takes it", "-V": "-V must be the only word",
-          "--help": "--help must be the only word", "--version": "--version must be the only word"}
+OTHERS = {"-I": "there is no -I: name the directory after the unit", "-D": "there is no -D: ccheck-cc takes it"}
+ANSWERED = ("--help", "-h", "--version", "-V")
 
 
 def reasons(words):
@@ -40,6 +39,8 @@ def split(words):
             break
         if word == "-" or not word.startswith("-"):
             plain.append(word)
+        elif word in ANSWERED:
+            break
         elif name not in OPTIONS:
             found.append(unknown(word))
         elif sign:
