@@ -1,7 +1,7 @@
 pub mod SameOperations
 pub mod SameEdges
 pub mod SameStarts
-pub mod TurnedPrograms
-mod TurnedMaps
-mod TurnedPairs
-mod TurnedAnalyses
+pub mod UnrolledPrograms
+mod UnrolledMaps
+mod UnrolledPairs
+mod UnrolledAnalyses

@@ -2,4 +2,4 @@
 
 mod theorems;
 
-pub use theorems::{maps_are_copied, turned_pairs_are_named};
+pub use theorems::{maps_are_copied, unrolled_pairs_are_named};

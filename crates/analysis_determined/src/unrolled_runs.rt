@@ -2,4 +2,4 @@
 
 mod theorems;
 
-pub use theorems::{turned_runs_are_the_same, well_formed_programs_are_linked};
+pub use theorems::{unrolled_runs_are_the_same, well_formed_programs_are_linked};

@@ -3,4 +3,4 @@ pub mod CheckedUnits
 mod WorkedProgram
 mod WorkedOperands
 mod MetPremises
-pub mod TurnedSound
+pub mod UnrolledSound

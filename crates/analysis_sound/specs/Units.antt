@@ -1,4 +1,4 @@
 pub mod SoundUnits
 pub mod CheckedUnits
 pub mod WorkedPrograms
-pub mod TurnedSound
+pub mod UnrolledSound

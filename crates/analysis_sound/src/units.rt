@@ -4,6 +4,6 @@
 mod theorems;
 
 pub use theorems::{
-    checked_runs_are_found, lowered_runs_are_found, premises_can_be_met, turned_analyses_are_sound,
+    checked_runs_are_found, lowered_runs_are_found, premises_can_be_met, unrolled_analyses_are_sound,
     unit_runs_are_found,
 };

@@ -1,4 +1,4 @@
 pub mod ReadyStates
 pub mod PartLaws
-pub mod MarkedInitializers
-pub mod MarkedDeclarations
+pub mod WellTypedInitializers
+pub mod WellTypedDeclarations

@@ -1,1 +1,1 @@
-pub mod MarkedBodies
+pub mod WellTypedBodies

@@ -2,4 +2,4 @@
 
 mod theorems;
 
-pub use theorems::{declarations_are_marked, initializers_are_marked};
+pub use theorems::{declarations_are_well_typed, initializers_are_well_typed};

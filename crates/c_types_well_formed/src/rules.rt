@@ -2,4 +2,4 @@
 
 mod theorems;
 
-pub use theorems::{conversions_give, unused_is_marked, values_are_made};
+pub use theorems::{conversions_give, unused_is_well_typed, values_are_made};

@@ -2,4 +2,4 @@
 
 mod theorems;
 
-pub use theorems::bodies_are_marked;
+pub use theorems::bodies_are_well_typed;

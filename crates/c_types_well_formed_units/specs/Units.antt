@@ -1,1 +1,1 @@
-pub mod MarkedUnits
+pub mod WellTypedUnits

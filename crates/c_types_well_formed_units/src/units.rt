@@ -2,4 +2,4 @@
 
 mod theorems;
 
-pub use theorems::checks_are_marked;
+pub use theorems::checks_are_well_typed;

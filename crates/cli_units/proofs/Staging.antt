@@ -19,7 +19,7 @@ use Rattle.loop_unrolling.specs.SplitCounts.{Splits}
 use Rattle.cli_units.specs.Stages.{stage_of, same_stage, stop_at}
 use Rattle.cli_units.specs.declared.stages.Stage.{Stage}
 use Rattle.cli_units.specs.declared.stages.Stage.TheVariants as stage
-use Rattle.cli_units.specs.Judging.{SettingView, IsParsed, IsTyped, IsLowered, IsTurnedPast, IsPast, RefusesAt, StopsUnit}
+use Rattle.cli_units.specs.Judging.{SettingView, IsParsed, IsTyped, IsLowered, IsUnrolledPast, IsPast, RefusesAt, StopsUnit}
 
 kept_typing : (u : Unit7) (g : SettingView) (tree : Tree7) → IsParsed u tree → (f : Fault) → check g.model g.entry (unit_tree tree) ≡ Err f → (at : Stage) → stage_of f.refusal ≡ at → StopsUnit u g (cond (same_stage stage.Typing at) (stop.Refused f) stop.Memory)
 kept_typing u g tree parsed f refused stage.Expansion e = tt
@@ -54,7 +54,7 @@ counting_stops u g tree parsed checked typed limits same stop.Memory past = tt
 pub turning_stops : (u : Unit7) (g : SettingView) (tree : Tree7) → IsParsed u tree → (checked : Checked) → IsTyped g tree checked → (flow : Flow) → IsLowered checked flow → (turns : ℕ) → g.turns ≡ Some turns → (limits : Limits) → limits ≡ standard_limits → (s : Stop) → Splits limits turns (flow_view flow) s → StopsUnit u g (stop_at stage.Counting s)
 turning_stops u g tree parsed checked typed flow lowered turns asked limits same (stop.Refused f) past =
     let over = subst (λ l. Splits l turns (flow_view flow) (stop.Refused f)) same past in
-    kept_counting u g tree parsed f (record { checked = checked; typed = typed; past = inr (subst (λ t. IsTurnedPast t checked f) (sym asked) (flow, lowered, over)) }) (stage_of f.refusal) refl
+    kept_counting u g tree parsed f (record { checked = checked; typed = typed; past = inr (subst (λ t. IsUnrolledPast t checked f) (sym asked) (flow, lowered, over)) }) (stage_of f.refusal) refl
 turning_stops u g tree parsed checked typed flow lowered turns asked limits same stop.NotHeld past = tt
 turning_stops u g tree parsed checked typed flow lowered turns asked limits same stop.ReadFault past = tt
 turning_stops u g tree parsed checked typed flow lowered turns asked limits same stop.Memory past = tt

@@ -75,9 +75,9 @@ pub record IsLowered (checked : Checked) (flow : Flow) : Type 0 where
   pub model : flow.model ≡ checked.model
 
 -- the program that is analysed: that of the unit, or the one with so many turns of its loops unrolled
-abbrev pub IsTurned : Option ℕ → Flow → Flow → Type 0
-IsTurned None flow analysed = analysed ≡ flow
-IsTurned (Some turns) flow analysed = flow_view analysed ≡ split turns (flow_view flow)
+abbrev pub IsUnrolled : Option ℕ → Flow → Flow → Type 0
+IsUnrolled None flow analysed = analysed ≡ flow
+IsUnrolled (Some turns) flow analysed = flow_view analysed ≡ split turns (flow_view flow)
 
 -- what the syntactic rules find in a checked unit, and behind it what the analysis finds in the program
 -- that is analysed, with bounds rounded to the thresholds of the unit's program, in order
@@ -122,22 +122,22 @@ pub record IsJudged (unit : Unit7) (s : SettingView) (j : Judgement) : Type 0 wh
   pub lowered : IsLowered checked flow
   pub made : is_well_formed standard_limits flow ≡ true
   pub analysed : Flow
-  pub turned : IsTurned s.turns flow analysed
+  pub turned : IsUnrolled s.turns flow analysed
   pub well_formed : is_well_formed standard_limits analysed ≡ true
   pub found : IsFound checked flow analysed j.pairs
   pub bases : j.bases ≡ length flow.bases.items
   pub cells : j.cells ≡ cell_count flow
 
 -- a count of a unit's program, or of the one with turns unrolled, that passes its limit
-abbrev pub IsTurnedPast : Option ℕ → Checked → Fault → Type 0
-IsTurnedPast None checked why = ⊥
-IsTurnedPast (Some turns) checked why = (flow : Flow) × IsLowered checked flow × Splits standard_limits turns (flow_view flow) (stop.Refused why)
+abbrev pub IsUnrolledPast : Option ℕ → Checked → Fault → Type 0
+IsUnrolledPast None checked why = ⊥
+IsUnrolledPast (Some turns) checked why = (flow : Flow) × IsLowered checked flow × Splits standard_limits turns (flow_view flow) (stop.Refused why)
 
 -- the count of the checked unit's program that is the first to pass its limit, at the name of the entry
 pub record IsPast (s : SettingView) (tree : Tree7) (why : Fault) : Type 0 where
   pub checked : Checked
   pub typed : IsTyped s tree checked
-  pub past : lowering.Refuses (unit_view checked) standard_limits (stop.Refused why) ⊎ IsTurnedPast s.turns checked why
+  pub past : lowering.Refuses (unit_view checked) standard_limits (stop.Refused why) ⊎ IsUnrolledPast s.turns checked why
 
 -- why a unit that was expanded is refused, by the stage of the refusal
 abbrev pub RefusesAt : Unit7 → SettingView → Fault → Stage → Type 0

@@ -7,7 +7,7 @@ ghost use Rattle.lower_preconditions.specs.Units.RegularUnits.{is_regular_unit};
 ghost use Rattle.cfg.specs.WellFormed.{base_cells, is_well_formed};
 ghost use Rattle.cc_base.specs.Standard.{standard_limits};
 ghost use Rattle.c_layout.specs.ByteTexts.{have_byte_texts};
-ghost use Rattle.cli_units.specs.Judging.{setting_view, judgement, cells_from, cell_count, IsParsed, IsTyped, IsLooked, IsLowered, IsTurned, IsJudged, IsFound, StopsUnit};
+ghost use Rattle.cli_units.specs.Judging.{setting_view, judgement, cells_from, cell_count, IsParsed, IsTyped, IsLooked, IsLowered, IsUnrolled, IsJudged, IsFound, StopsUnit};
 
 use crate::byte_texts::have_byte_texts;
 use crate::stages::{Stage, stop_at};
@@ -172,7 +172,7 @@ fn turned(
     requires typed { IsTyped (setting_view setting) tree.now checked.now }
     requires lowered { IsLowered checked.now flow.now }
     requires turns { setting.turns ≡ Some turns }
-    ensures turned { IfOk result (IsTurned setting.entry.turns flow.now) }
+    ensures turned { IfOk result (IsUnrolled setting.entry.turns flow.now) }
     ensures well_formed { IfOk result (λ f. is_well_formed standard_limits f ≡ true) }
     ensures stops { IfErr result (StopsUnit unit.now (setting_view setting.entry)) }
 {

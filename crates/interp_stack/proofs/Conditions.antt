@@ -13,12 +13,12 @@ use Rattle.semantics.specs.SourceMachine.Items as item
 use Rattle.semantics.specs.SourceMachine.Items.{Item, items_of}
 use Rattle.semantics.specs.SourceMachine.TermItems.{arguments}
 use Rattle.semantics.specs.SourceMachine.ConditionItems.{line_items, leaf, condition}
-use Rattle.interp_stack.specs.Standings.{Standing, with_items, on_line, on_logical, standing, Stacks}
+use Rattle.interp_stack.specs.StackViews.{StackView, with_items, on_line, on_logical, standing, Stacks}
 use Rattle.interp_stack.specs.declared.items.Item7.{Item7}
 use Rattle.interp_stack.proofs.Sequels.{goes_on}
 use Rattle.interp_stack.proofs.Stacks.{with_again}
 
-pub line_read : (r : ReadView) (wants : Bool) (s : Standing) → with_items (arguments r.call.arguments) (on_line r.call.at wants s) ≡ with_items (line_items r wants (items_of s.yes) (items_of s.no)) s
+pub line_read : (r : ReadView) (wants : Bool) (s : StackView) → with_items (arguments r.call.arguments) (on_line r.call.at wants s) ≡ with_items (line_items r wants (items_of s.yes) (items_of s.no)) s
 line_read r true s = with_again (arguments r.call.arguments) (item.ReadLine r.call.at (items_of s.no) (items_of s.yes) ∷ []) s
 line_read r false s = with_again (arguments r.call.arguments) (item.ReadLine r.call.at (items_of s.yes) (items_of s.no) ∷ []) s
 
@@ -40,6 +40,6 @@ leaf_stacks u is_test e old result new h stacks =
     let s = standing u old in
     goes_on result (standing u new) (with_items (leaf u is_test e s.yes s.no) s) (with_items (condition u is_test e s.yes s.no) s) (ap (λ items. with_items items s) (leaf_is u is_test e s.yes s.no h)) stacks
 
-pub logical_is : (u : UnitView) (op : LogicalOp) (is_test : Bool) (at : Place) (t : Ty) (parens : ℕ) (fixed : Option ℤ) (a b : TermTree) (s : Standing) → with_items (condition u is_test a (on_logical u op is_test b s).yes (on_logical u op is_test b s).no) (on_logical u op is_test b s) ≡ with_items (condition u is_test (Typed at t parens fixed (tree.Logical op a b)) s.yes s.no) s
+pub logical_is : (u : UnitView) (op : LogicalOp) (is_test : Bool) (at : Place) (t : Ty) (parens : ℕ) (fixed : Option ℤ) (a b : TermTree) (s : StackView) → with_items (condition u is_test a (on_logical u op is_test b s).yes (on_logical u op is_test b s).no) (on_logical u op is_test b s) ≡ with_items (condition u is_test (Typed at t parens fixed (tree.Logical op a b)) s.yes s.no) s
 logical_is u And is_test at t parens fixed a b s = refl
 logical_is u Or is_test at t parens fixed a b s = refl

@@ -7,23 +7,23 @@ use Rattle.semantics.specs.SourceMachine.Items as item
 use Rattle.semantics.specs.SourceMachine.Items.{Item}
 use Rattle.semantics.specs.SourceMachine.TermItems.{arguments}
 use Rattle.semantics.specs.SourceMachine.StatementItems.{list_statements, all_stored}
-use Rattle.semantics.specs.SourceMachine.Scopes.{open_scopes, behind_loop, behind_turn}
+use Rattle.semantics.specs.SourceMachine.Scopes.{open_scopes, past_loop, past_iteration}
 use Rattle.interp_stack.specs.ItemViews.{bindings}
 
 -- items in front, of which none is the end of a scope, of a turn or of a loop
 pub data Plain : List Item → List Item → Type 0 where
   none : {xs : List Item} → Plain xs xs
-  one : {i : Item} {xs ys : List Item} → (open_scopes (i ∷ xs) ≡ open_scopes xs) × (behind_loop (i ∷ xs) ≡ behind_loop xs) × (behind_turn (i ∷ xs) ≡ behind_turn xs) → Plain xs ys → Plain (i ∷ xs) ys
+  one : {i : Item} {xs ys : List Item} → (open_scopes (i ∷ xs) ≡ open_scopes xs) × (past_loop (i ∷ xs) ≡ past_loop xs) × (past_iteration (i ∷ xs) ≡ past_iteration xs) → Plain xs ys → Plain (i ∷ xs) ys
 
 pub plain_scopes : {xs ys : List Item} → Plain xs ys → open_scopes xs ≡ open_scopes ys
 plain_scopes none = refl
 plain_scopes (one h r) = h.0 ∙ plain_scopes r
 
-pub plain_loop : {xs ys : List Item} → Plain xs ys → behind_loop xs ≡ behind_loop ys
+pub plain_loop : {xs ys : List Item} → Plain xs ys → past_loop xs ≡ past_loop ys
 plain_loop none = refl
 plain_loop (one h r) = h.1 ∙ plain_loop r
 
-pub plain_turn : {xs ys : List Item} → Plain xs ys → behind_turn xs ≡ behind_turn ys
+pub plain_turn : {xs ys : List Item} → Plain xs ys → past_iteration xs ≡ past_iteration ys
 plain_turn none = refl
 plain_turn (one h r) = h.2 ∙ plain_turn r
 

@@ -14,7 +14,7 @@ use Rattle.semantics.specs.SourceMachine.Operations.{Operation, Order}
 use Rattle.semantics.specs.SourceMachine.Items as item
 use Rattle.semantics.specs.SourceMachine.Items.{Item, Change}
 use Rattle.semantics.specs.SourceMachine.ConditionItems.{choice_of, truth_of, arm}
-use Rattle.semantics.specs.SourceMachine.StatementItems.{for_body, while_turn, do_turn, for_turn}
+use Rattle.semantics.specs.SourceMachine.StatementItems.{for_body, while_iteration, do_iteration, for_iteration}
 use Rattle.interp_stack.specs.declared.items.Operation7.{Operation7}
 use Rattle.interp_stack.specs.declared.items.Operation7.TheVariants as operation
 use Rattle.interp_stack.specs.declared.items.Order7.{Order7}
@@ -71,8 +71,8 @@ arm_items arm_of.Right e = choice_of e (truth_of true) (truth_of false)
 
 -- the body of a loop and its next turn
 abbrev pub turn_items : StatementTree → List Item
-turn_items (tree.While c body) = item.Statement body ∷ (item.Hop ∷ (item.TurnEnd ∷ (item.WhileTurn c body ∷ [])))
-turn_items (tree.Do body c) = item.DoTurn body c ∷ []
+turn_items (tree.While c body) = item.Statement body ∷ (item.Hop ∷ (item.IterationEnd ∷ (item.WhileIteration c body ∷ [])))
+turn_items (tree.Do body c) = item.DoIteration body c ∷ []
 turn_items (tree.For objects first c step body) = for_body c step body
 turn_items _ = []
 
@@ -85,16 +85,16 @@ next_items next.Turn s = turn_items s
 
 -- what is no loop has no turn
 abbrev pub loop_item : StatementTree → Item
-loop_item (tree.While c body) = item.WhileTurn c body
-loop_item (tree.Do body c) = item.DoTurn body c
-loop_item (tree.For objects first c step body) = item.ForTurn c step body
+loop_item (tree.While c body) = item.WhileIteration c body
+loop_item (tree.Do body c) = item.DoIteration body c
+loop_item (tree.For objects first c step body) = item.ForIteration c step body
 loop_item _ = item.Statement tree.Nothing
 
 -- the next turn of a loop: its condition, or the body of a `do` loop
 abbrev pub loop_turn : UnitView → StatementTree → List Item
-loop_turn u (tree.While c body) = while_turn u c body
-loop_turn u (tree.Do body c) = do_turn u body c
-loop_turn u (tree.For objects first c step body) = for_turn u c step body
+loop_turn u (tree.While c body) = while_iteration u c body
+loop_turn u (tree.Do body c) = do_iteration u body c
+loop_turn u (tree.For objects first c step body) = for_iteration u c step body
 loop_turn u _ = []
 
 abbrev pub select_item : StatementTree → Item

@@ -1,6 +1,6 @@
 pub mod TestViews
 pub mod ReadViews
 pub mod ItemViews
-pub mod Standings
+pub mod StackViews
 pub mod Scans
 pub mod Jumps

@@ -5,7 +5,7 @@ ghost use Rattle.c_layout.specs.CheckedUnits.{UnitView};
 ghost use Rattle.semantics.specs.SourceMachine.Items.{items_of};
 ghost use Rattle.semantics.specs.SourceMachine.ConditionItems.{line_items, leaf_by, leaf, condition};
 ghost use Rattle.interp_stack.specs.ReadViews.{read_view_of};
-ghost use Rattle.interp_stack.specs.Standings.{on_logical, with_items, Stacks};
+ghost use Rattle.interp_stack.specs.StackViews.{on_logical, with_items, Stacks};
 
 use crate::items::{Item7, Use7};
 use crate::line_reads::{ReadTest, read_by};

@@ -128,7 +128,7 @@ pub enum Item7<'a> {
     Statement(Way7, &'a CheckedStatement),
     Statements(&'a [CheckedStatement]),
     /// Here `continue` leads, and `break`.
-    TurnEnd,
+    IterationEnd,
     LoopEnd,
     /// Local objects begin to live, or end, one after the other: these, or those of the entries below.
     Enters(&'a [u32]),
@@ -141,7 +141,7 @@ pub enum Item7<'a> {
     Hop,
     GoTo(u32),
     BreakOut,
-    NextTurn,
+    NextIteration,
     /// The function is left by `return`, or its body ends.
     LeaveFunction,
     EndBody,

@@ -5,7 +5,7 @@ ghost use Rattle.lower_functions.specs.Functions.Functions.{numbers_from};
 ghost use Rattle.semantics.specs.SourceMachine.Scopes as machine;
 ghost use Rattle.interp_stack.specs.Jumps.{jump_from, entering_from};
 ghost use Rattle.interp_stack.specs.Scans.{scopes_view, Scans};
-ghost use Rattle.interp_stack.specs.Standings.{Standing, on_item, standing};
+ghost use Rattle.interp_stack.specs.StackViews.{StackView, on_item, standing};
 
 use crate::items::Item7;
 use crate::store_items::push_item;
@@ -73,7 +73,7 @@ fn add_scope(
     below: &mut Vec<u32>,
     item: &Item7,
 ) -> Result<(), AllocError>
-    ensures { (u : UnitView) (s : Standing) → Scans scopes.old.items below.old.items s → IfOk result (λ _. Scans scopes.new.items below.new.items (on_item u item.now s)) }
+    ensures { (u : UnitView) (s : StackView) → Scans scopes.old.items below.old.items s → IfOk result (λ _. Scans scopes.new.items below.new.items (on_item u item.now s)) }
 {
     match item {
         Item7::Leaves(objects) => add_own(alloc, scopes, below, objects),
@@ -221,7 +221,7 @@ pub fn enter_first(
 
 /// What follows the end of the innermost loop or switch.
 pub fn drop_loop(control: &mut Vec<Item7>)
-    ensures { (u : UnitView) → (standing u control.new.items).items ≡ machine.behind_loop (standing u control.old.items).items }
+    ensures { (u : UnitView) → (standing u control.new.items).items ≡ machine.past_loop (standing u control.old.items).items }
 {
     while let Some(item) = control.pop() {
         match item {
@@ -233,11 +233,11 @@ pub fn drop_loop(control: &mut Vec<Item7>)
 
 /// What follows the end of the innermost loop's turn.
 pub fn drop_turn(control: &mut Vec<Item7>)
-    ensures { (u : UnitView) → (standing u control.new.items).items ≡ machine.behind_turn (standing u control.old.items).items }
+    ensures { (u : UnitView) → (standing u control.new.items).items ≡ machine.past_iteration (standing u control.old.items).items }
 {
     while let Some(item) = control.pop() {
         match item {
-            Item7::TurnEnd => return,
+            Item7::IterationEnd => return,
             _ => {}
         }
     }

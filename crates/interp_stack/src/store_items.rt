@@ -5,7 +5,7 @@ ghost use Rattle.c_layout.specs.CheckedUnits.{UnitView};
 ghost use Rattle.lower_templates.specs.Worklist.TermKinds.{scalar_of, term_type, lvalue_type};
 ghost use Rattle.semantics.specs.SourceMachine.Operations as op;
 ghost use Rattle.semantics.specs.SourceMachine.Items as machine;
-ghost use Rattle.interp_stack.specs.Standings.{on_item, with_items, Stacks};
+ghost use Rattle.interp_stack.specs.StackViews.{on_item, with_items, Stacks};
 
 use crate::items::{Item7, Operation7, Use7};
 use c_layout::{CheckedTerm, Lvalue};

@@ -2,11 +2,11 @@
 use Rattle.std.proofs.Common.{◌≡◌, Bool, true, false, List, [], ◌++◌, Option, Some, None, Result, Ok, Err, IfOk, ap, sym, subst, ◌∙◌}
 use Rattle.c_layout.specs.CheckedUnits.{UnitView}
 use Rattle.semantics.specs.SourceMachine.Items.{Item}
-use Rattle.interp_stack.specs.Standings.{Standing, standing}
+use Rattle.interp_stack.specs.StackViews.{StackView, standing}
 use Rattle.interp_stack.specs.declared.items.Item7.{Item7}
 use Rattle.interp_statements.specs.Choices.{followed, IsMet, Stays}
 
-pub no_followed : (holds : Bool) (t : Standing) → (t.yes ≡ []) × (t.no ≡ []) → followed holds t ≡ t.items
+pub no_followed : (holds : Bool) (t : StackView) → (t.yes ≡ []) × (t.no ≡ []) → followed holds t ≡ t.items
 no_followed true t none = ap (λ xs. xs ++ t.items) none.0
 no_followed false t none = ap (λ xs. xs ++ t.items) none.1
 
@@ -16,7 +16,7 @@ no_some x e = cc
 pub some_same : {A : Type 0} (x y : A) → Some x ≡ Some y → x ≡ y
 some_same x y e = cc
 
-pub met_item : {E : Type 0} (u : UnitView) (holds : Bool) (t : Standing) (result : Result (Option Bool) E) (new : List Item7) → (t.yes ≡ []) × (t.no ≡ []) → IfOk result (λ found. found ≡ None) → IfOk result (λ _. (standing u new).items ≡ t.items) → IfOk result (IsMet u (followed holds t) new)
+pub met_item : {E : Type 0} (u : UnitView) (holds : Bool) (t : StackView) (result : Result (Option Bool) E) (new : List Item7) → (t.yes ≡ []) × (t.no ≡ []) → IfOk result (λ found. found ≡ None) → IfOk result (λ _. (standing u new).items ≡ t.items) → IfOk result (IsMet u (followed holds t) new)
 met_item u holds t (Ok None) new none found pushed = pushed ∙ sym (no_followed holds t none)
 met_item u holds t (Ok (Some b)) new none found pushed = absurd (no_some b found)
 met_item u holds t (Err e) new none found pushed = tt

@@ -5,7 +5,7 @@ use Rattle.c_layout.specs.declared.checked_tree.checked_terms.CheckedTerm.{Check
 use Rattle.c_layout.specs.declared.checked_tree.checked_statements.CheckedStatement.{CheckedStatement}
 use Rattle.c_layout.specs.CheckedTrees.{TermTree, StatementTree, term_tree, statement_tree}
 use Rattle.c_layout.specs.CheckedUnits.{UnitView}
-use Rattle.interp_stack.specs.Standings.{Standing, on_item, on_term, on_statement}
+use Rattle.interp_stack.specs.StackViews.{StackView, on_item, on_term, on_statement}
 use Rattle.interp_stack.specs.declared.items.Item7.{Item7}
 use Rattle.interp_stack.specs.declared.items.Item7.TheVariants as held
 use Rattle.interp_stack.specs.declared.items.Use7.{Use7}
@@ -14,15 +14,15 @@ use Rattle.interp_stack.specs.declared.items.Way7.{Way7}
 use Rattle.interp_stack.specs.declared.items.Way7.TheVariants as way
 use Rattle.interp_statements.specs.Choices.{is_target, is_target_term, is_target_statement}
 
-target_term : (u : UnitView) (how : Use7) (e : TermTree) (s : Standing) → is_target_term how ≡ true → (on_term u how e s).items ≡ s.items
+target_term : (u : UnitView) (how : Use7) (e : TermTree) (s : StackView) → is_target_term how ≡ true → (on_term u how e s).items ≡ s.items
 target_term u (use_of.After arm) e s h = refl
 target_term u how e s h = cc
 
-target_statement : (how : Way7) (x : StatementTree) (s : Standing) → is_target_statement how ≡ true → (on_statement how x s).items ≡ s.items
+target_statement : (how : Way7) (x : StatementTree) (s : StackView) → is_target_statement how ≡ true → (on_statement how x s).items ≡ s.items
 target_statement (way.After next) x s h = refl
 target_statement how x s h = cc
 
-pub target_items : (u : UnitView) (i : Item7) (s : Standing) → is_target i ≡ true → (on_item u i s).items ≡ s.items
+pub target_items : (u : UnitView) (i : Item7) (s : StackView) → is_target i ≡ true → (on_item u i s).items ≡ s.items
 target_items u held.AfterNothing s h = refl
 target_items u (held.AfterTruth holds) s h = refl
 target_items u (held.Term how e) s h = target_term u how (term_tree e.now) s h
@@ -38,7 +38,7 @@ is_part (held.Term how e) = true
 is_part (held.Statement how x) = true
 is_part i = false
 
-pub no_ways : (u : UnitView) (i : Item7) (s : Standing) → is_part i ≡ false → ((on_item u i s).yes ≡ []) × ((on_item u i s).no ≡ [])
+pub no_ways : (u : UnitView) (i : Item7) (s : StackView) → is_part i ≡ false → ((on_item u i s).yes ≡ []) × ((on_item u i s).no ≡ [])
 no_ways u held.AfterNothing s h = cc
 no_ways u (held.AfterTruth holds) s h = cc
 no_ways u held.Negated s h = cc

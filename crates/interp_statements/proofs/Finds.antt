@@ -3,7 +3,7 @@ use Rattle.std.proofs.Common.{◌≡◌, Bool, true, false, List, Option, Some, 
 use Rattle.semantics.specs.SourceMachine.Items.{Item}
 use Rattle.semantics.specs.SourceMachine.LabelSearch as search
 use Rattle.semantics.specs.SourceMachine.LabelSearch.{Sought, first, here_or, inside_switch}
-use Rattle.interp_stack.specs.Standings.{Standing}
+use Rattle.interp_stack.specs.StackViews.{StackView}
 use Rattle.interp_statements.specs.LabelViews.{Finds}
 
 pub finds_as : {E : Type 0} (result : Result (Unit {0}) E) (found other : Option (List Item)) (items : List Item) → found ≡ other → IfOk result (λ _. Finds found items) → IfOk result (λ _. Finds other items)
@@ -15,7 +15,7 @@ finds_nothing other items e = let family : Option (List Item) → Type 0 = λ o.
 apart : false ≡ true → ⊥
 apart e = cc
 
-pub finds_here : {E : Type 0} (result : Result (Unit {0}) E) (new before : Standing) (here : Bool) (items : List Item) (later : Option (List Item)) → here ≡ true → before.items ≡ items → IfOk result (λ _. new ≡ before) → IfOk result (λ _. Finds (here_or here items later) new.items)
+pub finds_here : {E : Type 0} (result : Result (Unit {0}) E) (new before : StackView) (here : Bool) (items : List Item) (later : Option (List Item)) → here ≡ true → before.items ≡ items → IfOk result (λ _. new ≡ before) → IfOk result (λ _. Finds (here_or here items later) new.items)
 finds_here (Ok r) new before true items later h e pushed = ap (λ s. s.items) pushed ∙ e
 finds_here (Ok r) new before false items later h e pushed = absurd (apart h)
 finds_here (Err r) new before here items later h e pushed = tt

@@ -2,7 +2,7 @@
 use Rattle.std.specs.Prelude.{◌≡◌, Bool, true, false, cond, List, ◌++◌, Option, Some, None, Result, IfOk}
 use Rattle.c_layout.specs.CheckedUnits.{UnitView}
 use Rattle.semantics.specs.SourceMachine.Items.{Item}
-use Rattle.interp_stack.specs.Standings.{Standing, standing}
+use Rattle.interp_stack.specs.StackViews.{StackView, standing}
 use Rattle.interp_stack.specs.declared.items.Item7.{Item7}
 use Rattle.interp_stack.specs.declared.items.Item7.TheVariants as held
 use Rattle.interp_stack.specs.declared.items.Use7.{Use7}
@@ -10,7 +10,7 @@ use Rattle.interp_stack.specs.declared.items.Use7.TheVariants as use_of
 use Rattle.interp_stack.specs.declared.items.Way7.{Way7}
 use Rattle.interp_stack.specs.declared.items.Way7.TheVariants as way
 
-abbrev pub followed : Bool → Standing → List Item
+abbrev pub followed : Bool → StackView → List Item
 followed holds s = cond holds s.yes s.no ++ s.items
 
 -- whether an entry of a stack is what follows a condition
@@ -35,7 +35,7 @@ IsMet u items new None = (standing u new).items ≡ items
 IsMet u items new (Some holds) = followed holds (standing u new) ≡ items
 
 -- an entry more, with which a condition holds or not, is done away with
-abbrev pub Meets : {E : Type 0} → UnitView → (Standing → Standing) → Bool → List Item7 → Result (Option Bool) E → List Item7 → Type 0
+abbrev pub Meets : {E : Type 0} → UnitView → (StackView → StackView) → Bool → List Item7 → Result (Option Bool) E → List Item7 → Type 0
 Meets u more holds old result new = IfOk result (IsMet u (followed holds (more (standing u old))) new)
 
 -- where another condition follows, no entry has been added

@@ -5,7 +5,7 @@ ghost use Rattle.c_layout.specs.CheckedUnits.{UnitView};
 ghost use Rattle.semantics.specs.SourceMachine.Items as machine;
 ghost use Rattle.semantics.specs.SourceMachine.ConditionItems.{condition, arm, choice_of, truth_of};
 ghost use Rattle.interp_stack.specs.ItemViews.{arm_items, next_items};
-ghost use Rattle.interp_stack.specs.Standings.{ways, following, on_item, on_term, on_statement, standing, Adds};
+ghost use Rattle.interp_stack.specs.StackViews.{ways, following, on_item, on_term, on_statement, standing, Adds};
 ghost use Rattle.interp_stack.specs.declared.items.Item7.{Item7};
 ghost use Rattle.interp_stack.specs.declared.items.Use7.TheVariants as use_of;
 ghost use Rattle.interp_statements.specs.Choices.{followed, is_target, is_target_term, is_target_statement, IsMet, Meets, Stays};

@@ -6,7 +6,7 @@ ghost use Rattle.semantics.specs.SourceMachine.Items as machine;
 ghost use Rattle.semantics.specs.SourceMachine.Items.{Item};
 ghost use Rattle.semantics.specs.SourceMachine.LabelSearch as search;
 ghost use Rattle.interp_statements.specs.LabelViews.{sought_view, looks_into_switches, Finds};
-ghost use Rattle.interp_stack.specs.Standings.{standing};
+ghost use Rattle.interp_stack.specs.StackViews.{standing};
 
 use crate::loop_items::{push_do_test, push_for_step, push_while_turn};
 use crate::statement_items::push_statements;

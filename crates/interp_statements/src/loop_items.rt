@@ -7,7 +7,7 @@ ghost use Rattle.semantics.specs.SourceMachine.Items as machine;
 ghost use Rattle.semantics.specs.SourceMachine.ConditionItems.{condition};
 ghost use Rattle.semantics.specs.SourceMachine.StatementItems as spec;
 ghost use Rattle.interp_stack.specs.ItemViews.{turn_items, loop_item, loop_turn};
-ghost use Rattle.interp_stack.specs.Standings.{on_item, with_items, Stacks, Adds};
+ghost use Rattle.interp_stack.specs.StackViews.{on_item, with_items, Stacks, Adds};
 
 use c_layout::{CheckedStatement, CheckedTerm};
 use interp_stack::{Item7, Next7, Use7, Way7, push_condition, push_item};
@@ -35,10 +35,10 @@ pub fn push_while_turn<'a>(
     control: &mut Vec<Item7<'a>>,
     statement: &'a CheckedStatement,
 ) -> Result<(), AllocError>
-    ensures { (u : UnitView) → Adds u (machine.Hop ∷ (machine.TurnEnd ∷ (loop_item (statement_tree statement.now) ∷ []))) control.old.items result control.new.items }
+    ensures { (u : UnitView) → Adds u (machine.Hop ∷ (machine.IterationEnd ∷ (loop_item (statement_tree statement.now) ∷ []))) control.old.items result control.new.items }
 {
     push_item(control, Item7::Statement(Way7::Turn, statement))?;
-    push_item(control, Item7::TurnEnd)?;
+    push_item(control, Item7::IterationEnd)?;
     push_item(control, Item7::Hop)?;
     Ok(())
 }
@@ -61,10 +61,10 @@ pub fn push_do_test<'a>(
     statement: &'a CheckedStatement,
     test: &'a CheckedTerm,
 ) -> Result<(), AllocError>
-    ensures { (u : UnitView) → Adds u (machine.TurnEnd ∷ condition u true (term_tree test.now) (turn_items (statement_tree statement.now)) []) control.old.items result control.new.items }
+    ensures { (u : UnitView) → Adds u (machine.IterationEnd ∷ condition u true (term_tree test.now) (turn_items (statement_tree statement.now)) []) control.old.items result control.new.items }
 {
     push_turn_test(control, statement, test)?;
-    push_item(control, Item7::TurnEnd)?;
+    push_item(control, Item7::IterationEnd)?;
     Ok(())
 }
 
@@ -86,12 +86,12 @@ pub fn push_for_step<'a>(
     statement: &'a CheckedStatement,
     step: &'a Option<CheckedTerm>,
 ) -> Result<(), AllocError>
-    ensures { (u : UnitView) → Adds u (machine.TurnEnd ∷ (spec.clause (option_map term_tree step.now) ++ (machine.Hop ∷ (loop_item (statement_tree statement.now) ∷ [])))) control.old.items result control.new.items }
+    ensures { (u : UnitView) → Adds u (machine.IterationEnd ∷ (spec.clause (option_map term_tree step.now) ++ (machine.Hop ∷ (loop_item (statement_tree statement.now) ∷ [])))) control.old.items result control.new.items }
 {
     push_item(control, Item7::Statement(Way7::Turn, statement))?;
     push_item(control, Item7::Hop)?;
     push_clause(control, step)?;
-    push_item(control, Item7::TurnEnd)?;
+    push_item(control, Item7::IterationEnd)?;
     Ok(())
 }
 
@@ -102,7 +102,7 @@ fn push_while_body<'a>(
     statement: &'a CheckedStatement,
     body: &'a CheckedStatement,
 ) -> Result<(), AllocError>
-    ensures { (u : UnitView) → Adds u (machine.Statement (statement_tree body.now) ∷ (machine.Hop ∷ (machine.TurnEnd ∷ (loop_item (statement_tree statement.now) ∷ [])))) control.old.items result control.new.items }
+    ensures { (u : UnitView) → Adds u (machine.Statement (statement_tree body.now) ∷ (machine.Hop ∷ (machine.IterationEnd ∷ (loop_item (statement_tree statement.now) ∷ [])))) control.old.items result control.new.items }
 {
     push_while_turn(control, statement)?;
     push_item(control, Item7::Statement(Way7::Whole, body))?;
@@ -115,7 +115,7 @@ fn push_for_body<'a>(
     step: &'a Option<CheckedTerm>,
     body: &'a CheckedStatement,
 ) -> Result<(), AllocError>
-    ensures { (u : UnitView) → Adds u (machine.Statement (statement_tree body.now) ∷ (machine.TurnEnd ∷ (spec.clause (option_map term_tree step.now) ++ (machine.Hop ∷ (loop_item (statement_tree statement.now) ∷ []))))) control.old.items result control.new.items }
+    ensures { (u : UnitView) → Adds u (machine.Statement (statement_tree body.now) ∷ (machine.IterationEnd ∷ (spec.clause (option_map term_tree step.now) ++ (machine.Hop ∷ (loop_item (statement_tree statement.now) ∷ []))))) control.old.items result control.new.items }
 {
     push_for_step(control, statement, step)?;
     push_item(control, Item7::Statement(Way7::Whole, body))?;
@@ -161,7 +161,7 @@ fn push_do_turn<'a>(
     body: &'a CheckedStatement,
     test: &'a CheckedTerm,
 ) -> Result<(), AllocError>
-    ensures { (u : UnitView) → Adds u (machine.Statement (statement_tree body.now) ∷ (machine.TurnEnd ∷ condition u true (term_tree test.now) (turn_items (statement_tree statement.now)) [])) control.old.items result control.new.items }
+    ensures { (u : UnitView) → Adds u (machine.Statement (statement_tree body.now) ∷ (machine.IterationEnd ∷ condition u true (term_tree test.now) (turn_items (statement_tree statement.now)) [])) control.old.items result control.new.items }
 {
     push_do_test(control, statement, test)?;
     push_item(control, Item7::Statement(Way7::Whole, body))?;

@@ -8,7 +8,7 @@ ghost use Rattle.semantics.specs.SourceMachine.ConditionItems.{condition};
 ghost use Rattle.semantics.specs.SourceMachine.StatementItems as spec;
 ghost use Rattle.semantics.specs.SourceMachine.StatementItems.{list_statements};
 ghost use Rattle.interp_stack.specs.ItemViews.{loop_item, select_item};
-ghost use Rattle.interp_stack.specs.Standings.{Adds};
+ghost use Rattle.interp_stack.specs.StackViews.{Adds};
 
 use crate::loop_items::push_test;
 use c_layout::{CheckedStatement, CheckedTerm, Function, InitStore, Lvalue, ObjectRef};
@@ -253,7 +253,7 @@ pub fn push_statement<'a>(
         CheckedStatement::Label(_, body) => push_whole(control, body),
         CheckedStatement::Goto(label) => push_item(control, Item7::GoTo(*label)),
         CheckedStatement::Break => push_item(control, Item7::BreakOut),
-        CheckedStatement::Continue => push_item(control, Item7::NextTurn),
+        CheckedStatement::Continue => push_item(control, Item7::NextIteration),
         CheckedStatement::Return(at, value) => push_return(control, is_entry, *at, value),
     }
 }

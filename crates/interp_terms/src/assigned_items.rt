@@ -6,7 +6,7 @@ ghost use Rattle.lower_templates.specs.Worklist.TermKinds.{meaning};
 ghost use Rattle.lower_expressions.specs.Assignments as assignments;
 ghost use Rattle.semantics.specs.SourceMachine.TermItems as spec;
 ghost use Rattle.semantics.specs.SourceMachine.TermItems.{if_used};
-ghost use Rattle.interp_stack.specs.Standings.{with_items, Stacks, Adds};
+ghost use Rattle.interp_stack.specs.StackViews.{with_items, Stacks, Adds};
 
 use crate::operated_items::{
     integer_kind_of, kind_of_lvalue, push_at, push_converted, push_do, push_if_unused,

@@ -8,7 +8,7 @@ ghost use Rattle.lower_expressions.specs.Calls as calls;
 ghost use Rattle.semantics.specs.SourceMachine.Items as machine;
 ghost use Rattle.semantics.specs.SourceMachine.TermItems as spec;
 ghost use Rattle.interp_stack.specs.ItemViews.{type_seen};
-ghost use Rattle.interp_stack.specs.Standings.{with_items, Stacks};
+ghost use Rattle.interp_stack.specs.StackViews.{with_items, Stacks};
 
 use crate::operated_items::{push_do, push_if_unused};
 use c_layout::{CType, CheckedTerm, LibFn};

@@ -9,7 +9,7 @@ ghost use Rattle.semantics.specs.SourceMachine.Operations as op;
 ghost use Rattle.semantics.specs.SourceMachine.Operations.{size_of};
 ghost use Rattle.semantics.specs.SourceMachine.TermItems.{address_items, converted, if_used, integer_kind, lvalue_kind, operating, order_of};
 ghost use Rattle.interp_stack.specs.ItemViews.{operation_view, order_view};
-ghost use Rattle.interp_stack.specs.Standings.{with_item, with_items, unless_used, Stacks, Adds};
+ghost use Rattle.interp_stack.specs.StackViews.{with_item, with_items, unless_used, Stacks, Adds};
 
 use c_layout::{BinaryOp, CType, Checked, CheckedTerm, Lvalue, LvalueForm};
 use cc_base::{IntType, Place};

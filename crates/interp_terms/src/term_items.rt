@@ -7,7 +7,7 @@ ghost use Rattle.semantics.specs.SourceMachine.Items as machine;
 ghost use Rattle.semantics.specs.SourceMachine.Operations as op;
 ghost use Rattle.semantics.specs.SourceMachine.TermItems.{if_used};
 ghost use Rattle.semantics.specs.SourceMachine.ConditionItems as spec;
-ghost use Rattle.interp_stack.specs.Standings.{with_item, with_items, Stacks};
+ghost use Rattle.interp_stack.specs.StackViews.{with_item, with_items, Stacks};
 ghost use Rattle.interp_terms.specs.Decided.{decided};
 
 use crate::assigned_items::{

@@ -1,5 +1,5 @@
 pub mod Heads
-pub mod OpeningTurns
+pub mod InliningTurns
 pub mod ExitTurns
 pub mod Lowered
 pub mod OneLowering
@@ -8,7 +8,7 @@ pub mod WellMadeEdges
 pub mod WellMadeHeads
 pub mod WellMadeRuns
 pub mod EdgesLead
-mod OpeningRows
+mod InliningRows
 pub mod PieceExtents
 pub mod CountedCalls
 pub mod CountedTurns

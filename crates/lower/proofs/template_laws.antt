@@ -3,10 +3,10 @@ pub mod PlainWorks
 pub mod PlainConditions
 pub mod PlainStatements
 pub mod TemplateOrder
-pub mod SettledOrder
+pub mod NormalizedOrder
 pub mod NamedLists
 pub mod NamedWorks
 pub mod NamedConditions
 pub mod NamedStatements
 pub mod TemplateNames
-pub mod SettledNames
+pub mod NormalizedNames

@@ -1,5 +1,5 @@
 pub mod MovedActs
-pub mod Openings
+pub mod Inlinings
 pub mod Lowerings
 pub mod WellMade
 pub mod AsCounted

@@ -2,7 +2,7 @@
 
 mod counted_bases;
 mod moved_operations;
-mod opened_program;
+mod inlined_program;
 mod resolved_edges;
 mod theorems;
 mod unit_lowering;

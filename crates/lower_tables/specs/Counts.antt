@@ -1,6 +1,6 @@
 pub mod SizeRefusals
 pub mod FirstOver
 pub mod FunctionTotals
-pub mod SettledTemplates
+pub mod NormalizedTemplates
 pub mod Preparations
 pub mod PreparingSteps

@@ -2,7 +2,7 @@
 
 mod count_limits;
 mod prepared_functions;
-mod settled_templates;
+mod normalized_templates;
 mod theorems;
 
 pub use count_limits::{UnitCounts, all_within, pool_values, unit_counts, within};

@@ -3,7 +3,7 @@ pub use Rattle.analysis_sound.proofs.analyses.ScalarTests
 pub use Rattle.analysis_sound.proofs.analyses.SoundAnalyses
 pub use Rattle.analysis_sound.proofs.programs.AllSteps
 pub use Rattle.analysis_sound.proofs.units.CheckedUnits
-pub use Rattle.analysis_sound.proofs.units.TurnedSound
+pub use Rattle.analysis_sound.proofs.units.UnrolledSound
 pub use Rattle.transfer_sound.proofs.induction.Blocks
 pub use Rattle.entry_sound.proofs.memory.FirstMemory
 pub use Rattle.entry_sound.proofs.memory.StartBytes

@@ -2,4 +2,4 @@ mod ShiftedActs
 pub mod FinishedPrograms
 pub mod LaidNames
 pub mod LaidCopies
-pub mod LaidOpenings
+pub mod LaidInlinings

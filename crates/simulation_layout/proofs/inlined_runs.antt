@@ -1,4 +1,4 @@
-mod FitSettled
+mod FitNormalized
 mod StartNames
 mod WholePrograms
 mod LaidPrograms

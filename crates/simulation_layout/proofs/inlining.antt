@@ -2,5 +2,5 @@ pub mod ListPlaces
 pub mod NamedTables
 pub mod MadeParts
 pub mod NamedPlaces
-pub mod OpenedPieces
-pub mod OpenedCopies
+pub mod InlinedPieces
+pub mod InlinedCopies

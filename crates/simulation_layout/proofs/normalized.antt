@@ -1,6 +1,6 @@
-pub mod SettledPieces
+pub mod NormalizedPieces
 pub mod QuietFunctions
 pub mod SameActs
-mod SettledSteps
+mod NormalizedSteps
 mod QuietRuns
-pub mod SettledReturns
+pub mod NormalizedReturns

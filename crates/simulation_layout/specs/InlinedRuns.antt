@@ -1,1 +1,1 @@
-pub mod OpenedRuns
+pub mod InlinedRuns

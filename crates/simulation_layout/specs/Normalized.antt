@@ -1,1 +1,1 @@
-pub mod SettledRuns
+pub mod NormalizedRuns

@@ -2,4 +2,4 @@
 
 mod theorems;
 
-pub use theorems::{lowered_runs_are_the_same, opened_runs_are_the_same};
+pub use theorems::{lowered_runs_are_the_same, inlined_runs_are_the_same};

@@ -2,4 +2,4 @@
 
 mod theorems;
 
-pub use theorems::{settled_runs_are_the_same, settled_runs_return_alike};
+pub use theorems::{normalized_runs_are_the_same, normalized_runs_return_alike};

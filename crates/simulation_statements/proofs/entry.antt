@@ -1,5 +1,5 @@
 pub mod Bodies
 pub mod CalledPlans
-pub mod CalledFollows
+pub mod CalledSimulates
 pub mod CalledFunctions
-pub mod EntryFollows
+pub mod EntrySimulates

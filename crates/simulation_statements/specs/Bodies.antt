@@ -1,1 +1,1 @@
-pub mod StatementsFollow
+pub mod StatementsSimulate

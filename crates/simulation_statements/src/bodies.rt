@@ -2,4 +2,4 @@
 
 mod theorems;
 
-pub use theorems::{labels_follow, statements_follow};
+pub use theorems::{labels_simulate, statements_simulate};

@@ -2,4 +2,4 @@
 
 mod theorems;
 
-pub use theorems::{entries_are_followed, functions_are_followed};
+pub use theorems::{entries_are_simulated, functions_are_simulated};

@@ -2,4 +2,4 @@
 
 mod theorems;
 
-pub use theorems::gotos_follow;
+pub use theorems::gotos_simulate;

@@ -2,4 +2,4 @@
 
 mod theorems;
 
-pub use theorems::{edges_follow, leaps_follow};
+pub use theorems::{edges_simulate, leaps_simulate};

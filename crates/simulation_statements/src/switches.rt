@@ -2,4 +2,4 @@
 
 mod theorems;
 
-pub use theorems::{switches_follow, values_have_edges};
+pub use theorems::{switches_simulate, values_have_edges};

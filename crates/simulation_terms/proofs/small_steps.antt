@@ -2,4 +2,4 @@ mod ValuesBelow
 mod StepsAlike
 mod TestsAlike
 pub mod CallsAlike
-pub mod TurnsFollow
+pub mod TurnsSimulate

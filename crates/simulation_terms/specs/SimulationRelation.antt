@@ -1,2 +1,2 @@
 pub mod Activations
-pub mod Follows
+pub mod Simulates

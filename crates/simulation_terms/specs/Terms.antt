@@ -1,1 +1,1 @@
-pub mod TermsFollow
+pub mod TermsSimulate

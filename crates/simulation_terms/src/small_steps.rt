@@ -2,4 +2,4 @@
 
 mod theorems;
 
-pub use theorems::{runs_are_followed, turns_are_followed};
+pub use theorems::{runs_are_simulated, turns_are_simulated};

@@ -2,4 +2,4 @@
 
 mod theorems;
 
-pub use theorems::{conditions_follow, terms_follow, unused_terms_follow};
+pub use theorems::{conditions_simulate, terms_simulate, unused_terms_simulate};

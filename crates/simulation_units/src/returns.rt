@@ -2,4 +2,4 @@
 
 mod theorems;
 
-pub use theorems::{quiet_turns_end, returns_are_followed};
+pub use theorems::{quiet_turns_end, returns_are_simulated};

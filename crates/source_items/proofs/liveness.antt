@@ -1,5 +1,5 @@
 pub mod Members
-pub mod Openings
+pub mod Inlinings
 pub mod Sitting
 mod ReadLines
 mod SittingConditions

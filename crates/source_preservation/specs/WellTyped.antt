@@ -1,5 +1,5 @@
 pub mod ExactTerms
-pub mod MarkedTerms
-pub mod MarkedStatements
-pub mod MarkedItems
-pub mod MarkedStates
+pub mod WellTypedTerms
+pub mod WellTypedStatements
+pub mod WellTypedItems
+pub mod WellTypedStates

@@ -1,7 +1,7 @@
-pub mod SettledLeads
+pub mod NormalizedLeads
 pub mod SmallLeaves
 pub mod NamedBases
-pub mod LeadingOpenings
+pub mod LeadingInlinings
 pub mod LeadingPrograms
 pub mod StandingLabels
 pub mod PlainPrograms

@@ -1,9 +1,9 @@
-pub mod SettledNumbers
+pub mod NormalizedNumbers
 pub mod SilentCalls
-pub mod SettledKnowledge
+pub mod NormalizedKnowledge
 pub mod CalmPieces
-pub mod SettledTypes
-pub mod SettledCalm
+pub mod NormalizedTypes
+pub mod NormalizedCalm
 pub mod FoundParts
 pub mod StandingArrays
 pub mod StandingStarts

@@ -1,1 +1,1 @@
-pub mod TypedOpenings
+pub mod TypedInlinings

@@ -2,4 +2,4 @@
 
 mod theorems;
 
-pub use theorems::typed_names_make_typed_openings;
+pub use theorems::typed_names_make_typed_inlinings;

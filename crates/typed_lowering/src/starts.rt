@@ -3,6 +3,6 @@
 mod theorems;
 
 pub use theorems::{
-    settled_templates_are_calm, settled_templates_are_typed, typed_objects_are_typed,
+    normalized_templates_are_calm, normalized_templates_are_typed, typed_objects_are_typed,
     types_stand_where_they_begin,
 };

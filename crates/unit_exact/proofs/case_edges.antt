@@ -4,6 +4,6 @@ pub mod ApartWorks
 pub mod ApartConditions
 pub mod ApartStatements
 pub mod ApartTemplates
-pub mod SettledApart
+pub mod NormalizedApart
 pub mod ApartRuns
 pub mod ApartPrograms

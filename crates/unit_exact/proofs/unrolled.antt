@@ -2,4 +2,4 @@ pub mod AlikeOperations
 pub mod TypedCopies
 pub mod OwnParts
 pub mod SingleCopies
-pub mod TurnedUnits
+pub mod UnrolledUnits

@@ -1,2 +1,2 @@
-pub mod TurnedUnits
-pub mod TurnedLoops
+pub mod UnrolledUnits
+pub mod UnrolledLoops

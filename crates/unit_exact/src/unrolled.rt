@@ -2,4 +2,4 @@
 
 mod theorems;
 
-pub use theorems::{looped_units_are_exact, turned_programs_are_single, unrolled_units_are_exact};
+pub use theorems::{looped_units_are_exact, unrolled_programs_are_exact, unrolled_units_are_exact};

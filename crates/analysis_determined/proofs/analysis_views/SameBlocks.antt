@@ -12,7 +12,7 @@ use Rattle.transfer_system.specs.Edges.{last_of}
 use Rattle.transfer_system.specs.System.BlockPasses.{instructions_in}
 use Rattle.transfer_system.specs.System.FlowMachines.{head_in, edge_at, no_edge}
 use Rattle.analysis_determined.specs.UnrolledDiagnostics.SameParts.{SameParts}
-use Rattle.analysis_determined.proofs.unrolled_diagnostics.TurnedPrograms.{last_is}
+use Rattle.analysis_determined.proofs.unrolled_diagnostics.UnrolledPrograms.{last_is}
 
 -- ---- blocks by their views
 

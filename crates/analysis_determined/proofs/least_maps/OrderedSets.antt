@@ -15,16 +15,16 @@ use Rattle.analysis.proofs.FewestPairs.{In, AreIn, in_from, contains_in}
 
 -- ---- the order has two directions
 
-turned_then : (a b c d : Ordering) → a ≡ ordering_reverse c → b ≡ ordering_reverse d → ordering_then a b ≡ ordering_reverse (ordering_then c d)
-turned_then a b c d e f = subst₂ (λ u v. ordering_then u v ≡ ordering_reverse (ordering_then c d)) (sym e) (sym f) (then_flip c d)
+unrolled_then : (a b c d : Ordering) → a ≡ ordering_reverse c → b ≡ ordering_reverse d → ordering_then a b ≡ ordering_reverse (ordering_then c d)
+unrolled_then a b c d e f = subst₂ (λ u v. ordering_then u v ≡ ordering_reverse (ordering_then c d)) (sym e) (sym f) (then_flip c d)
 
-place_turned : (p q : Place) → place_compare p q ≡ ordering_reverse (place_compare q p)
-place_turned p q =
-    turned_then (nat_cmp p.file q.file) (ordering_then (nat_cmp p.line q.line) (nat_cmp p.col q.col)) (nat_cmp q.file p.file) (ordering_then (nat_cmp q.line p.line) (nat_cmp q.col p.col)) (nat_cmp_total.antisymm p.file q.file)
-    (turned_then (nat_cmp p.line q.line) (nat_cmp p.col q.col) (nat_cmp q.line p.line) (nat_cmp q.col p.col) (nat_cmp_total.antisymm p.line q.line) (nat_cmp_total.antisymm p.col q.col))
+place_unrolled : (p q : Place) → place_compare p q ≡ ordering_reverse (place_compare q p)
+place_unrolled p q =
+    unrolled_then (nat_cmp p.file q.file) (ordering_then (nat_cmp p.line q.line) (nat_cmp p.col q.col)) (nat_cmp q.file p.file) (ordering_then (nat_cmp q.line p.line) (nat_cmp q.col p.col)) (nat_cmp_total.antisymm p.file q.file)
+    (unrolled_then (nat_cmp p.line q.line) (nat_cmp p.col q.col) (nat_cmp q.line p.line) (nat_cmp q.col p.col) (nat_cmp_total.antisymm p.line q.line) (nat_cmp_total.antisymm p.col q.col))
 
 turned : (d e : Diag) → diagnostic_compare d e ≡ ordering_reverse (diagnostic_compare e d)
-turned d e = turned_then (place_compare d.place e.place) (nat_cmp (rule_rank d.rule) (rule_rank e.rule)) (place_compare e.place d.place) (nat_cmp (rule_rank e.rule) (rule_rank d.rule)) (place_turned d.place e.place) (nat_cmp_total.antisymm (rule_rank d.rule) (rule_rank e.rule))
+turned d e = unrolled_then (place_compare d.place e.place) (nat_cmp (rule_rank d.rule) (rule_rank e.rule)) (place_compare e.place d.place) (nat_cmp (rule_rank e.rule) (rule_rank d.rule)) (place_unrolled d.place e.place) (nat_cmp_total.antisymm (rule_rank d.rule) (rule_rank e.rule))
 
 one_way : (d e : Diag) → diagnostic_compare d e ≡ Less → diagnostic_compare e d ≡ Less → ⊥
 one_way d e h k = let m : Less ≡ Greater = sym h ∙ (turned d e ∙ ap ordering_reverse k) in cc

@@ -13,7 +13,7 @@ use Rattle.memory_model.specs.Effects.Tests.{TestedSide, object, constant, nothi
 use Rattle.lower_templates.specs.Worklist.Pieces.{Way}
 use Rattle.lower_templates.specs.Worklist.Pieces as ways
 use Rattle.lower_templates.specs.Views.ProgramViews.{BlockView, EdgeView, FlowView}
-use Rattle.semantics.specs.CfgMachine.FlowStates.{Standing, if_some, with_instance}
+use Rattle.semantics.specs.CfgMachine.FlowStates.{ProgramState, if_some, with_instance}
 use Rattle.semantics.specs.CfgMachine.FlowEdges.{is_taken, edge_taken, edges_of, with_side, in_world, testing, integer_in, matching, with_put, on_way, at_block, along}
 use Rattle.semantics.specs.CfgMachine.FlowSteps.{block_or, block_of, on_edge}
 use Rattle.loop_unrolling.specs.Turns.{copies, last_copy, number_in, copy_behind, edge_copy, block_copy, split}
@@ -24,7 +24,7 @@ use Rattle.analysis_determined.proofs.unrolled_runs.MovedStandings.{Moved, if_mo
 -- ---- what is behind a step
 
 -- both go on, in the same place of a copy, or both stop
-abbrev pub Copied : ℕ → FlowView → Reply Standing → Reply Standing → Type 0
+abbrev pub Copied : ℕ → FlowView → Reply ProgramState → Reply ProgramState → Type 0
 Copied turns f (goes s w) (goes t v) = IsCopied turns f s t × (v ≡ w)
 Copied turns f (stops why w) (stops reason v) = (reason ≡ why) × (v ≡ w)
 Copied turns f one other = ⊥
@@ -33,11 +33,11 @@ module _ (turns : ℕ) (f : FlowView) where
   abbrev blocks : ℕ
   blocks = length f.blocks
 
-  pub copied_if : {A : Type 0} (s : Standing) (k : ℕ) (x : Option A) (g h : A → Reply Standing) → ((v : A) → Copied turns f (g v) (h v)) → Copied turns f (if_some s x g) (if_some (in_copy blocks k s) x h)
+  pub copied_if : {A : Type 0} (s : ProgramState) (k : ℕ) (x : Option A) (g h : A → Reply ProgramState) → ((v : A) → Copied turns f (g v) (h v)) → Copied turns f (if_some s x g) (if_some (in_copy blocks k s) x h)
   copied_if s k None g h q = (refl, refl)
   copied_if s k (Some v) g h q = q v
 
-  pub moved_is_copied : (k block : ℕ) → k < copies turns → block < blocks → (r q : Reply Standing) → Moved blocks k block r q → Copied turns f r q
+  pub moved_is_copied : (k block : ℕ) → k < copies turns → block < blocks → (r q : Reply ProgramState) → Moved blocks k block r q → Copied turns f r q
   moved_is_copied k block a b (goes s w) (goes t v) m = (record { copy = k; among = a; block = subst (λ z. z < blocks) (sym m.0) b; place = m.1.0 }, m.1.1)
   moved_is_copied k block a b (goes s w) (stops why v) m = absurd m
   moved_is_copied k block a b (stops why w) (goes t v) m = absurd m
@@ -46,16 +46,16 @@ module _ (turns : ℕ) (f : FlowView) where
   -- ---- what an edge does
 
   module _ (k : ℕ) where
-    side_moved : (s : Standing) (x : Side) (g h : TestedSide → Reply Standing) → ((v : TestedSide) → Moved blocks k s.block (g v) (h v)) → Moved blocks k s.block (with_side s x g) (with_side (in_copy blocks k s) x h)
+    side_moved : (s : ProgramState) (x : Side) (g h : TestedSide → Reply ProgramState) → ((v : TestedSide) → Moved blocks k s.block (g v) (h v)) → Moved blocks k s.block (with_side s x g) (with_side (in_copy blocks k s) x h)
     side_moved s (side.Object base kind) g h q = if_moved blocks k s s.block (s.bases base) (λ i. g (object i kind)) (λ i. h (object i kind)) (λ i. q (object i kind))
     side_moved s (side.Number n) g h q = q (constant n)
     side_moved s side.Null g h q = q nothing
 
-    world_moved : (s : Standing) (r : Reply (Unit {0})) → Moved blocks k s.block (in_world s r) (in_world (in_copy blocks k s) r)
+    world_moved : (s : ProgramState) (r : Reply (Unit {0})) → Moved blocks k s.block (in_world s r) (in_world (in_copy blocks k s) r)
     world_moved s (goes v w) = (refl, (refl, refl))
     world_moved s (stops why w) = (refl, refl)
 
-    testing_moved : (s : Standing) (t : Option Test) → Moved blocks k s.block (testing f s t) (testing (split turns f) (in_copy blocks k s) t)
+    testing_moved : (s : ProgramState) (t : Option Test) → Moved blocks k s.block (testing f s t) (testing (split turns f) (in_copy blocks k s) t)
     testing_moved s None = (refl, (refl, refl))
     testing_moved s (Some t) =
         side_moved s t.left
@@ -66,11 +66,11 @@ module _ (turns : ℕ) (f : FlowView) where
         (λ right. in_world (in_copy blocks k s) (pass_test f.model (record { left = left; rel = t.rel; right = right; common = t.common }) s.world))
         (λ right. world_moved s (pass_test f.model (record { left = left; rel = t.rel; right = right; common = t.common }) s.world)))
 
-    put_moved : (block : ℕ) (p : Option (ℕ × ℤ)) (s : Standing) (w : World) → s.block ≡ block → Moved blocks k block (goes (with_put p s) w) (goes (with_put p (in_copy blocks k s)) w)
+    put_moved : (block : ℕ) (p : Option (ℕ × ℤ)) (s : ProgramState) (w : World) → s.block ≡ block → Moved blocks k block (goes (with_put p s) w) (goes (with_put p (in_copy blocks k s)) w)
     put_moved block None s w e = (e, (refl, refl))
     put_moved block (Some p) s w e = (e, (refl, refl))
 
-    matching_moved : (s : Standing) (value : ℤ) (o : Option ℕ) → Moved blocks k s.block (matching f s value o) (matching (split turns f) (in_copy blocks k s) value o)
+    matching_moved : (s : ProgramState) (value : ℤ) (o : Option ℕ) → Moved blocks k s.block (matching f s value o) (matching (split turns f) (in_copy blocks k s) value o)
     matching_moved s value None = (refl, (refl, refl))
     matching_moved s value (Some base) =
         if_moved blocks k s s.block (slice_get f.bases base)
@@ -81,7 +81,7 @@ module _ (turns : ℕ) (f : FlowView) where
         (λ i. in_world (in_copy blocks k s) (pass_case f.model i (integer_in b) value s.world))
         (λ i. world_moved s (pass_case f.model i (integer_in b) value s.world)))
 
-    way_moved : (s : Standing) (x : Way) → Moved blocks k s.block (on_way f s x) (on_way (split turns f) (in_copy blocks k s) x)
+    way_moved : (s : ProgramState) (x : Way) → Moved blocks k s.block (on_way f s x) (on_way (split turns f) (in_copy blocks k s) x)
     way_moved s ways.Always = (refl, (refl, refl))
     way_moved s (ways.When truth test puts) =
         behind_moved blocks k s.block (testing f s test) (testing (split turns f) (in_copy blocks k s) test) (λ s w. goes (with_put puts s) w) (λ s w. goes (with_put puts s) w)
@@ -143,7 +143,7 @@ module _ (turns : ℕ) (f : FlowView) where
         one true c more = (0, sym (ap (λ z. cond z (Some x) (edge_taken v es)) c) ∙ h)
         one false c more = let r = more (sym (ap (λ z. cond z (Some x) (edge_taken v es)) c) ∙ h) in (suc r.0, r.1)
 
-    module _ (linked : IsLinked f) (s : Standing) (less : s.block < blocks) (b : BlockView) (there : slice_get f.blocks s.block ≡ Some b) where
+    module _ (linked : IsLinked f) (s : ProgramState) (less : s.block < blocks) (b : BlockView) (there : slice_get f.blocks s.block ≡ Some b) where
       abbrev own : List EdgeView
       own = edges_of f b
 
@@ -151,7 +151,7 @@ module _ (turns : ℕ) (f : FlowView) where
       along_moved None to = (refl, refl)
       along_moved (Some e) to = entered (on_way f s e.taken) (on_way (split turns f) (in_copy blocks k s) e.taken) (way_moved k s e.taken)
         where
-          entered : (r q : Reply Standing) → Moved blocks k s.block r q → Copied turns f (behind r (λ s w. goes (at_block e.to s) w)) (behind q (λ s w. goes (at_block (ec e).to s) w))
+          entered : (r q : Reply ProgramState) → Moved blocks k s.block r q → Copied turns f (behind r (λ s w. goes (at_block e.to s) w)) (behind q (λ s w. goes (at_block (ec e).to s) w))
           entered (goes t w) (goes x v) m = (
             record {
               copy = copy_behind (last_copy turns) k e.from e.to;

@@ -13,7 +13,7 @@ use Rattle.memory_model.specs.Effects.UnitStarts.{start_world}
 use Rattle.lower_templates.specs.Worklist.Acts as act
 use Rattle.lower_templates.specs.Worklist.Acts.{Act, Step}
 use Rattle.lower_templates.specs.Views.ProgramViews.{BlockView, FlowView}
-use Rattle.semantics.specs.CfgMachine.FlowStates.{Standing, values_of, put_if, FlowRun, running, stopped}
+use Rattle.semantics.specs.CfgMachine.FlowStates.{ProgramState, values_of, put_if, FlowRun, running, stopped}
 use Rattle.semantics.specs.CfgMachine.FlowActs.{perform}
 use Rattle.semantics.specs.CfgMachine.FlowSteps.{no_block, block_or, on_edge, switching, reading_line, act_step, begun, run_by, instruction_step, flow_step, flow_steps}
 use Rattle.semantics.specs.CfgMachine.FlowStarts.{start_names, begun_by, flow_begin}
@@ -29,25 +29,25 @@ module _ (turns : ℕ) (f : FlowView) (linked : IsLinked f) where
   -- ---- instructions
 
   module _ (k : ℕ) (p : k < copies turns) (b : BlockView) where
-    plain : (a : Act) (s : Standing) → s.block < blocks → Copied turns f (perform f a s) (perform (split turns f) a (in_copy blocks k s))
+    plain : (a : Act) (s : ProgramState) → s.block < blocks → Copied turns f (perform f a s) (perform (split turns f) a (in_copy blocks k s))
     plain a s less = moved_is_copied turns f k s.block p less (perform f a s) (perform (split turns f) a (in_copy blocks k s)) (perform_moved blocks k turns f a s)
 
-    switched : (s : Standing) → s.block < blocks → slice_get f.blocks s.block ≡ Some b → (v : Scalar) → Copied turns f (switching f s v) (switching (split turns f) (in_copy blocks k s) v)
+    switched : (s : ProgramState) → s.block < blocks → slice_get f.blocks s.block ≡ Some b → (v : Scalar) → Copied turns f (switching f s v) (switching (split turns f) (in_copy blocks k s) v)
     switched s less there (integer n labels) = edge_copied turns f k p linked s less b there (integer n labels)
     switched s less there (pointer q) = (refl, refl)
 
-    line_put : (s : Standing) → s.block < blocks → slice_get f.blocks s.block ≡ Some b → (to : Option ℕ) (v : Scalar) (w : World) → Copied turns f (on_edge f (put_if s to v w) v) (on_edge (split turns f) (put_if (in_copy blocks k s) to v w) v)
+    line_put : (s : ProgramState) → s.block < blocks → slice_get f.blocks s.block ≡ Some b → (to : Option ℕ) (v : Scalar) (w : World) → Copied turns f (on_edge f (put_if s to v w) v) (on_edge (split turns f) (put_if (in_copy blocks k s) to v w) v)
     line_put s less there None v w = edge_copied turns f k p linked (put_if s None v w) less b there v
     line_put s less there (Some to) v w = edge_copied turns f k p linked (put_if s (Some to) v w) less b there v
 
-    line_read : (s : Standing) → s.block < blocks → slice_get f.blocks s.block ≡ Some b → (to : Option ℕ) (arguments : List Scalar) → Copied turns f (reading_line f to s arguments) (reading_line (split turns f) to (in_copy blocks k s) arguments)
+    line_read : (s : ProgramState) → s.block < blocks → slice_get f.blocks s.block ≡ Some b → (to : Option ℕ) (arguments : List Scalar) → Copied turns f (reading_line f to s arguments) (reading_line (split turns f) to (in_copy blocks k s) arguments)
     line_read s less there to arguments = read (fgets f.model arguments s.world)
       where
         read : (r : Reply Scalar) → Copied turns f (behind r (λ v w. on_edge f (put_if s to v w) v)) (behind r (λ v w. on_edge (split turns f) (put_if (in_copy blocks k s) to v w) v))
         read (goes v w) = line_put s less there to v w
         read (stops why w) = (refl, refl)
 
-    act_copied : (a : Act) (s : Standing) → s.block < blocks → slice_get f.blocks s.block ≡ Some b → Copied turns f (act_step f a s) (act_step (split turns f) a (in_copy blocks k s))
+    act_copied : (a : Act) (s : ProgramState) → s.block < blocks → slice_get f.blocks s.block ≡ Some b → Copied turns f (act_step f a s) (act_step (split turns f) a (in_copy blocks k s))
     act_copied (act.Constant to value kind) s less there = plain (act.Constant to value kind) s less
     act_copied (act.Address to base offset) s less there = plain (act.Address to base offset) s less
     act_copied (act.Load to from kind) s less there = plain (act.Load to from kind) s less
@@ -77,17 +77,17 @@ module _ (turns : ℕ) (f : FlowView) (linked : IsLinked f) where
 
   -- ---- steps
 
-  run_copied : (found : List Violation) (at : Place) (r q : Reply Standing) → Copied turns f r q → SameRun turns f (run_by found at r) (run_by found at q)
+  run_copied : (found : List Violation) (at : Place) (r q : Reply ProgramState) → Copied turns f r q → SameRun turns f (run_by found at r) (run_by found at q)
   run_copied found at (goes s w) (goes t v) m = world_same (m.0) m.1
     where
       world_same : IsCopied turns f s t → v ≡ w → SameRun turns f (run_by found at (goes s w)) (run_by found at (goes t v))
       world_same c e = subst (λ z. SameRun turns f (run_by found at (goes s w)) (run_by found at (goes t z))) (sym e)
-          (record { copy = c.copy; among = c.among; block = c.block; place = ap (λ (z : Standing). record z { world = w }) c.place }, refl)
+          (record { copy = c.copy; among = c.among; block = c.block; place = ap (λ (z : ProgramState). record z { world = w }) c.place }, refl)
   run_copied found at (goes s w) (stops why v) m = absurd m
   run_copied found at (stops why w) (goes t v) m = absurd m
   run_copied found at (stops why w) (stops reason v) m = subst₂ (λ x y. SameRun turns f (run_by found at (stops why w)) (run_by found at (stops x y))) (sym m.0) (sym m.1) (refl, (refl, refl))
 
-  step_copied : (s : Standing) (found : List Violation) (k : ℕ) → k < copies turns → s.block < blocks → SameRun turns f (flow_step f (running s found)) (flow_step (split turns f) (running (in_copy blocks k s) found))
+  step_copied : (s : ProgramState) (found : List Violation) (k : ℕ) → k < copies turns → s.block < blocks → SameRun turns f (flow_step f (running s found)) (flow_step (split turns f) (running (in_copy blocks k s) found))
   step_copied s found k p less =
       subst₂ (λ x y. SameRun turns f (instruction_step f found s (slice_get (block_or_steps x) s.at)) (instruction_step (split turns f) found (in_copy blocks k s) (slice_get (block_or_steps y) s.at)))
       (sym (ap block_or there)) (sym (block_there turns f k p s.block b there less)) (one (slice_get b.steps s.at))

@@ -2,7 +2,7 @@
 use Rattle.std.specs.Prelude.{◌≡◌, ℕ, ◌+◌, ◌<◌, ◌≤◌, ℤ, List, length, Some, slice_get}
 use Rattle.c_layout.specs.CheckedUnits.{UnitView}
 use Rattle.lower_templates.specs.Views.ProgramViews.{BlockView, EdgeView, FlowView}
-use Rattle.semantics.specs.CfgMachine.FlowStates.{Standing, FlowRun, running, stopped}
+use Rattle.semantics.specs.CfgMachine.FlowStates.{ProgramState, FlowRun, running, stopped}
 use Rattle.semantics.specs.CfgMachine.FlowSteps.{flow_steps}
 use Rattle.semantics.specs.CfgMachine.FlowStarts.{flow_begin}
 use Rattle.loop_unrolling.specs.Turns.{copies, number_in, split}
@@ -14,10 +14,10 @@ pub record IsLinked (f : FlowView) : Type 0 where
   pub targets : (j : ℕ) (e : EdgeView) → slice_get f.edges j ≡ Some e → e.to < length f.blocks
 
 -- the same place in a copy
-abbrev pub in_copy : ℕ → ℕ → Standing → Standing
+abbrev pub in_copy : ℕ → ℕ → ProgramState → ProgramState
 in_copy blocks copy s = record s { block = number_in blocks copy s.block }
 
-pub record IsCopied (turns : ℕ) (f : FlowView) (s t : Standing) : Type 0 where
+pub record IsCopied (turns : ℕ) (f : FlowView) (s t : ProgramState) : Type 0 where
   pub copy : ℕ
   pub among : copy < copies turns
   pub block : s.block < length f.blocks

@@ -19,6 +19,6 @@ pub fn maps_are_copied()
 {}
 
 /// Each pair that the analysis finds in a program with turns unrolled, it finds in the program.
-pub fn turned_pairs_are_named()
+pub fn unrolled_pairs_are_named()
     ensures { (turns : ℕ) (flow turned : Flow) (list : List ℤ) → is_system flow ≡ true → flow_view turned ≡ split turns (flow_view flow) → (found pairs : List Diag) → IsAnalysis flow list found → IsAnalysis turned list pairs → (d : Diag) → Contains pairs d → Contains found d }
 {}

@@ -8,7 +8,7 @@ ghost use Rattle.analysis_determined.specs.UnrolledRuns.SameRuns.{IsLinked, Runs
 
 /// After any number of steps a run of a program and that of the program with turns unrolled, over the same draws, have the
 /// same memory, the same draws left and the same violations, and both go on or both have stopped, for the same reason.
-pub fn turned_runs_are_the_same()
+pub fn unrolled_runs_are_the_same()
     ensures { (turns : ℕ) (f : FlowView) → IsLinked f → RunsAreSame turns f }
 {}
 

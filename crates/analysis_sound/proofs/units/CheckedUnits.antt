@@ -15,7 +15,7 @@ use Rattle.loop_unrolling.specs.Turns.{split}
 use Rattle.entry_sound.proofs.checked.CheckedStarts.{HaveSoundStructs, sound_structs, unit_starts}
 use Rattle.analysis_sound.specs.Units.CheckedUnits.{FindsPairsOfChecked}
 use Rattle.analysis_sound.proofs.units.SoundUnits.{units_found}
-use Rattle.analysis_sound.proofs.units.TurnedSound.{turned_found}
+use Rattle.analysis_sound.proofs.units.UnrolledSound.{unrolled_found}
 
 pub analysed_structs : (flow : Flow) (list : List ℤ) (found : List Diag) → IsAnalysis flow list found → HaveSoundStructs flow
 analysed_structs flow list found a = sound_structs flow list a.regular a.checked.structs
@@ -34,5 +34,5 @@ same_structs turns flow turned h sound =
       ordered = subst (λ ss. are_ordered ss ≡ true) structs sound.ordered;
     }
 
-pub turned_checked_found : (turns : ℕ) (limits : Limits) (flow turned : Flow) (list : List ℤ) (found : List Diag) → is_well_formed limits flow ≡ true → flow_view turned ≡ split turns (flow_view flow) → IsAnalysis turned list found → FindsPairsOfChecked flow found
-turned_checked_found turns limits flow turned list found good h a u is v there = turned_found turns limits flow turned good h list found a u (unit_starts u flow (same_structs turns flow turned h (analysed_structs turned list found a)) is) v there
+pub unrolled_checked_found : (turns : ℕ) (limits : Limits) (flow turned : Flow) (list : List ℤ) (found : List Diag) → is_well_formed limits flow ≡ true → flow_view turned ≡ split turns (flow_view flow) → IsAnalysis turned list found → FindsPairsOfChecked flow found
+unrolled_checked_found turns limits flow turned list found good h a u is v there = unrolled_found turns limits flow turned good h list found a u (unit_starts u flow (same_structs turns flow turned h (analysed_structs turned list found a)) is) v there

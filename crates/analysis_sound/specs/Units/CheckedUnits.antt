@@ -16,6 +16,6 @@ abbrev pub FindsPairsOfChecked : Flow → List Diag → Type 0
 FindsPairsOfChecked flow found = (u : UnitView) → IsUnitOf u flow → FindsPairsOf flow found u
 
 -- by an analysis of the program with turns unrolled
-abbrev pub FindsTurnedPairsOfChecked : Type 0
-FindsTurnedPairsOfChecked = (turns : ℕ) (limits : Limits) (flow turned : Flow) (list : List ℤ) (found : List Diag) → is_well_formed limits flow ≡ true → flow_view turned ≡ split turns (flow_view flow)
+abbrev pub FindsUnrolledPairsOfChecked : Type 0
+FindsUnrolledPairsOfChecked = (turns : ℕ) (limits : Limits) (flow turned : Flow) (list : List ℤ) (found : List Diag) → is_well_formed limits flow ≡ true → flow_view turned ≡ split turns (flow_view flow)
     → IsAnalysis turned list found → FindsPairsOfChecked flow found

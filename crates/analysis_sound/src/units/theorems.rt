@@ -8,9 +8,9 @@ ghost use Rattle.analysis_sound.specs.Units.SoundUnits.{FindsPairsOfUnits, Finds
 ghost use Rattle.c_layout.specs.CheckedUnits.{UnitView};
 ghost use Rattle.memory_model.specs.Effects.Worlds.{Violation};
 ghost use Rattle.transfer_sound.specs.CutStarts.{type_list};
-ghost use Rattle.analysis_sound.specs.Units.CheckedUnits.{FindsPairsOfChecked, FindsTurnedPairsOfChecked};
+ghost use Rattle.analysis_sound.specs.Units.CheckedUnits.{FindsPairsOfChecked, FindsUnrolledPairsOfChecked};
 ghost use Rattle.analysis_sound.specs.Units.WorkedPrograms.{MeetsAllPremises, IsFoundIn};
-ghost use Rattle.analysis_sound.specs.Units.TurnedSound.{FindsTurnedPairs};
+ghost use Rattle.analysis_sound.specs.Units.UnrolledSound.{FindsUnrolledPairs};
 
 /// Each rule that a run of a unit violates at a place is among what an analysis of the program finds, where the program
 /// begins with what is in the unit's tables.
@@ -27,7 +27,7 @@ pub fn lowered_runs_are_found()
 /// turns unrolled: the entry of such a unit takes integers.
 pub fn checked_runs_are_found()
     ensures runs { (flow : Flow) (list : List ℤ) (found : List Diag) → IsAnalysis flow list found → FindsPairsOfChecked flow found }
-    ensures turned { FindsTurnedPairsOfChecked }
+    ensures turned { FindsUnrolledPairsOfChecked }
 {}
 
 /// There is a program, with a loop over a string and an allocation, of which all premises hold: a run of it reads behind
@@ -38,6 +38,6 @@ pub fn premises_can_be_met()
 
 /// Each rule that a run of a program violates at a place is among what an analysis of the program with turns unrolled
 /// finds.
-pub fn turned_analyses_are_sound()
-    ensures { FindsTurnedPairs }
+pub fn unrolled_analyses_are_sound()
+    ensures { FindsUnrolledPairs }
 {}

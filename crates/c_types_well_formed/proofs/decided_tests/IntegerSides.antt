@@ -123,8 +123,8 @@ module _ (u : UnitView) (k : Known) (ground : IsGround u k) (e : TermTree) (kind
   pub integer_side : IsSideIn u kind (integer_as k e kind)
   integer_side = record {
     typed = in_type_typed k e (Int kind);
-    object = λ o is. quiet_known (item.named o) (loaded_known o (loads u _ e o x.bare x.marked (sym (in_type_named k e (Int kind)) ∙ is)));
-    changed = λ o is. changed_known o (names u _ e o x.bare x.marked (sym (in_type_assigned k e (Int kind)) ∙ is));
+    object = λ o is. quiet_known (item.named o) (loaded_known o (loads u _ e o x.bare x.well_typed (sym (in_type_named k e (Int kind)) ∙ is)));
+    changed = λ o is. changed_known o (names u _ e o x.bare x.well_typed (sym (in_type_assigned k e (Int kind)) ∙ is));
     number = λ n is. number_known n (sym (bare_constant e x.bare) ∙ (sym (in_type_number k e (Int kind)) ∙ is));
   }
 

@@ -33,7 +33,7 @@ use Rattle.source_preservation.specs.ValueTyping.MarkOperations.{null_test_of}
 use Rattle.source_preservation.specs.Checks.LookedTypes.{is_kind, is_wider, is_address}
 use Rattle.source_preservation.specs.Checks.LookedTests.{same_side, same_relation, same_common, same_test, zero_test_in, decides_alone, decides}
 use Rattle.source_preservation.specs.Checks.LookedTerms as look
-use Rattle.source_preservation.specs.Checks.LookedTerms.{exact, quiet, operand, has_test, is_marked_term, has_tests}
+use Rattle.source_preservation.specs.Checks.LookedTerms.{exact, quiet, operand, has_test, is_well_typed_term, has_tests}
 use Rattle.source_preservation.proofs.checks.Truths.{never, both_true}
 use Rattle.c_types_well_formed.specs.WellFormed.ModelTypes.{IsKindOf, IsTypeOf, IsGround}
 use Rattle.c_types_well_formed.specs.WellFormed.MadeTerms.{IsMade, is_implicit}
@@ -102,8 +102,8 @@ module _ (u : UnitView) (proper : is_model u.model ≡ true) where
   zero_decided o t typed of.Pointer is same = subst (λ s. decides_alone u o s (null_test_of o Ne) ≡ true) (sym is) (same_test_self (null_test_of o Ne))
 
   -- a term that is an object, or assigns to one
-  alone_decided : (used : Bool) (e : TermTree) → is_implicit e ≡ false → is_marked_term u used e ≡ true → IsTypeOf u.model (term_type e) → alone u (operand u e) (zero_test u (named_or_assigned e)) ≡ true
-  alone_decided used e bare marked typed = by (named_or_assigned e) refl
+  alone_decided : (used : Bool) (e : TermTree) → is_implicit e ≡ false → is_well_typed_term u used e ≡ true → IsTypeOf u.model (term_type e) → alone u (operand u e) (zero_test u (named_or_assigned e)) ≡ true
+  alone_decided used e bare well_typed typed = by (named_or_assigned e) refl
     where
       known : (o : NamedObject) → operand u e ≡ Some (Loaded o) → o.kind ≡ scalar_of (term_type e) → alone u (operand u e) (zero_test_of u o o.kind) ≡ true
       known o is kind = subst (λ mark. alone u mark (zero_test_of u o o.kind) ≡ true) (sym is) (zero_decided o (term_type e) typed o.kind refl kind)
@@ -114,7 +114,7 @@ module _ (u : UnitView) (proper : is_model u.model ≡ true) where
 
       by : (p : Option NamedObject) → named_or_assigned e ≡ p → alone u (operand u e) (zero_test u p) ≡ true
       by None is = refl
-      by (Some o) is = either o (names u used e o bare marked is)
+      by (Some o) is = either o (names u used e o bare well_typed is)
 
 -- ---- terms
 
@@ -139,17 +139,17 @@ module _ (u : UnitView) (k : Known) (ground : IsGround u k) (at : Place) (t : Ty
   no_tests false f h = refl
 
   -- an object alone
-  pub load_tests : (is_test : Bool) (l : LvalueTree) → is_marked_term u true (Typed at t parens c (tree.Load l)) ≡ true → IsTypeOf u.model t → has_tests u is_test (Typed at t parens c (tree.Load l)) ≡ true
-  load_tests false l marked typed = refl
-  load_tests true l marked typed = by (zero_test u (named_or_assigned (Typed at t parens c (tree.Load l)))) ∙ alone_decided u ground.proper true (Typed at t parens c (tree.Load l)) refl marked typed
+  pub load_tests : (is_test : Bool) (l : LvalueTree) → is_well_typed_term u true (Typed at t parens c (tree.Load l)) ≡ true → IsTypeOf u.model t → has_tests u is_test (Typed at t parens c (tree.Load l)) ≡ true
+  load_tests false l well_typed typed = refl
+  load_tests true l well_typed typed = by (zero_test u (named_or_assigned (Typed at t parens c (tree.Load l)))) ∙ alone_decided u ground.proper true (Typed at t parens c (tree.Load l)) refl well_typed typed
     where
       by : (p : Option NamedTest) → has_test u (Typed at t parens c (tree.Load l)) p ≡ alone u (operand u (Typed at t parens c (tree.Load l))) p
       by None = refl
       by (Some test) = refl
 
-  pub assign_tests : (is_test : Bool) (l : LvalueTree) (a : TermTree) → is_marked_term u true (Typed at t parens c (tree.Assign l a)) ≡ true → IsTypeOf u.model t → has_tests u is_test (Typed at t parens c (tree.Assign l a)) ≡ true
-  assign_tests false l a marked typed = refl
-  assign_tests true l a marked typed = by (zero_test u (named_or_assigned (Typed at t parens c (tree.Assign l a)))) ∙ alone_decided u ground.proper true (Typed at t parens c (tree.Assign l a)) refl marked typed
+  pub assign_tests : (is_test : Bool) (l : LvalueTree) (a : TermTree) → is_well_typed_term u true (Typed at t parens c (tree.Assign l a)) ≡ true → IsTypeOf u.model t → has_tests u is_test (Typed at t parens c (tree.Assign l a)) ≡ true
+  assign_tests false l a well_typed typed = refl
+  assign_tests true l a well_typed typed = by (zero_test u (named_or_assigned (Typed at t parens c (tree.Assign l a)))) ∙ alone_decided u ground.proper true (Typed at t parens c (tree.Assign l a)) refl well_typed typed
     where
       by : (p : Option NamedTest) → has_test u (Typed at t parens c (tree.Assign l a)) p ≡ alone u (operand u (Typed at t parens c (tree.Assign l a))) p
       by None = refl

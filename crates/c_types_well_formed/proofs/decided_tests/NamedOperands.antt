@@ -12,7 +12,7 @@ use Rattle.lower_conditions.specs.Tests.{named, named_by, or_else, named_or_assi
 use Rattle.lower_templates.specs.Worklist.TermKinds.{is_zero, scalar_of, term_type, term_form, peeled, assigned}
 use Rattle.source_preservation.specs.ValueTyping.Marks.{Mark, Exactly, Null, Loaded}
 use Rattle.source_preservation.specs.Checks.LookedTypes.{is_scalar_type, is_address, same_mark}
-use Rattle.source_preservation.specs.Checks.LookedTerms.{exact, is_exact_zero, is_null, has_object, loaded_from, side, stored, converted_in, converted_to, first_of, quiet, operand, is_marked_term}
+use Rattle.source_preservation.specs.Checks.LookedTerms.{exact, is_exact_zero, is_null, has_object, loaded_from, side, stored, converted_in, converted_to, first_of, quiet, operand, is_well_typed_term}
 use Rattle.source_preservation.proofs.checks.DecidedTests.{number_is}
 use Rattle.source_preservation.proofs.checks.SameTypes.{scalar_is}
 use Rattle.source_preservation.proofs.checks.Truths.{never, no_some, some_is, both_true, either_true, three, five}
@@ -97,32 +97,32 @@ module _ (u : UnitView) where
     pub stored : stored u e ≡ Some (Loaded o)
     pub kind : o.kind ≡ scalar_of (term_type e)
 
-  pub loads : (used : Bool) (e : TermTree) (o : NamedObject) → is_implicit e ≡ false → is_marked_term u used e ≡ true → named e ≡ Some o → IsLoaded e o
-  loads used (Typed at t p c (tree.Load (Designates place s q (tree.Object r)))) o bare marked h =
-      let x = three (has_object u r) (is_scalar_type u s) (same_mark s t) (λ e. e) (λ e. e) (scalar_is (scalar_of s) (scalar_of t)) marked in
+  pub loads : (used : Bool) (e : TermTree) (o : NamedObject) → is_implicit e ≡ false → is_well_typed_term u used e ≡ true → named e ≡ Some o → IsLoaded e o
+  loads used (Typed at t p c (tree.Load (Designates place s q (tree.Object r)))) o bare well_typed h =
+      let x = three (has_object u r) (is_scalar_type u s) (same_mark s t) (λ e. e) (λ e. e) (scalar_is (scalar_of s) (scalar_of t)) well_typed in
       let is : record { object = r; kind = scalar_of s } ≡ o = some_is (record { object = r; kind = scalar_of s }) o h in
       record {
         side = cond-true (has_object u r && is_scalar_type u s) (Some (loaded_from r s)) None (and_from (has_object u r) (is_scalar_type u s) x.0 x.1) ∙ ap (λ o. Some (Loaded o)) is;
         kind = sym (ap (λ (o : NamedObject). o.kind) is) ∙ x.2;
       }
-  loads used (Typed at t p c (tree.Load (Designates place s q l))) o bare marked h = no_some o h
-  loads used (Typed at t p c (tree.Convert Implicit a)) o bare marked h = never (sym bare)
-  loads used (Typed at t p c (tree.Convert Cast a)) o bare marked h = no_some o h
-  loads used (Typed at t p c f) o bare marked h = no_some o h
+  loads used (Typed at t p c (tree.Load (Designates place s q l))) o bare well_typed h = no_some o h
+  loads used (Typed at t p c (tree.Convert Implicit a)) o bare well_typed h = never (sym bare)
+  loads used (Typed at t p c (tree.Convert Cast a)) o bare well_typed h = no_some o h
+  loads used (Typed at t p c f) o bare well_typed h = no_some o h
 
-  pub assigns : (used : Bool) (e : TermTree) (o : NamedObject) → is_implicit e ≡ false → is_marked_term u used e ≡ true → named_by (assigned (term_form (peeled e))) ≡ Some o → IsAssigned e o
-  assigns used (Typed at t p c (tree.Assign (Designates place s q (tree.Object r)) a)) o bare marked h =
-      let x = five (has_object u r) (is_marked_term u true a) (is_scalar_type u s) (same_mark (term_type a) s) (same_mark s t) (λ e. e) (λ e. e) (λ e. e) (λ e. e) (scalar_is (scalar_of s) (scalar_of t)) marked in
+  pub assigns : (used : Bool) (e : TermTree) (o : NamedObject) → is_implicit e ≡ false → is_well_typed_term u used e ≡ true → named_by (assigned (term_form (peeled e))) ≡ Some o → IsAssigned e o
+  assigns used (Typed at t p c (tree.Assign (Designates place s q (tree.Object r)) a)) o bare well_typed h =
+      let x = five (has_object u r) (is_well_typed_term u true a) (is_scalar_type u s) (same_mark (term_type a) s) (same_mark s t) (λ e. e) (λ e. e) (λ e. e) (λ e. e) (scalar_is (scalar_of s) (scalar_of t)) well_typed in
       let is : record { object = r; kind = scalar_of s } ≡ o = some_is (record { object = r; kind = scalar_of s }) o h in
       record { side = refl; number = refl; null = refl; stored = ap (λ o. Some (Loaded o)) is; kind = sym (ap (λ (o : NamedObject). o.kind) is) ∙ x.4 }
-  assigns used (Typed at t p c (tree.Assign (Designates place s q l) a)) o bare marked h = no_some o h
-  assigns used (Typed at t p c (tree.Convert Implicit a)) o bare marked h = never (sym bare)
-  assigns used (Typed at t p c (tree.Convert Cast a)) o bare marked h = no_some o h
-  assigns used (Typed at t p c f) o bare marked h = no_some o h
+  assigns used (Typed at t p c (tree.Assign (Designates place s q l) a)) o bare well_typed h = no_some o h
+  assigns used (Typed at t p c (tree.Convert Implicit a)) o bare well_typed h = never (sym bare)
+  assigns used (Typed at t p c (tree.Convert Cast a)) o bare well_typed h = no_some o h
+  assigns used (Typed at t p c f) o bare well_typed h = no_some o h
 
-  pub names : (used : Bool) (e : TermTree) (o : NamedObject) → is_implicit e ≡ false → is_marked_term u used e ≡ true → named_or_assigned e ≡ Some o → IsLoaded e o ⊎ IsAssigned e o
-  names used e o bare marked h = by (named e) refl h
+  pub names : (used : Bool) (e : TermTree) (o : NamedObject) → is_implicit e ≡ false → is_well_typed_term u used e ≡ true → named_or_assigned e ≡ Some o → IsLoaded e o ⊎ IsAssigned e o
+  names used e o bare well_typed h = by (named e) refl h
     where
       by : (p : Option NamedObject) → named e ≡ p → or_else p (named_by (assigned (term_form (peeled e)))) ≡ Some o → IsLoaded e o ⊎ IsAssigned e o
-      by (Some q) is h = inl (loads used e o bare marked (is ∙ h))
-      by None is h = inr (assigns used e o bare marked h)
+      by (Some q) is h = inl (loads used e o bare well_typed (is ∙ h))
+      by None is h = inr (assigns used e o bare well_typed h)

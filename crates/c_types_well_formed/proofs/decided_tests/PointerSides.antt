@@ -154,9 +154,9 @@ module _ (u : UnitView) (k : Known) (e : TermTree) (to : Ty) (fits : (is_address
   pub pointer_side : IsPointerSide u (in_type k e to)
   pointer_side = record {
     object = λ o is.
-        let y = loads u _ e o x.bare x.marked (sym (in_type_named k e to) ∙ is) in
+        let y = loads u _ e o x.bare x.well_typed (sym (in_type_named k e to) ∙ is) in
         (quiet_side u (in_type k e to) (Loaded o) (loaded_known o y), loaded_pointer o y);
-    changed = λ o is. changed_known o (names u _ e o x.bare x.marked (sym (in_type_assigned k e to) ∙ is));
+    changed = λ o is. changed_known o (names u _ e o x.bare x.well_typed (sym (in_type_assigned k e to) ∙ is));
     null = λ is. null_known (tested_null u e x (sym (in_type_zero k e to) ∙ is));
   }
 

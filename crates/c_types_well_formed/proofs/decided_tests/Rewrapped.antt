@@ -11,7 +11,7 @@ use Rattle.c_layout.specs.declared.syntax_tree.expressions.LogicalOp.TheVariants
 use Rattle.c_types_scopes.specs.Known.{Known}
 use Rattle.c_types_operands.specs.Operands.{term_type, term_constant}
 use Rattle.c_types_operands.specs.Conversions.{noted}
-use Rattle.source_preservation.specs.Checks.LookedTerms.{exact, is_null, is_marked_term, is_marked_place, has_tests}
+use Rattle.source_preservation.specs.Checks.LookedTerms.{exact, is_null, is_well_typed_term, is_well_typed_place, has_tests}
 
 -- ---- another pair of parentheses
 
@@ -24,9 +24,9 @@ module _ (at place : Place) (t : Ty) (p q : ℕ) (c d : Option ℤ) where
   rewrapped_null m (tree.Convert sort a) = refl
   rewrapped_null m f = refl
 
-  pub rewrapped_marked : (u : UnitView) (used : Bool) (f : FormTree) → is_marked_term u used (Typed at t p c f) ≡ is_marked_term u used (Typed place t q d f)
-  rewrapped_marked u used (tree.Number n) = refl
-  rewrapped_marked u used f = refl
+  pub rewrapped_well_typed : (u : UnitView) (used : Bool) (f : FormTree) → is_well_typed_term u used (Typed at t p c f) ≡ is_well_typed_term u used (Typed place t q d f)
+  rewrapped_well_typed u used (tree.Number n) = refl
+  rewrapped_well_typed u used f = refl
 
   pub rewrapped_tests : (u : UnitView) (is_test : Bool) (f : FormTree) → has_tests u is_test (Typed at t p c f) ≡ has_tests u is_test (Typed place t q d f)
   rewrapped_tests u is_test (tree.Logical And a b) = refl
@@ -39,7 +39,7 @@ module _ (at place : Place) (t : Ty) (p q : ℕ) (c d : Option ℤ) where
   rewrapped_tests u true f = refl
   rewrapped_tests u false f = refl
 
-pub rewrapped_place : (u : UnitView) (at place : Place) (t s : Ty) (p q : ℕ) (f : LvalueFormTree) → is_marked_place u (Designates at t p f) ≡ is_marked_place u (Designates place s q f)
+pub rewrapped_place : (u : UnitView) (at place : Place) (t s : Ty) (p q : ℕ) (f : LvalueFormTree) → is_well_typed_place u (Designates at t p f) ≡ is_well_typed_place u (Designates place s q f)
 rewrapped_place u at place t s p q (tree.Object o) = refl
 rewrapped_place u at place t s p q f = refl
 
@@ -62,6 +62,6 @@ module _ (k : Known) (to : Ty) where
   noted_null m (Typed at t p c (tree.Library g args noted)) = refl
   noted_null m (Typed at t p c f) = refl
 
-  pub noted_marked : (u : UnitView) (used : Bool) (e : TermTree) → is_marked_term u used (noted k to e) ≡ is_marked_term u used e
-  noted_marked u used (Typed at t p c (tree.Library g args noted)) = refl
-  noted_marked u used (Typed at t p c f) = refl
+  pub noted_well_typed : (u : UnitView) (used : Bool) (e : TermTree) → is_well_typed_term u used (noted k to e) ≡ is_well_typed_term u used e
+  noted_well_typed u used (Typed at t p c (tree.Library g args noted)) = refl
+  noted_well_typed u used (Typed at t p c f) = refl

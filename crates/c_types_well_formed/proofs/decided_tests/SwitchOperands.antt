@@ -16,25 +16,25 @@ use Rattle.cfg.specs.declared.machine_instructions.Scalar.TheVariants as of
 use Rattle.source_preservation.specs.ValueTyping.Marks.{Converted}
 use Rattle.source_preservation.specs.Checks.LookedTypes.{is_kind, is_wider, is_integer, converts}
 use Rattle.source_preservation.specs.Checks.LookedTests.{same_object, converted_number}
-use Rattle.source_preservation.specs.Checks.LookedTerms.{is_marked_term, side, converted_to}
+use Rattle.source_preservation.specs.Checks.LookedTerms.{is_well_typed_term, side, converted_to}
 use Rattle.source_preservation.specs.UnitChecks.LookedStatements.{is_of_kind, is_within, matches, selects_by}
 use Rattle.c_types_well_formed.specs.WellFormed.ModelTypes.{IsKindOf, IsTypeOf, IsGround}
 use Rattle.c_types_well_formed.specs.WellFormed.MadeTerms.{IsMade}
 use Rattle.c_types_well_formed.specs.WellFormed.MadeLaws.{SwitchesSelect}
 use Rattle.c_types_well_formed.proofs.decided_tests.ModelKinds.{kind_there, promoted_kind, promoted_wider}
-use Rattle.c_types_well_formed.proofs.decided_tests.Rewrapped.{noted_type, noted_marked}
+use Rattle.c_types_well_formed.proofs.decided_tests.Rewrapped.{noted_type, noted_well_typed}
 use Rattle.c_types_well_formed.proofs.decided_tests.ConvertedOperands.{in_type_by, in_type_named, in_type_typed, converted_side}
 use Rattle.c_types_well_formed.proofs.decided_tests.NamedOperands.{IsLoaded, loads}
 use Rattle.c_types_well_formed.proofs.decided_tests.IntegerSides.{same_object_self}
 
 module _ (u : UnitView) (k : Known) (ground : IsGround u k) (e : TermTree) (a wide : IntType) (x : IsMade u e) (t : term_type e ≡ Int a) (h : IsKindOf u.model a) (g : IsKindOf u.model wide) (wider : is_wider a wide ≡ true) where
-  used_marked : is_marked_term u true e ≡ true
-  used_marked = subst (λ s. is_marked_term u (not (is_void s)) e ≡ true) t x.marked
+  used_well_typed : is_well_typed_term u true e ≡ true
+  used_well_typed = subst (λ s. is_well_typed_term u (not (is_void s)) e ≡ true) t x.well_typed
 
-  marked_in : is_marked_term u true (integer_as k e wide) ≡ true
-  marked_in = in_type_by k e (Int wide) (λ l. is_marked_term u true l ≡ true) (λ same. used_marked)
+  well_typed_in : is_well_typed_term u true (integer_as k e wide) ≡ true
+  well_typed_in = in_type_by k e (Int wide) (λ l. is_well_typed_term u true l ≡ true) (λ same. used_well_typed)
       (and_from (is_kind u.model wide) _ (kind_there u.model ground.proper wide g)
-      (or_left _ _ (and_from (is_marked_term u true (noted k (Int wide) e)) (converts (of.Int wide) (scalar_of (term_type (noted k (Int wide) e)))) (noted_marked k (Int wide) u true e ∙ used_marked) (ap (λ s. converts (of.Int wide) (scalar_of s)) (noted_type k (Int wide) e ∙ t)))))
+      (or_left _ _ (and_from (is_well_typed_term u true (noted k (Int wide) e)) (converts (of.Int wide) (scalar_of (term_type (noted k (Int wide) e)))) (noted_well_typed k (Int wide) u true e ∙ used_well_typed) (ap (λ s. converts (of.Int wide) (scalar_of s)) (noted_type k (Int wide) e ∙ t)))))
 
   object_matches : (o : NamedObject) → IsLoaded u e o → matches u o (side u (integer_as k e wide)) ≡ true
   object_matches o y = in_type_by k e (Int wide) (λ l. matches u o (side u l) ≡ true)
@@ -52,8 +52,8 @@ module _ (u : UnitView) (k : Known) (ground : IsGround u k) (e : TermTree) (a wi
   selects_in = by (named (integer_as k e wide)) refl
     where
       by : (p : Option NamedObject) → named (integer_as k e wide) ≡ p → selects_by u (integer_as k e wide) p ≡ true
-      by None is = and_from (is_marked_term u true (integer_as k e wide)) (is_integer (term_type (integer_as k e wide))) marked_in (ap is_integer (in_type_typed k e (Int wide)))
-      by (Some o) is = object_matches o (loads u _ e o x.bare x.marked (sym (in_type_named k e (Int wide)) ∙ is))
+      by None is = and_from (is_well_typed_term u true (integer_as k e wide)) (is_integer (term_type (integer_as k e wide))) well_typed_in (ap is_integer (in_type_typed k e (Int wide)))
+      by (Some o) is = object_matches o (loads u _ e o x.bare x.well_typed (sym (in_type_named k e (Int wide)) ∙ is))
 
 pub selects : SwitchesSelect
 selects u k ground e kind x t =

@@ -32,8 +32,8 @@ use Rattle.c_types_theorems.proofs.stores.Initials.{stores_placed}
 use Rattle.lower_templates.specs.Worklist.TermKinds.{term_type}
 use Rattle.memory_model.specs.Effects.LibraryChecks.{most_size}
 use Rattle.source_preservation.specs.Checks.LookedTypes.{is_scalar_type}
-use Rattle.source_preservation.specs.Checks.LookedTerms.{is_marked_term, is_marked_place}
-use Rattle.source_preservation.specs.UnitChecks.LookedStatements.{is_marked_store, is_marked_statement, are_marked_statements}
+use Rattle.source_preservation.specs.Checks.LookedTerms.{is_well_typed_term, is_well_typed_place}
+use Rattle.source_preservation.specs.UnitChecks.LookedStatements.{is_well_typed_store, is_well_typed_statement, are_well_typed_statements}
 use Rattle.c_types_well_formed.specs.WellFormed.ModelTypes.{IsTypeOf}
 use Rattle.c_types_well_formed.specs.WellFormed.UnitParts.{IsPartOf}
 use Rattle.c_types_well_formed.specs.WellFormed.ProperStatements.{AreProperLayers, AreProperSpecs, IsProperInitializer, IsProperInitDeclarator, AreProperInitDeclarators, IsProperLocal}
@@ -45,11 +45,11 @@ use Rattle.c_types_well_formed.proofs.layouts.Specifying.{specifiers_lay}
 use Rattle.c_types_well_formed.proofs.layouts.NearStores.{stores_are_near}
 use Rattle.c_types_well_formed.specs.Initializers.ReadyStates.{IsReady, Goes}
 use Rattle.c_types_well_formed.specs.Initializers.PartLaws.{HasLaws}
-use Rattle.c_types_well_formed.specs.Initializers.MarkedDeclarations.{AreMarkedParts}
+use Rattle.c_types_well_formed.specs.Initializers.WellTypedDeclarations.{AreWellTypedParts}
 use Rattle.c_types_well_formed.proofs.initializers.Going.{IsPassed, Rules, ground, onward, then, weaker, kept_goes, cond_goes, led_goes}
 use Rattle.c_types_well_formed.proofs.initializers.Going as going
 use Rattle.c_types_well_formed.proofs.initializers.ReadySteps.{scoped_passes, named_ready, constant_ready, constant_passes, automatic_ready, automatic_passes, static_ready, static_passes, local_type_ready, local_type_passes, static_type_ready, static_type_passes, stores_ready, stores_pass}
-use Rattle.c_types_well_formed.specs.Initializers.MarkedInitializers.{AreValued, IsInitial}
+use Rattle.c_types_well_formed.specs.Initializers.WellTypedInitializers.{AreValued, IsInitial}
 use Rattle.c_types_well_formed.specs.Stores.StaticStores.{StoresIf}
 use Rattle.c_types_well_formed.proofs.stores.Addresses.{static_stores_proper}
 use Rattle.c_types_well_formed.proofs.initializers.Initializing.{Initializes, initializer_goes}
@@ -61,11 +61,11 @@ both true true g h = refl
 both true false g h = absurd (cc)
 both false b g h = absurd (cc)
 
-pub marked_more : (u : UnitView) (f : FunctionView) (xs : List StatementTree) (x : StatementTree) → are_marked_statements u f (statement_trees xs) ≡ true → is_marked_statement u f x ≡ true → are_marked_statements u f (statement_trees (xs ++ x ∷ [])) ≡ true
-marked_more u f [] x all one = both (is_marked_statement u f x) true one refl
-marked_more u f (y ∷ xs) x all one =
-    let p = and_parts (is_marked_statement u f y) (are_marked_statements u f (statement_trees xs)) all in
-    both (is_marked_statement u f y) (are_marked_statements u f (statement_trees (xs ++ x ∷ []))) p.0 (marked_more u f xs x p.1 one)
+pub well_typed_more : (u : UnitView) (f : FunctionView) (xs : List StatementTree) (x : StatementTree) → are_well_typed_statements u f (statement_trees xs) ≡ true → is_well_typed_statement u f x ≡ true → are_well_typed_statements u f (statement_trees (xs ++ x ∷ [])) ≡ true
+well_typed_more u f [] x all one = both (is_well_typed_statement u f x) true one refl
+well_typed_more u f (y ∷ xs) x all one =
+    let p = and_parts (is_well_typed_statement u f y) (are_well_typed_statements u f (statement_trees xs)) all in
+    both (is_well_typed_statement u f y) (are_well_typed_statements u f (statement_trees (xs ++ x ∷ []))) p.0 (well_typed_more u f xs x p.1 one)
 
 -- ---- sizes
 
@@ -81,15 +81,15 @@ near_fits u offset h near = le-leb offset (most_size u.model) (let room = most_r
 
 -- ---- stores and starts
 
-stores_marked : (u : UnitView) (xs : List StoreTree) → is_model u.model ≡ true → AreValued u xs → AreNear xs → list_all (is_marked_store u) xs ≡ true
-stores_marked u [] h all near = refl
-stores_marked u (StoreValue offset e ∷ xs) h all near =
-    both (is_marked_store u (StoreValue offset e)) (list_all (is_marked_store u) xs)
-    (both (is_marked_term u true e) (is_scalar_type u (term_type e) && nat_le offset (most_size u.model)) all.0.0 (both (is_scalar_type u (term_type e)) (nat_le offset (most_size u.model)) all.0.1 (near_fits u offset h near.0)))
-    (stores_marked u xs h all.1 near.1)
-stores_marked u (StoreCopy offset l ∷ xs) h all near =
-    both (is_marked_store u (StoreCopy offset l)) (list_all (is_marked_store u) xs) (both (is_marked_place u l) (nat_le offset (most_size u.model)) all.0 (near_fits u offset h near.0)) (stores_marked u xs h all.1 near.1)
-stores_marked u (StoreText offset room text ∷ xs) h all near = both (is_marked_store u (StoreText offset room text)) (list_all (is_marked_store u) xs) all.0 (stores_marked u xs h all.1 near.1)
+stores_well_typed : (u : UnitView) (xs : List StoreTree) → is_model u.model ≡ true → AreValued u xs → AreNear xs → list_all (is_well_typed_store u) xs ≡ true
+stores_well_typed u [] h all near = refl
+stores_well_typed u (StoreValue offset e ∷ xs) h all near =
+    both (is_well_typed_store u (StoreValue offset e)) (list_all (is_well_typed_store u) xs)
+    (both (is_well_typed_term u true e) (is_scalar_type u (term_type e) && nat_le offset (most_size u.model)) all.0.0 (both (is_scalar_type u (term_type e)) (nat_le offset (most_size u.model)) all.0.1 (near_fits u offset h near.0)))
+    (stores_well_typed u xs h all.1 near.1)
+stores_well_typed u (StoreCopy offset l ∷ xs) h all near =
+    both (is_well_typed_store u (StoreCopy offset l)) (list_all (is_well_typed_store u) xs) (both (is_well_typed_place u l) (nat_le offset (most_size u.model)) all.0 (near_fits u offset h near.0)) (stores_well_typed u xs h all.1 near.1)
+stores_well_typed u (StoreText offset room text ∷ xs) h all near = both (is_well_typed_store u (StoreText offset room text)) (list_all (is_well_typed_store u) xs) all.0 (stores_well_typed u xs h all.1 near.1)
 
 -- the stores of an initializer, if it has some
 abbrev pub IsNearInitial : InitializedView → Type 0
@@ -97,10 +97,10 @@ IsNearInitial (ByTerm e) = Unit {0}
 IsNearInitial (ByLvalue l) = Unit {0}
 IsNearInitial (ByStores xs) = AreNear xs
 
-start_marked : (u : UnitView) (f : FunctionView) (at : Place) (number : ℕ) (v : InitializedView) → is_model u.model ≡ true → IsInitial u v → IsNearInitial v → is_marked_statement u f (start at number v) ≡ true
-start_marked u f at number (ByTerm e) h g near = both (is_marked_term u true e) (is_scalar_type u (term_type e)) g.0 g.1
-start_marked u f at number (ByLvalue l) h g near = g
-start_marked u f at number (ByStores xs) h g near = stores_marked u xs h g near
+start_well_typed : (u : UnitView) (f : FunctionView) (at : Place) (number : ℕ) (v : InitializedView) → is_model u.model ≡ true → IsInitial u v → IsNearInitial v → is_well_typed_statement u f (start at number v) ≡ true
+start_well_typed u f at number (ByTerm e) h g near = both (is_well_typed_term u true e) (is_scalar_type u (term_type e)) g.0 g.1
+start_well_typed u f at number (ByLvalue l) h g near = g
+start_well_typed u f at number (ByStores xs) h g near = stores_well_typed u xs h g near
 
 module _ (laws : HasLaws) (m : Model) where
   -- the stores of an initializer stand within its object
@@ -202,11 +202,11 @@ module _ (laws : HasLaws) (m : Model) where
   module _ (returns : Ty) where
     -- what is added to the parts of a block
     abbrev pub Adds : State → PartsView → Ruled (PartsView × State) → Type 0
-    Adds s p r = Goes m s going.nothing (λ u q. AreMarkedParts returns u p → AreMarkedParts returns u q) r
+    Adds s p r = Goes m s going.nothing (λ u q. AreWellTypedParts returns u p → AreWellTypedParts returns u q) r
 
     plain_adds : (n : NameView) (d : DeclaredView) (p : PartsView) (b : Ruled Bool) (s : State) → IsReady m s → IsTypeOf m d.ctype → Adds s p (locals.plain_by n d p b s)
     plain_adds n d p (Ok true) s h typed = (static_ready m s h n d typed, tt, λ u part. (static_passes s n d u part, λ all. all))
-    plain_adds n d p (Ok false) s h typed = (automatic_ready m s h n d typed, tt, λ u part. (automatic_passes s n d u part, λ all f is. marked_more u f p.statements (made.Forget n.at (length s.body.locals)) (all f is) refl))
+    plain_adds n d p (Ok false) s h typed = (automatic_ready m s h n d typed, tt, λ u part. (automatic_passes s n d u part, λ all f is. well_typed_more u f p.statements (made.Forget n.at (length s.body.locals)) (all f is) refl))
     plain_adds n d p (Err f) s h typed = tt
 
     started_adds : (n : NameView) (number : ℕ) (equals : Place) (t : Ty) (i : InitializerTree) (p : PartsView) (s : State) → IsReady m s → IsProperInitializer m i → IsTypeOf m t → Adds s p (after (initializer_of s equals t i) (locals.start_automatic n.at equals number (with_object p number)))
@@ -221,7 +221,7 @@ module _ (laws : HasLaws) (m : Model) where
               let here = local_type_passes later number made u part in
               let a = ends u here in (
                 a.0,
-                λ all f same. marked_more u f p.statements (start n.at number v) (all f same) (start_marked u f n.at number v (ground m later u ready here).proper a.1 (initializer_near s later equals t made i v h ready is sized)),
+                λ all f same. well_typed_more u f p.statements (start n.at number v) (all f same) (start_well_typed u f n.at number v (ground m later u ready here).proper a.1 (initializer_near s later equals t made i v h ready is sized)),
               ),
         )
         of_size v made later ready of ends is false sized = tt
@@ -240,12 +240,12 @@ module _ (laws : HasLaws) (m : Model) where
         kept_adds s p (locals.initialized_static n d equals i s) (onward m s s1 going.nothing (λ u x. Unit {0}) (locals.initialized_static n d equals i s) (static_passes s n d) (static_goes s1 (length s.objects) (length s.statics) equals d.ctype i (static_ready m s h n d typed) proper typed))
     initialized_adds n d equals i p (Ok false) s h proper typed =
         let s1 : State = with_automatic n d s in
-        onward m s s1 going.nothing (λ u q. AreMarkedParts returns u p → AreMarkedParts returns u q) (locals.initialized_automatic n d equals i p s) (automatic_passes s n d) (started_adds n (length s.body.locals) equals d.ctype i p s1 (automatic_ready m s h n d typed) proper typed)
+        onward m s s1 going.nothing (λ u q. AreWellTypedParts returns u p → AreWellTypedParts returns u q) (locals.initialized_automatic n d equals i p s) (automatic_passes s n d) (started_adds n (length s.body.locals) equals d.ctype i p s1 (automatic_ready m s h n d typed) proper typed)
     initialized_adds n d equals i p (Err f) s h proper typed = tt
 
     -- an object whose type is known
     behind_type : (s : State) (p : PartsView) (r : Ruled (DeclaredView × State)) (next : DeclaredView → State → Ruled (PartsView × State)) → Types s r → ((d : DeclaredView) (t : State) → IsReady m t → IsTypeOf m d.ctype → Adds t p (next d t)) → Adds s p (after r next)
-    behind_type s p (Ok q) next g go = onward m s q.1 going.nothing (λ u x. AreMarkedParts returns u p → AreMarkedParts returns u x) (next q.0 q.1) (λ u part. (g.2 u part).0) (go q.0 q.1 g.0 g.1)
+    behind_type s p (Ok q) next g go = onward m s q.1 going.nothing (λ u x. AreWellTypedParts returns u p → AreWellTypedParts returns u x) (next q.0 q.1) (λ u part. (g.2 u part).0) (go q.0 q.1 g.0 g.1)
     behind_type s p (Err f) next g go = tt
 
     plain_named_adds : (s : State) (base : SpecifiedView) (at : Place) (n : Option NameView) (layers : List DeclaratorLayerView) (p : PartsView) → IsReady m s → IsTypeOf m base.declared.ctype → AreProperLayers m layers → Adds s p (locals.plain_named s base at n layers p)
@@ -279,6 +279,6 @@ module _ (laws : HasLaws) (m : Model) where
       where
         of_words : (r : Ruled (SpecifiedView × State)) → Goes m s (λ (b : SpecifiedView). IsTypeOf m b.declared.ctype) (λ u b. Unit {0}) r → Adds s p (after r (locals.declared_by l p))
         of_words (Ok b) g =
-            onward m s b.1 going.nothing (λ u x. AreMarkedParts returns u p → AreMarkedParts returns u x) (locals.declared_by l p b.0 b.1) (λ u part. (g.2 u part).0)
-            (cond_goes m b.1 going.nothing (λ u x. AreMarkedParts returns u p → AreMarkedParts returns u x) (locals.is_empty l.declarators b.0) (type_fault l.at) (locals.declarators b.1 b.0 l.at l.declarators p) tt (declarators_add l.declarators b.1 b.0 l.at p g.0 g.1 proper.1))
+            onward m s b.1 going.nothing (λ u x. AreWellTypedParts returns u p → AreWellTypedParts returns u x) (locals.declared_by l p b.0 b.1) (λ u part. (g.2 u part).0)
+            (cond_goes m b.1 going.nothing (λ u x. AreWellTypedParts returns u p → AreWellTypedParts returns u x) (locals.is_empty l.declarators b.0) (type_fault l.at) (locals.declarators b.1 b.0 l.at l.declarators p) tt (declarators_add l.declarators b.1 b.0 l.at p g.0 g.1 proper.1))
         of_words (Err f) g = tt

@@ -28,7 +28,7 @@ use Rattle.c_types_expressions.specs.BracedLists.BracedLists as lists
 use Rattle.c_types_expressions.specs.BracedLists.Initializers as spec
 use Rattle.lower_templates.specs.Worklist.TermKinds.{term_type}
 use Rattle.source_preservation.specs.Checks.LookedTypes.{is_scalar_type}
-use Rattle.source_preservation.specs.Checks.LookedTerms.{is_marked_term, is_marked_place}
+use Rattle.source_preservation.specs.Checks.LookedTerms.{is_well_typed_term, is_well_typed_place}
 use Rattle.c_layout.specs.ByteTexts.{are_bytes}
 use Rattle.c_types_well_formed.specs.WellFormed.ModelTypes.{IsTypeOf}
 use Rattle.c_types_well_formed.specs.WellFormed.MadeTerms.{IsMade, IsMadeOperand, IsMadeForm, Gives}
@@ -41,7 +41,7 @@ use Rattle.c_types_well_formed.proofs.stores.Texts.{IsText, bare_text, only_text
 use Rattle.c_types_well_formed.proofs.layouts.Expressing.{expressions_lay}
 use Rattle.c_types_well_formed.specs.Initializers.ReadyStates.{IsReady, Goes}
 use Rattle.c_types_well_formed.specs.Initializers.PartLaws.{HasLaws}
-use Rattle.c_types_well_formed.specs.Initializers.MarkedInitializers.{AreValued, IsValued, IsInitial}
+use Rattle.c_types_well_formed.specs.Initializers.WellTypedInitializers.{AreValued, IsValued, IsInitial}
 use Rattle.c_types_well_formed.proofs.initializers.Going.{unit_type, ground, then, cond_goes, led_goes}
 use Rattle.c_types_well_formed.proofs.initializers.Going as going
 use Rattle.c_types_well_formed.proofs.initializers.TypedSubobjects.{FieldsTyped, AreTyped, length_typed, next_typed, sought_typed}
@@ -54,14 +54,14 @@ valued_more u (y ∷ xs) x all one = (all.0, valued_more u xs x all.1 one)
 
 -- a value of a scalar type, where it is not refused
 abbrev pub GivesScalar : UnitView → Ruled TermTree → Type 0
-GivesScalar u (Ok e) = (is_marked_term u true e ≡ true) × (is_scalar_type u (term_type e) ≡ true)
+GivesScalar u (Ok e) = (is_well_typed_term u true e ≡ true) × (is_scalar_type u (term_type e) ≡ true)
 GivesScalar u (Err f) = Unit {0}
 
 same_term_type : (e : TermTree) → term_type e ≡ operands.term_type e
 same_term_type (made.Typed at t parens constant f) = refl
 
 given_scalar : (u : UnitView) (to : Ty) (r : Ruled TermTree) → is_scalar_type u to ≡ true → Gives u to r → GivesScalar u r
-given_scalar u to (Ok e) scalar h = (h.marked, ap (is_scalar_type u) (same_term_type e ∙ h.same) ∙ scalar)
+given_scalar u to (Ok e) scalar h = (h.well_typed, ap (is_scalar_type u) (same_term_type e ∙ h.same) ∙ scalar)
 given_scalar u to (Err f) scalar h = tt
 
 -- ---- what a value stores
@@ -70,26 +70,26 @@ scalar_valued : (u : UnitView) (v : FillingView) (offset : ℕ) (r : Ruled TermT
 scalar_valued u v offset (Ok e) h all = valued_more u v.stores (StoreValue offset e) all h
 scalar_valued u v offset (Err f) h all = all
 
-abbrev IsMarkedSource : UnitView → Option LvalueTree → Type 0
-IsMarkedSource u None = Unit {0}
-IsMarkedSource u (Some l) = is_marked_place u l ≡ true
+abbrev IsWellTypedSource : UnitView → Option LvalueTree → Type 0
+IsWellTypedSource u None = Unit {0}
+IsWellTypedSource u (Some l) = is_well_typed_place u l ≡ true
 
-source_marked : (u : UnitView) (f : OperandForm) (t : Ty) → IsMadeForm u f → IsMarkedSource u (source_form f t)
-source_marked u (AsValue e) t h = tt
-source_marked u (AsLvalue l) t h = by_type (same_type (lvalue_type l) t)
+source_well_typed : (u : UnitView) (f : OperandForm) (t : Ty) → IsMadeForm u f → IsWellTypedSource u (source_form f t)
+source_well_typed u (AsValue e) t h = tt
+source_well_typed u (AsLvalue l) t h = by_type (same_type (lvalue_type l) t)
   where
-    by_type : (b : Bool) → IsMarkedSource u (cond b (Some l) None)
-    by_type true = h.marked
+    by_type : (b : Bool) → IsWellTypedSource u (cond b (Some l) None)
+    by_type true = h.well_typed
     by_type false = tt
 
-copy_valued : (u : UnitView) (v : FillingView) (at : Place) (offset : ℕ) (l : Option LvalueTree) → IsMarkedSource u l → AreValued u v.stores → AreValued u (copy_of v at offset l).stores
+copy_valued : (u : UnitView) (v : FillingView) (at : Place) (offset : ℕ) (l : Option LvalueTree) → IsWellTypedSource u l → AreValued u v.stores → AreValued u (copy_of v at offset l).stores
 copy_valued u v at offset None h all = all
 copy_valued u v at offset (Some l) h all = valued_more u v.stores (StoreCopy offset l) all h
 
 value_valued : (u : UnitView) (k : Known) (at : Place) (s : SubobjectView) (o : OperandView) (v : FillingView) (b : Bool) → GivesScalar u (assigned k at (term_of o) s.ctype) → IsMadeOperand u o → AreValued u v.stores
     → AreValued u (cond b (scalar_of v s.offset (assigned k at (term_of o) s.ctype)) (copy_of v at s.offset (struct_source o s.ctype))).stores
 value_valued u k at s o v true scalar h all = scalar_valued u v s.offset (assigned k at (term_of o) s.ctype) scalar all
-value_valued u k at s o v false scalar h all = copy_valued u v at s.offset (struct_source o s.ctype) (source_marked u o.form s.ctype h) all
+value_valued u k at s o v false scalar h all = copy_valued u v at s.offset (struct_source o s.ctype) (source_well_typed u o.form s.ctype h) all
 
 found_valued : (u : UnitView) (k : Known) (at : Place) (o : OperandView) (v : FillingView) (found : Option SubobjectView) → ((s : SubobjectView) → found ≡ Some s → GivesScalar u (assigned k at (term_of o) s.ctype)) → IsMadeOperand u o → AreValued u v.stores → AreValued u (with_found k at o v found).stores
 found_valued u k at o v None scalar h all = all
@@ -273,17 +273,17 @@ module _ (laws : HasLaws) (m : Model) where
   scalar_sets u (Ok e) h = h
   scalar_sets u (Err f) h = tt
 
-  struct_sets : (u : UnitView) (at : Place) (l : Option LvalueTree) → IsMarkedSource u l → Sets u (struct_by at l)
+  struct_sets : (u : UnitView) (at : Place) (l : Option LvalueTree) → IsWellTypedSource u l → Sets u (struct_by at l)
   struct_sets u at None h = tt
   struct_sets u at (Some l) h = h
 
-  or_struct_sets : (u : UnitView) (at : Place) (l : Option LvalueTree) (b : Bool) → IsMarkedSource u l → Sets u (cond b (struct_by at l) (type_fault at))
+  or_struct_sets : (u : UnitView) (at : Place) (l : Option LvalueTree) (b : Bool) → IsWellTypedSource u l → Sets u (cond b (struct_by at l) (type_fault at))
   or_struct_sets u at l true h = struct_sets u at l h
   or_struct_sets u at l false h = tt
 
   operand_sets : (u : UnitView) (k : Known) (at : Place) (t : Ty) (x : OperandView) (b : Bool) → GivesScalar u (assigned k at (term_of x) t) → IsMadeOperand u x → Sets u (cond b (scalar_by (assigned k at (term_of x) t)) (cond (is_struct t) (struct_by at (struct_source x t)) (type_fault at)))
   operand_sets u k at t x true scalar g = scalar_sets u (assigned k at (term_of x) t) scalar
-  operand_sets u k at t x false scalar g = or_struct_sets u at (struct_source x t) (is_struct t) (source_marked u x.form t g)
+  operand_sets u k at t x false scalar g = or_struct_sets u at (struct_source x t) (is_struct t) (source_well_typed u x.form t g)
 
   value_goes : (s : State) (equals : Place) (t : Ty) (e : Tree) → IsReady m s → IsProperTree m e → IsTypeOf m t → Goes m s going.nothing IsInitial (spec.by_value s equals t e)
   value_goes s equals t e h proper to = then m s going.nothing IsMadeOperand going.nothing IsInitial (typed s e) (spec.by_operand_in equals t) (typed_goes s e h proper)

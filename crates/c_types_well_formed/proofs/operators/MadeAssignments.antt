@@ -22,7 +22,7 @@ use Rattle.c_types_operators.specs.Assignments.{source_of_size, complete_source,
 use Rattle.lower_expressions.specs.Assignments.{number_operator}
 use Rattle.lower_templates.specs.Worklist.TermKinds.{meaning}
 use Rattle.source_preservation.specs.Checks.LookedTypes.{counts_as, is_such, is_scalar_type, is_address, is_integer, same_mark, steps_in}
-use Rattle.source_preservation.specs.Checks.LookedTerms.{is_marked_term, is_marked_place}
+use Rattle.source_preservation.specs.Checks.LookedTerms.{is_well_typed_term, is_well_typed_place}
 use Rattle.source_preservation.proofs.checks.Truths.{no_some}
 use Rattle.c_types_well_formed.specs.WellFormed.ModelTypes.{IsKindOf, IsGround}
 use Rattle.c_types_well_formed.specs.WellFormed.MadeTerms.{IsMade, IsMadePlace, IsGiven, Gives, IsMadeOperand, Makes}
@@ -31,7 +31,7 @@ use Rattle.c_types_well_formed.proofs.decided_tests.MadeTests.{no_tests, assign_
 use Rattle.c_types_well_formed.proofs.rules.ModelKinds.{mark_same}
 use Rattle.c_types_well_formed.proofs.rules.GroundKinds.{number_scalar, number_integer, number_known, promoted_there, common_there}
 use Rattle.c_types_well_formed.proofs.rules.MadeArithmetic.{counts_self}
-use Rattle.c_types_well_formed.proofs.rules.MadeConversions.{scalar_marked, integer_given, conversions_give}
+use Rattle.c_types_well_formed.proofs.rules.MadeConversions.{scalar_well_typed, integer_given, conversions_give}
 use Rattle.c_types_well_formed.proofs.rules.MadeNodes.{node_made, makes_if}
 use Rattle.c_types_well_formed.proofs.rules.MadePlaces.{own_made, source_made, place_address, place_kind, steps_there}
 use Rattle.c_types_well_formed.proofs.rules.MadeValues.{value_made}
@@ -46,7 +46,7 @@ module _ (u : UnitView) (k : Known) (ground : IsGround u k) where
     -- ---- of structs
 
     copy_made : (source : LvalueTree) → IsMadePlace u source → Makes u (copied_from at left (Some source))
-    copy_made source made = record { marked = and_from (is_marked_place u left) (is_marked_place u source) place.marked made.marked; typed = place.typed }
+    copy_made source made = record { well_typed = and_from (is_well_typed_place u left) (is_well_typed_place u source) place.well_typed made.well_typed; typed = place.typed }
 
     copied_made : (x : OperandView) → IsMadeOperand u x → Makes u (copied k at left x)
     copied_made x made = by (size_of k (lvalue_type left)) (complete_source k x (lvalue_type left)) refl
@@ -61,18 +61,18 @@ module _ (u : UnitView) (k : Known) (ground : IsGround u k) where
 
     -- ---- of scalars
 
-    assign_marked : (e : TermTree) (used : Bool) → IsGiven u e (lvalue_type left) → is_marked_term u used (Typed at (lvalue_type left) 0 None (tree.Assign left e)) ≡ true
-    assign_marked e used given =
+    assign_well_typed : (e : TermTree) (used : Bool) → IsGiven u e (lvalue_type left) → is_well_typed_term u used (Typed at (lvalue_type left) 0 None (tree.Assign left e)) ≡ true
+    assign_well_typed e used given =
         let t : Ty = lvalue_type left in
-        and_from (is_marked_place u left) (is_marked_term u true e && (is_scalar_type u t && (same_mark (term_type e) t && same_mark t t))) place.marked
-        (and_from (is_marked_term u true e) (is_scalar_type u t && (same_mark (term_type e) t && same_mark t t)) given.marked
+        and_from (is_well_typed_place u left) (is_well_typed_term u true e && (is_scalar_type u t && (same_mark (term_type e) t && same_mark t t))) place.well_typed
+        (and_from (is_well_typed_term u true e) (is_scalar_type u t && (same_mark (term_type e) t && same_mark t t)) given.well_typed
         (and_from (is_scalar_type u t) (same_mark (term_type e) t && same_mark t t) (scalar_there u t ground.proper place.typed)
         (and_from (same_mark (term_type e) t) (same_mark t t) (subst (λ s. same_mark s t ≡ true) (sym given.same) (mark_same t)) (mark_same t))))
 
     assign_made : (r : Ruled TermTree) → Gives u (lvalue_type left) r → Makes u (simple_by at left r)
     assign_made (Ok e) given =
-        node_made u at (lvalue_type left) 0 (tree.Assign left e) refl refl (assign_marked e (not (is_void (lvalue_type left))) given) place.typed
-        (λ scalar is_test. assign_tests u k ground at (lvalue_type left) 0 None is_test left e (assign_marked e true given) place.typed)
+        node_made u at (lvalue_type left) 0 (tree.Assign left e) refl refl (assign_well_typed e (not (is_void (lvalue_type left))) given) place.typed
+        (λ scalar is_test. assign_tests u k ground at (lvalue_type left) 0 None is_test left e (assign_well_typed e true given) place.typed)
     assign_made (Err f) given = tt
 
     simple_made : (x : OperandView) → IsMadeOperand u x → Makes u (simple k at left x)
@@ -89,8 +89,8 @@ module _ (u : UnitView) (k : Known) (ground : IsGround u k) where
           let e : TermTree = integer_as k right kind in
           let given : IsGiven u (integer_as k right kind) (Int kind) = integer_given u k ground.proper right b kind x t other in
           node_made u at (lvalue_type left) 0 (tree.Compound sign (Int computed) left (integer_as k right kind)) refl refl
-          (and_from (is_marked_place u left) (is_marked_term u true e && (is_such (λ count. counts_as (number_operator (meaning sign)) computed count) (term_type e) && steps_in u computed (lvalue_type left) (lvalue_type left))) place.marked
-          (and_from (is_marked_term u true e) (is_such (λ count. counts_as (number_operator (meaning sign)) computed count) (term_type e) && steps_in u computed (lvalue_type left) (lvalue_type left)) given.marked
+          (and_from (is_well_typed_place u left) (is_well_typed_term u true e && (is_such (λ count. counts_as (number_operator (meaning sign)) computed count) (term_type e) && steps_in u computed (lvalue_type left) (lvalue_type left))) place.well_typed
+          (and_from (is_well_typed_term u true e) (is_such (λ count. counts_as (number_operator (meaning sign)) computed count) (term_type e) && steps_in u computed (lvalue_type left) (lvalue_type left)) given.well_typed
           (and_from (is_such (λ count. counts_as (number_operator (meaning sign)) computed count) (term_type e)) (steps_in u computed (lvalue_type left) (lvalue_type left)) (subst (λ r. is_such (λ count. counts_as (number_operator (meaning sign)) computed count) r ≡ true) (sym given.same) counts)
           (steps_there u k ground (lvalue_type left) a computed s (place_kind u left a place s) known))))
           place.typed
@@ -99,8 +99,8 @@ module _ (u : UnitView) (k : Known) (ground : IsGround u k) where
       move_made : (down : Bool) (size : ℕ) (t : Ty) (b : IntType) → lvalue_type left ≡ Pointer t → term_type right ≡ Int b → Makes u (compound_move at down size left right)
       move_made down size t b s r =
           node_made u at (lvalue_type left) 0 (tree.CompoundShift down size left right) refl refl
-          (and_from (is_marked_place u left) (is_marked_term u true right && (is_integer (term_type right) && (is_address (lvalue_type left) && is_address (lvalue_type left)))) place.marked
-          (and_from (is_marked_term u true right) (is_integer (term_type right) && (is_address (lvalue_type left) && is_address (lvalue_type left))) (scalar_marked u right x (number_scalar right b r))
+          (and_from (is_well_typed_place u left) (is_well_typed_term u true right && (is_integer (term_type right) && (is_address (lvalue_type left) && is_address (lvalue_type left)))) place.well_typed
+          (and_from (is_well_typed_term u true right) (is_integer (term_type right) && (is_address (lvalue_type left) && is_address (lvalue_type left))) (scalar_well_typed u right x (number_scalar right b r))
           (and_from (is_integer (term_type right)) (is_address (lvalue_type left) && is_address (lvalue_type left)) (number_integer right b r)
           (and_from (is_address (lvalue_type left)) (is_address (lvalue_type left)) (place_address u left t s) (place_address u left t s)))))
           place.typed

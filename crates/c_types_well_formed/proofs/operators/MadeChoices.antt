@@ -19,7 +19,7 @@ use Rattle.c_types_operands.specs.Comparisons.{pairing}
 use Rattle.c_types_operands.specs.declared.arithmetic.KindPair.{KindPair}
 use Rattle.c_types_operators.specs.Choices.{logical_value, are_scalars, logical_node, logical_of, logical, ChoiceView, chosen, integer_choice, plain_choice, paired_choice, paired_choice_of, are_void, other_choice, choice_by, scalar_choice, choice_of, choice_from, conditional, struct_comma, value_comma, comma_with, comma}
 use Rattle.source_preservation.specs.Checks.LookedTypes.{is_truth, same_mark}
-use Rattle.source_preservation.specs.Checks.LookedTerms.{is_marked_term, is_marked_place, has_tests}
+use Rattle.source_preservation.specs.Checks.LookedTerms.{is_well_typed_term, is_well_typed_place, has_tests}
 use Rattle.source_preservation.proofs.checks.Truths.{never}
 use Rattle.c_types_well_formed.specs.WellFormed.ModelTypes.{IsKindOf, IsTypeOf, IsGround}
 use Rattle.c_types_well_formed.specs.WellFormed.MadeTerms.{IsMade, IsMadePlace, IsMadeForm, IsGiven, IsMadeOperand, Makes}
@@ -27,11 +27,11 @@ use Rattle.c_types_well_formed.proofs.decided_tests.MadeNumbers.{if_fixed, logic
 use Rattle.c_types_well_formed.proofs.decided_tests.MadeTests.{no_tests, logical_tests, choice_tests, arm_tests}
 use Rattle.c_types_well_formed.proofs.rules.ModelKinds.{mark_same}
 use Rattle.c_types_well_formed.proofs.rules.GroundKinds.{kinds_are, number_scalar, pointer_scalar, number_known, common_there, int_there, int_truths}
-use Rattle.c_types_well_formed.proofs.rules.MadeConversions.{scalar_marked, same_given, integer_given}
+use Rattle.c_types_well_formed.proofs.rules.MadeConversions.{scalar_well_typed, same_given, integer_given}
 use Rattle.c_types_well_formed.proofs.rules.MadeNodes.{term_made, node_made, makes_if}
 use Rattle.c_types_well_formed.proofs.rules.MadeValues.{lvalue_made, value_made}
 use Rattle.c_types_well_formed.proofs.rules.PairedTypes.{IsPointer, ComesToPointer, PairedAs, paired_as, comes_scalar, pointer_given}
-use Rattle.c_types_well_formed.proofs.rules.UnusedTerms.{unused_marked}
+use Rattle.c_types_well_formed.proofs.rules.UnusedTerms.{unused_well_typed}
 
 both_scalars : (t s : Ty) → are_scalars t s ≡ true → (is_scalar t ≡ true) × (is_scalar s ≡ true)
 both_scalars t s h = by (is_scalar t) h
@@ -59,7 +59,7 @@ module _ (u : UnitView) (k : Known) (ground : IsGround u k) where
       let value : Option ℤ = logical_value sign (term_constant left.term) (term_constant right.term) in
       let constant : Option ℤ = cond (left.fixed && right.fixed) value None in
       term_made u at (Int (int_kind k)) 0 constant (tree.Logical sign left.term right.term) refl refl
-      (and_from (is_marked_term u true left.term) (is_marked_term u true right.term && is_truth (Int (int_kind k))) (scalar_marked u left.term x s) (and_from (is_marked_term u true right.term) (is_truth (Int (int_kind k))) (scalar_marked u right.term y t) (int_truths u k ground)))
+      (and_from (is_well_typed_term u true left.term) (is_well_typed_term u true right.term && is_truth (Int (int_kind k))) (scalar_well_typed u left.term x s) (and_from (is_well_typed_term u true right.term) (is_truth (Int (int_kind k))) (scalar_well_typed u right.term y t) (int_truths u k ground)))
       (int_there u k ground)
       (λ n is. logical_number u k ground at constant n sign left.term right.term x y (if_fixed (left.fixed && right.fixed) value n is).1)
       (λ scalar is_test. logical_tests u k ground at (Int (int_kind k)) 0 constant is_test sign left.term right.term s t x y)
@@ -73,19 +73,19 @@ module _ (u : UnitView) (k : Known) (ground : IsGround u k) where
   -- ---- `?:`
 
   module _ (at : Place) (condition : TermTree) (made : IsMade u condition) (scalar : is_scalar (term_type condition) ≡ true) where
-    arms_marked : (t : Ty) (constant : Option ℤ) (used : Bool) (a b : TermTree) → is_marked_term u used a ≡ true → is_marked_term u used b ≡ true → term_type a ≡ t → term_type b ≡ t → is_marked_term u used (Typed at t 0 constant (tree.Conditional condition a b)) ≡ true
-    arms_marked t constant used a b p q s r =
+    arms_well_typed : (t : Ty) (constant : Option ℤ) (used : Bool) (a b : TermTree) → is_well_typed_term u used a ≡ true → is_well_typed_term u used b ≡ true → term_type a ≡ t → term_type b ≡ t → is_well_typed_term u used (Typed at t 0 constant (tree.Conditional condition a b)) ≡ true
+    arms_well_typed t constant used a b p q s r =
         let same : Bool = same_mark (term_type a) t && same_mark (term_type b) t in
-        and_from (is_marked_term u true condition) (has_tests u true condition && (is_marked_term u used a && (is_marked_term u used b && same))) (scalar_marked u condition made scalar)
-        (and_from (has_tests u true condition) (is_marked_term u used a && (is_marked_term u used b && same)) (made.tests scalar true)
-        (and_from (is_marked_term u used a) (is_marked_term u used b && same) p
-        (and_from (is_marked_term u used b) same q
+        and_from (is_well_typed_term u true condition) (has_tests u true condition && (is_well_typed_term u used a && (is_well_typed_term u used b && same))) (scalar_well_typed u condition made scalar)
+        (and_from (has_tests u true condition) (is_well_typed_term u used a && (is_well_typed_term u used b && same)) (made.tests scalar true)
+        (and_from (is_well_typed_term u used a) (is_well_typed_term u used b && same) p
+        (and_from (is_well_typed_term u used b) same q
         (and_from (same_mark (term_type a) t) (same_mark (term_type b) t) (subst (λ x. same_mark x t ≡ true) (sym s) (mark_same t)) (subst (λ x. same_mark x t ≡ true) (sym r) (mark_same t))))))
 
     integers_made : (first second : TermTree) (fixed : Bool) (a b : IntType) → IsMade u first → IsMade u second → term_type first ≡ Int a → term_type second ≡ Int b → IsMadeOperand u (integer_choice k at (common k.numbers a b) (record { condition = condition; first = first; second = second; fixed = fixed }))
     integers_made first second fixed a b x y s t =
         term_made u at (Int kind) 0 constant (tree.Conditional condition (integer_as k first kind) (integer_as k second kind)) refl refl
-        (arms_marked (Int kind) constant true (integer_as k first kind) (integer_as k second kind) p.marked q.marked p.same q.same)
+        (arms_well_typed (Int kind) constant true (integer_as k first kind) (integer_as k second kind) p.well_typed q.well_typed p.same q.same)
         known
         (λ n is. choice_number u k ground at constant n kind condition first second known made x y (if_fixed fixed value n is).1)
         (λ h is_test. choice_tests u k ground at (Int kind) 0 constant is_test condition (integer_as k first kind) (integer_as k second kind) scalar made (arm_tests u k first (Int kind) (number_scalar first a s) x) (arm_tests u k second (Int kind) (number_scalar second b t) y))
@@ -112,14 +112,14 @@ module _ (u : UnitView) (k : Known) (ground : IsGround u k) where
     pointers_made : (a b : TermTree) (t target : Ty) → t ≡ Pointer target → IsGiven u a t → IsGiven u b t → IsTypeOf u.model t → has_tests u false a ≡ true → has_tests u false b ≡ true → IsMadeOperand u (plain_choice at condition a b)
     pointers_made a b t target is p q known first second =
         node_made u at (term_type a) 0 (tree.Conditional condition a b) refl refl
-        (subst (λ used. is_marked_term u (not used) (Typed at (term_type a) 0 None (tree.Conditional condition a b)) ≡ true) (sym (subst (λ s. is_void s ≡ false) (sym (p.same ∙ is)) refl)) (arms_marked (term_type a) None true a b p.marked q.marked refl (q.same ∙ sym p.same)))
+        (subst (λ used. is_well_typed_term u (not used) (Typed at (term_type a) 0 None (tree.Conditional condition a b)) ≡ true) (sym (subst (λ s. is_void s ≡ false) (sym (p.same ∙ is)) refl)) (arms_well_typed (term_type a) None true a b p.well_typed q.well_typed refl (q.same ∙ sym p.same)))
         (subst (λ s. IsTypeOf u.model s) (sym p.same) known)
         (λ h is_test. choice_tests u k ground at (term_type a) 0 None is_test condition a b scalar made first second)
 
     voids_made : (a b : TermTree) → IsMade u a → IsMade u b → term_type a ≡ Void → term_type b ≡ Void → IsMadeOperand u (plain_choice at condition a b)
     voids_made a b x y s t =
         node_made u at (term_type a) 0 (tree.Conditional condition a b) refl refl
-        (arms_marked (term_type a) None (not (is_void (term_type a))) a b x.marked (subst (λ r. is_marked_term u (not (is_void r)) b ≡ true) (t ∙ sym s) y.marked) refl (t ∙ sym s))
+        (arms_well_typed (term_type a) None (not (is_void (term_type a))) a b x.well_typed (subst (λ r. is_well_typed_term u (not (is_void r)) b ≡ true) (t ∙ sym s) y.well_typed) refl (t ∙ sym s))
         x.typed
         (λ h is_test. never (subst (λ r. is_scalar r ≡ true) s h))
 
@@ -169,16 +169,16 @@ module _ (u : UnitView) (k : Known) (ground : IsGround u k) where
 
   -- ---- the comma operator
 
-  module _ (at : Place) (first : TermTree) (marked : is_marked_term u false first ≡ true) where
+  module _ (at : Place) (first : TermTree) (well_typed : is_well_typed_term u false first ≡ true) where
     value_comma_made : (e : TermTree) → IsMade u e → IsMadeOperand u (value_comma at first e)
     value_comma_made e made =
         node_made u at (term_type e) 0 (tree.Comma first e) refl refl
-        (and_from (is_marked_term u false first) (is_marked_term u (not (is_void (term_type e))) e && same_mark (term_type e) (term_type e)) marked (and_from (is_marked_term u (not (is_void (term_type e))) e) (same_mark (term_type e) (term_type e)) made.marked (mark_same (term_type e))))
+        (and_from (is_well_typed_term u false first) (is_well_typed_term u (not (is_void (term_type e))) e && same_mark (term_type e) (term_type e)) well_typed (and_from (is_well_typed_term u (not (is_void (term_type e))) e) (same_mark (term_type e) (term_type e)) made.well_typed (mark_same (term_type e))))
         made.typed
         (λ scalar is_test. no_tests u k ground at (term_type e) 0 None is_test (tree.Comma first e) refl)
 
     struct_comma_made : (l : LvalueTree) → IsMadePlace u l → IsMadeOperand u (struct_comma at first l)
-    struct_comma_made l place = record { marked = and_from (is_marked_term u false first) (is_marked_place u l) marked place.marked; typed = place.typed }
+    struct_comma_made l place = record { well_typed = and_from (is_well_typed_term u false first) (is_well_typed_place u l) well_typed place.well_typed; typed = place.typed }
 
     lvalue_comma_made : (l : LvalueTree) (b : Bool) → IsMadePlace u l → IsMadeOperand u (cond b (struct_comma at first l) (value_comma at first (lvalue_value l)))
     lvalue_comma_made l true place = struct_comma_made l place
@@ -189,4 +189,4 @@ module _ (u : UnitView) (k : Known) (ground : IsGround u k) where
     comma_with_made (AsValue e) made = value_comma_made e made
 
   pub comma_made : (at : Place) (x y : OperandView) → IsMadeOperand u x → IsMadeOperand u y → IsMadeOperand u (comma at x y)
-  comma_made at x y p q = comma_with_made at (unused (term_of x)) (unused_marked u (not (is_void (term_type (term_of x)))) (term_of x) (IsMade.marked (value_made u k ground x p))) y.form q
+  comma_made at x y p q = comma_with_made at (unused (term_of x)) (unused_well_typed u (not (is_void (term_type (term_of x)))) (term_of x) (IsMade.well_typed (value_made u k ground x p))) y.form q

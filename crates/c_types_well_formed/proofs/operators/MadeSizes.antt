@@ -19,7 +19,7 @@ use Rattle.lower_templates.specs.Worklist.TermKinds.{scalar_of}
 use Rattle.cfg.specs.declared.machine_instructions.Scalar.{Scalar}
 use Rattle.cfg.specs.declared.machine_instructions.Scalar.TheVariants as of
 use Rattle.source_preservation.specs.Checks.LookedTypes.{converts}
-use Rattle.source_preservation.specs.Checks.LookedTerms.{is_marked_term}
+use Rattle.source_preservation.specs.Checks.LookedTerms.{is_well_typed_term}
 use Rattle.source_preservation.proofs.checks.Truths.{never, no_some}
 use Rattle.c_types_well_formed.specs.WellFormed.ModelTypes.{IsTypeOf, IsGround}
 use Rattle.c_types_well_formed.specs.WellFormed.MadeTerms.{IsExactly, IsMade, IsMadeOperand, Makes}
@@ -27,10 +27,10 @@ use Rattle.c_types_well_formed.proofs.decided_tests.MadeNumbers.{if_fixed, cast_
 use Rattle.c_types_well_formed.proofs.decided_tests.ModelKinds.{scalar_there}
 use Rattle.c_types_well_formed.proofs.decided_tests.MadeTests.{no_tests, cast_null}
 use Rattle.c_types_well_formed.proofs.rules.GroundKinds.{size_there, size_has}
-use Rattle.c_types_well_formed.proofs.rules.MadeConversions.{scalar_marked, IsConverted, converted_marked, ConvertsAs, cast_as, converting}
+use Rattle.c_types_well_formed.proofs.rules.MadeConversions.{scalar_well_typed, IsConverted, converted_well_typed, ConvertsAs, cast_as, converting}
 use Rattle.c_types_well_formed.proofs.rules.MadeNodes.{term_made, node_made, makes_if}
 use Rattle.c_types_well_formed.proofs.rules.MadeValues.{value_made}
-use Rattle.c_types_well_formed.proofs.rules.UnusedTerms.{unused_marked}
+use Rattle.c_types_well_formed.proofs.rules.UnusedTerms.{unused_well_typed}
 
 converts_self : (a : Scalar) → converts a a ≡ true
 converts_self (of.Int kind) = refl
@@ -79,7 +79,7 @@ module _ (u : UnitView) (k : Known) (ground : IsGround u k) where
 
     converted_made : (to : Ty) → IsTypeOf u.model to → is_scalar (term_type v.term) ≡ true → IsConverted u v.term to → IsMadeOperand u (scalar_cast k at to v)
     converted_made to known scalar how = record {
-      marked = converted_marked u k kind.Cast at v.term to (not (is_void to)) (scalar_marked u v.term x scalar) (scalar_there u to ground.proper known) how;
+      well_typed = converted_well_typed u k kind.Cast at v.term to (not (is_void to)) (scalar_well_typed u v.term x scalar) (scalar_there u to ground.proper known) how;
       typed = known;
       bare = refl;
       constant = λ n is. cast_constant to n known is;
@@ -97,7 +97,7 @@ module _ (u : UnitView) (k : Known) (ground : IsGround u k) where
         by conversion.Nothing h = tt
 
     discard_made : IsMadeOperand u (discarded at v.term)
-    discard_made = node_made u at Void 0 (tree.Discard (unused v.term)) refl refl (and_from (is_marked_term u false (unused v.term)) true (unused_marked u (not (is_void (term_type v.term))) v.term x.marked) refl) tt (λ scalar is_test. never scalar)
+    discard_made = node_made u at Void 0 (tree.Discard (unused v.term)) refl refl (and_from (is_well_typed_term u false (unused v.term)) true (unused_well_typed u (not (is_void (term_type v.term))) v.term x.well_typed) refl) tt (λ scalar is_test. never scalar)
 
     cast_of_made : (to : Ty) → IsTypeOf u.model to → Makes u (cast_of k at to v)
     cast_of_made to known = makes_if u (is_void to) _ _ (λ h. discard_made) (λ h. value_cast_made to known)

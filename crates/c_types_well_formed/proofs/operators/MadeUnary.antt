@@ -18,7 +18,7 @@ use Rattle.c_types_operands.specs.Conversions.{integer_as}
 use Rattle.c_types_operands.specs.Arithmetic.{int_kind}
 use Rattle.c_types_operators.specs.UnaryOperators.{integer_step, pointer_kind, step_kind, step_by, step_of, step, address_of, address, promoted_kind, turned_value, arithmetic_in, arithmetic_by, arithmetic, not_value, not_node, not_of, unary}
 use Rattle.source_preservation.specs.Checks.LookedTypes.{is_kind, is_address, is_truth, same_mark, steps_in}
-use Rattle.source_preservation.specs.Checks.LookedTerms.{is_marked_term, is_marked_place}
+use Rattle.source_preservation.specs.Checks.LookedTerms.{is_well_typed_term, is_well_typed_place}
 use Rattle.c_types_well_formed.specs.WellFormed.ModelTypes.{IsKindOf, IsGround}
 use Rattle.c_types_well_formed.specs.WellFormed.MadeTerms.{IsMade, IsMadePlace, IsGiven, IsMadeOperand, Makes}
 use Rattle.c_types_well_formed.proofs.decided_tests.MadeNumbers.{if_fixed, turned_number, not_number}
@@ -26,7 +26,7 @@ use Rattle.c_types_well_formed.proofs.decided_tests.MadeTests.{no_tests, not_tes
 use Rattle.c_types_well_formed.proofs.decided_tests.ModelKinds.{same_type_self}
 use Rattle.c_types_well_formed.proofs.rules.ModelKinds.{mark_same}
 use Rattle.c_types_well_formed.proofs.rules.GroundKinds.{number_known, kind_there, promoted_there, int_there, int_truths}
-use Rattle.c_types_well_formed.proofs.rules.MadeConversions.{scalar_marked, integer_given}
+use Rattle.c_types_well_formed.proofs.rules.MadeConversions.{scalar_well_typed, integer_given}
 use Rattle.c_types_well_formed.proofs.rules.MadeNodes.{term_made, node_made, makes_if}
 use Rattle.c_types_well_formed.proofs.rules.MadePlaces.{own_made, place_address, place_kind, steps_there}
 use Rattle.c_types_well_formed.proofs.rules.MadeSums.{indirection_made}
@@ -39,7 +39,7 @@ module _ (u : UnitView) (k : Known) (ground : IsGround u k) where
   number_stepped at sign time l kind made is =
       let known : IsKindOf u.model kind = place_kind u l kind made is in
       node_made u at (lvalue_type l) 0 (tree.Step sign time (Int (promoted k.numbers kind)) l) refl refl
-      (and_from (is_marked_place u l) (steps_in u (promoted k.numbers kind) (lvalue_type l) (lvalue_type l)) made.marked (steps_there u k ground (lvalue_type l) kind (promoted k.numbers kind) is known (promoted_there u k ground kind known)))
+      (and_from (is_well_typed_place u l) (steps_in u (promoted k.numbers kind) (lvalue_type l) (lvalue_type l)) made.well_typed (steps_there u k ground (lvalue_type l) kind (promoted k.numbers kind) is known (promoted_there u k ground kind known)))
       made.typed
       (λ scalar is_test. no_tests u k ground at (lvalue_type l) 0 None is_test (tree.Step sign time (Int (promoted k.numbers kind)) l) refl)
 
@@ -47,7 +47,7 @@ module _ (u : UnitView) (k : Known) (ground : IsGround u k) where
   pointer_stepped at sign time l t None made is = tt
   pointer_stepped at sign time l t (Some size) made is =
       node_made u at (lvalue_type l) 0 (tree.StepPointer sign time size l) refl refl
-      (and_from (is_marked_place u l) (is_address (lvalue_type l) && is_address (lvalue_type l)) made.marked (and_from (is_address (lvalue_type l)) (is_address (lvalue_type l)) (place_address u l t is) (place_address u l t is)))
+      (and_from (is_well_typed_place u l) (is_address (lvalue_type l) && is_address (lvalue_type l)) made.well_typed (and_from (is_address (lvalue_type l)) (is_address (lvalue_type l)) (place_address u l t is) (place_address u l t is)))
       made.typed
       (λ scalar is_test. no_tests u k ground at (lvalue_type l) 0 None is_test (tree.StepPointer sign time size l) refl)
 
@@ -69,7 +69,7 @@ module _ (u : UnitView) (k : Known) (ground : IsGround u k) where
   address_made at x made = by (own_lvalue x) refl
     where
       on : (l : LvalueTree) → IsMadePlace u l → Makes u (address_of at (Some l))
-      on l place = node_made u at (Pointer (lvalue_type l)) 0 (tree.AddressOf l) refl refl (and_from (is_marked_place u l) true place.marked refl) place.typed (λ scalar is_test. no_tests u k ground at (Pointer (lvalue_type l)) 0 None is_test (tree.AddressOf l) refl)
+      on l place = node_made u at (Pointer (lvalue_type l)) 0 (tree.AddressOf l) refl refl (and_from (is_well_typed_place u l) true place.well_typed refl) place.typed (λ scalar is_test. no_tests u k ground at (Pointer (lvalue_type l)) 0 None is_test (tree.AddressOf l) refl)
 
       by : (o : Option LvalueTree) → own_lvalue x ≡ o → Makes u (address_of at o)
       by None is = tt
@@ -82,7 +82,7 @@ module _ (u : UnitView) (k : Known) (ground : IsGround u k) where
     negation_made scalar =
         let constant : Option ℤ = cond v.fixed (not_value (term_constant v.term)) None in
         term_made u at (Int (int_kind k)) 0 constant (tree.Not v.term) refl refl
-        (and_from (is_marked_term u true v.term) (is_truth (Int (int_kind k))) (scalar_marked u v.term x scalar) (int_truths u k ground))
+        (and_from (is_well_typed_term u true v.term) (is_truth (Int (int_kind k))) (scalar_well_typed u v.term x scalar) (int_truths u k ground))
         (int_there u k ground)
         (λ n is. not_number u k ground at constant n v.term x (if_fixed v.fixed (not_value (term_constant v.term)) n is).1)
         (λ s is_test. not_tests u k ground at (Int (int_kind k)) 0 constant is_test v.term scalar x)
@@ -99,12 +99,12 @@ module _ (u : UnitView) (k : Known) (ground : IsGround u k) where
       given : IsGiven u (integer_as k v.term (promoted k.numbers a)) (Int (promoted k.numbers a))
       given = integer_given u k ground.proper v.term a (promoted k.numbers a) x typed known
 
-      same_marked : (e : TermTree) → IsGiven u e (Int (promoted k.numbers a)) → (is_marked_term u true e && same_mark (term_type e) (Int (promoted k.numbers a))) ≡ true
-      same_marked e g = and_from (is_marked_term u true e) (same_mark (term_type e) (Int (promoted k.numbers a))) g.marked (subst (λ t. same_mark t (Int (promoted k.numbers a)) ≡ true) (sym g.same) (mark_same (Int (promoted k.numbers a))))
+      same_well_typed : (e : TermTree) → IsGiven u e (Int (promoted k.numbers a)) → (is_well_typed_term u true e && same_mark (term_type e) (Int (promoted k.numbers a))) ≡ true
+      same_well_typed e g = and_from (is_well_typed_term u true e) (same_mark (term_type e) (Int (promoted k.numbers a))) g.well_typed (subst (λ t. same_mark t (Int (promoted k.numbers a)) ≡ true) (sym g.same) (mark_same (Int (promoted k.numbers a))))
 
-      computed_marked : (e : TermTree) → IsGiven u e (Int (promoted k.numbers a)) → (is_marked_term u true e && (same_type (term_type e) (Int (promoted k.numbers a)) && is_kind u.model (promoted k.numbers a))) ≡ true
-      computed_marked e g =
-          and_from (is_marked_term u true e) (same_type (term_type e) (Int (promoted k.numbers a)) && is_kind u.model (promoted k.numbers a)) g.marked
+      computed_well_typed : (e : TermTree) → IsGiven u e (Int (promoted k.numbers a)) → (is_well_typed_term u true e && (same_type (term_type e) (Int (promoted k.numbers a)) && is_kind u.model (promoted k.numbers a))) ≡ true
+      computed_well_typed e g =
+          and_from (is_well_typed_term u true e) (same_type (term_type e) (Int (promoted k.numbers a)) && is_kind u.model (promoted k.numbers a)) g.well_typed
           (and_from (same_type (term_type e) (Int (promoted k.numbers a))) (is_kind u.model (promoted k.numbers a)) (subst (λ t. same_type t (Int (promoted k.numbers a)) ≡ true) (sym g.same) (same_type_self (Int (promoted k.numbers a)))) (kind_there u k ground (promoted k.numbers a) known))
 
       abbrev constant : UnaryOp → Option ℤ
@@ -115,19 +115,19 @@ module _ (u : UnitView) (k : Known) (ground : IsGround u k) where
 
       plus_made : IsMadeOperand u (arithmetic_in k at op.Plus (promoted k.numbers a) v)
       plus_made =
-          term_made u at (Int (promoted k.numbers a)) 0 (constant op.Plus) (tree.Plus (integer_as k v.term (promoted k.numbers a))) refl refl (same_marked (integer_as k v.term (promoted k.numbers a)) given) known
+          term_made u at (Int (promoted k.numbers a)) 0 (constant op.Plus) (tree.Plus (integer_as k v.term (promoted k.numbers a))) refl refl (same_well_typed (integer_as k v.term (promoted k.numbers a)) given) known
           (λ n is. turned_number u k ground at (constant op.Plus) n op.Plus a v.term typed x (fixed_number op.Plus n is))
           (λ s is_test. no_tests u k ground at (Int (promoted k.numbers a)) 0 (constant op.Plus) is_test (tree.Plus (integer_as k v.term (promoted k.numbers a))) refl)
 
       minus_made : IsMadeOperand u (arithmetic_in k at op.Minus (promoted k.numbers a) v)
       minus_made =
-          term_made u at (Int (promoted k.numbers a)) 0 (constant op.Minus) (tree.Minus (integer_as k v.term (promoted k.numbers a))) refl refl (computed_marked (integer_as k v.term (promoted k.numbers a)) given) known
+          term_made u at (Int (promoted k.numbers a)) 0 (constant op.Minus) (tree.Minus (integer_as k v.term (promoted k.numbers a))) refl refl (computed_well_typed (integer_as k v.term (promoted k.numbers a)) given) known
           (λ n is. turned_number u k ground at (constant op.Minus) n op.Minus a v.term typed x (fixed_number op.Minus n is))
           (λ s is_test. no_tests u k ground at (Int (promoted k.numbers a)) 0 (constant op.Minus) is_test (tree.Minus (integer_as k v.term (promoted k.numbers a))) refl)
 
       complement_made : IsMadeOperand u (arithmetic_in k at op.Complement (promoted k.numbers a) v)
       complement_made =
-          term_made u at (Int (promoted k.numbers a)) 0 (constant op.Complement) (tree.Complement (integer_as k v.term (promoted k.numbers a))) refl refl (computed_marked (integer_as k v.term (promoted k.numbers a)) given) known
+          term_made u at (Int (promoted k.numbers a)) 0 (constant op.Complement) (tree.Complement (integer_as k v.term (promoted k.numbers a))) refl refl (computed_well_typed (integer_as k v.term (promoted k.numbers a)) given) known
           (λ n is. turned_number u k ground at (constant op.Complement) n op.Complement a v.term typed x (fixed_number op.Complement n is))
           (λ s is_test. no_tests u k ground at (Int (promoted k.numbers a)) 0 (constant op.Complement) is_test (tree.Complement (integer_as k v.term (promoted k.numbers a))) refl)
 

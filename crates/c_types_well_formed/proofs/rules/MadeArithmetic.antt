@@ -20,7 +20,7 @@ use Rattle.lower_templates.specs.Worklist.TermKinds.{meaning}
 use Rattle.lower_templates.specs.declared.worklist.term_kinds.OperatorMeaning.{OperatorMeaning}
 use Rattle.lower_templates.specs.declared.worklist.term_kinds.OperatorMeaning.TheVariants as meant
 use Rattle.source_preservation.specs.Checks.LookedTypes.{is_kind, counts_as, combines}
-use Rattle.source_preservation.specs.Checks.LookedTerms.{is_marked_term}
+use Rattle.source_preservation.specs.Checks.LookedTerms.{is_well_typed_term}
 use Rattle.source_preservation.proofs.checks.Truths.{never}
 use Rattle.c_types_well_formed.specs.WellFormed.ModelTypes.{IsKindOf, IsGround}
 use Rattle.c_types_well_formed.specs.WellFormed.MadeTerms.{IsMade, IsGiven, IsMadeOperand, Makes}
@@ -56,16 +56,16 @@ module _ (u : UnitView) (k : Known) (ground : IsGround u k) where
   shifted how a b shift known = never shift
 
   -- an operator on two terms that have its types
-  integers_marked : (at : Place) (c : Option ℤ) (op : BinaryOp) (a b to : IntType) (x y : TermTree) (used : Bool) → IsGiven u x (Int a) → IsGiven u y (Int b) → combines u (meaning op) (Int a) (Int b) (Int to) ≡ true → is_marked_term u used (Typed at (Int to) 0 c (tree.Integer op x y)) ≡ true
-  integers_marked at c op a b to x y used p q h =
-      and_from (is_marked_term u true x) (is_marked_term u true y && combines u (meaning op) (term_type x) (term_type y) (Int to)) p.marked
-      (and_from (is_marked_term u true y) (combines u (meaning op) (term_type x) (term_type y) (Int to)) q.marked
+  integers_well_typed : (at : Place) (c : Option ℤ) (op : BinaryOp) (a b to : IntType) (x y : TermTree) (used : Bool) → IsGiven u x (Int a) → IsGiven u y (Int b) → combines u (meaning op) (Int a) (Int b) (Int to) ≡ true → is_well_typed_term u used (Typed at (Int to) 0 c (tree.Integer op x y)) ≡ true
+  integers_well_typed at c op a b to x y used p q h =
+      and_from (is_well_typed_term u true x) (is_well_typed_term u true y && combines u (meaning op) (term_type x) (term_type y) (Int to)) p.well_typed
+      (and_from (is_well_typed_term u true y) (combines u (meaning op) (term_type x) (term_type y) (Int to)) q.well_typed
       (subst (λ s. combines u (meaning op) s (term_type y) (Int to) ≡ true) (sym p.same) (subst (λ t. combines u (meaning op) (Int a) t (Int to) ≡ true) (sym q.same) h)))
 
   pub common_made : (at : Place) (op : BinaryOp) (is_int : Bool) (kinds : KindPair) (left right : ValueView) → is_relation op ≡ is_int → IsMade u left.term → IsMade u right.term → term_type left.term ≡ Int kinds.left → term_type right.term ≡ Int kinds.right → IsMadeOperand u (in_common_kind k at op is_int kinds left right)
   common_made at op is_int kinds left right relates x y s t =
       term_made u at (Int (result_kind k is_int kind)) 0 constant (tree.Integer op (integer_as k left.term kind) (integer_as k right.term kind)) refl refl
-      (integers_marked at constant op kind kind (result_kind k is_int kind) (integer_as k left.term kind) (integer_as k right.term kind) true (integer_given u k ground.proper left.term kinds.left kind x s known) (integer_given u k ground.proper right.term kinds.right kind y t known) (combined (meaning op) is_int kind relates known))
+      (integers_well_typed at constant op kind kind (result_kind k is_int kind) (integer_as k left.term kind) (integer_as k right.term kind) true (integer_given u k ground.proper left.term kinds.left kind x s known) (integer_given u k ground.proper right.term kinds.right kind y t known) (combined (meaning op) is_int kind relates known))
       (result_known is_int)
       (λ n is. operator_number u k ground at constant n op is_int kind left.term right.term relates known x y (if_fixed (left.fixed && right.fixed) (folded_constant op kind (term_constant left.term) (term_constant right.term)) n is).1)
       (λ scalar is_test. integer_tests u k ground at (Int (result_kind k is_int kind)) 0 constant is_test op kind kinds.left kinds.right left.term right.term known s t x y)
@@ -95,7 +95,7 @@ module _ (u : UnitView) (k : Known) (ground : IsGround u k) where
   shift_in_made : (at : Place) (op : BinaryOp) (kinds : KindPair) (left right : ValueView) → is_shift op ≡ true → IsMade u left.term → IsMade u right.term → term_type left.term ≡ Int kinds.left → term_type right.term ≡ Int kinds.right → IsMadeOperand u (shift_in k at op (promoted_kinds k kinds) left right)
   shift_in_made at op kinds left right shift x y s t =
       term_made u at (Int a) 0 constant (tree.Integer op (integer_as k left.term a) (integer_as k right.term b)) refl refl
-      (integers_marked at constant op a b a (integer_as k left.term a) (integer_as k right.term b) true (integer_given u k ground.proper left.term kinds.left a x s known) (integer_given u k ground.proper right.term kinds.right b y t (promoted_there u k ground kinds.right (number_known u k ground right.term kinds.right y t))) (shifted (meaning op) a b shift known))
+      (integers_well_typed at constant op a b a (integer_as k left.term a) (integer_as k right.term b) true (integer_given u k ground.proper left.term kinds.left a x s known) (integer_given u k ground.proper right.term kinds.right b y t (promoted_there u k ground kinds.right (number_known u k ground right.term kinds.right y t))) (shifted (meaning op) a b shift known))
       known
       (λ n is. shift_number u k ground at constant n op kinds.left kinds.right left.term right.term shift s t x y (if_fixed (left.fixed && right.fixed) (shifted_constant op a (term_constant left.term) (term_constant right.term)) n is).1)
       (λ scalar is_test. no_tests u k ground at (Int a) 0 constant is_test (tree.Integer op (integer_as k left.term a) (integer_as k right.term b)) untested)

@@ -18,13 +18,13 @@ use Rattle.c_types_operands.specs.PointerArithmetic.{common_target, pointer_addi
 use Rattle.c_types_operands.specs.Comparisons.{pointer_comparison, pointer_relation_by, pointer_relation, relation_by, relation, pairing, pointer_equality_by, pointer_equality, equality_by, equality, between_values, binary}
 use Rattle.c_types_operands.specs.declared.arithmetic.KindPair.{KindPair}
 use Rattle.source_preservation.specs.Checks.LookedTypes.{is_address, is_truth}
-use Rattle.source_preservation.specs.Checks.LookedTerms.{is_marked_term, has_tests}
+use Rattle.source_preservation.specs.Checks.LookedTerms.{is_well_typed_term, has_tests}
 use Rattle.c_types_well_formed.specs.WellFormed.ModelTypes.{IsGround}
 use Rattle.c_types_well_formed.specs.WellFormed.MadeTerms.{IsMade, IsGiven, IsMadeOperand, Makes}
 use Rattle.c_types_well_formed.proofs.decided_tests.MadeNumbers.{is_relation}
 use Rattle.c_types_well_formed.proofs.decided_tests.MadeTests.{pointer_tests, left_pointer_tests, right_pointer_tests}
 use Rattle.c_types_well_formed.proofs.rules.GroundKinds.{kinds_are, pointer_scalar, pointer_address, int_there, int_truths}
-use Rattle.c_types_well_formed.proofs.rules.MadeConversions.{scalar_marked}
+use Rattle.c_types_well_formed.proofs.rules.MadeConversions.{scalar_well_typed}
 use Rattle.c_types_well_formed.proofs.rules.MadeNodes.{node_made}
 use Rattle.c_types_well_formed.proofs.rules.MadeValues.{value_made}
 use Rattle.c_types_well_formed.proofs.rules.MadeArithmetic.{common_made, operation_made, shift_made}
@@ -34,12 +34,12 @@ use Rattle.c_types_well_formed.proofs.rules.PairedTypes.{IsPointer, ComesToPoint
 module _ (u : UnitView) (k : Known) (ground : IsGround u k) where
   -- ---- comparisons of pointers
 
-  comparison_made : (at : Place) (sign : BinaryOp) (x y : TermTree) → is_marked_term u true x ≡ true → is_marked_term u true y ≡ true → is_address (term_type x) ≡ true → is_address (term_type y) ≡ true → ((is_test : Bool) → has_tests u is_test (Typed at (Int (int_kind k)) 0 None (tree.Compare sign x y)) ≡ true) → IsMadeOperand u (pointer_comparison k at sign x y)
+  comparison_made : (at : Place) (sign : BinaryOp) (x y : TermTree) → is_well_typed_term u true x ≡ true → is_well_typed_term u true y ≡ true → is_address (term_type x) ≡ true → is_address (term_type y) ≡ true → ((is_test : Bool) → has_tests u is_test (Typed at (Int (int_kind k)) 0 None (tree.Compare sign x y)) ≡ true) → IsMadeOperand u (pointer_comparison k at sign x y)
   comparison_made at sign x y p q s t tests =
       let truth : Bool = is_truth (Int (int_kind k)) in
       node_made u at (Int (int_kind k)) 0 (tree.Compare sign x y) refl refl
-      (and_from (is_marked_term u true x) (is_marked_term u true y && (is_address (term_type x) && (is_address (term_type y) && truth))) p
-      (and_from (is_marked_term u true y) (is_address (term_type x) && (is_address (term_type y) && truth)) q
+      (and_from (is_well_typed_term u true x) (is_well_typed_term u true y && (is_address (term_type x) && (is_address (term_type y) && truth))) p
+      (and_from (is_well_typed_term u true y) (is_address (term_type x) && (is_address (term_type y) && truth)) q
       (and_from (is_address (term_type x)) (is_address (term_type y) && truth) s (and_from (is_address (term_type y)) truth t (int_truths u k ground)))))
       (int_there u k ground)
       (λ scalar is_test. tests is_test)
@@ -49,7 +49,7 @@ module _ (u : UnitView) (k : Known) (ground : IsGround u k) where
     where
       on : ArePointers (term_type x) (term_type y) → IsMadeOperand u (pointer_comparison k at sign x y)
       on are =
-          comparison_made at sign x y (scalar_marked u x p (pointer_scalar x are.target are.left)) (scalar_marked u y q (pointer_scalar y are.target are.right)) (pointer_address x are.target are.left) (pointer_address y are.target are.right)
+          comparison_made at sign x y (scalar_well_typed u x p (pointer_scalar x are.target are.left)) (scalar_well_typed u y q (pointer_scalar y are.target are.right)) (pointer_address x are.target are.left) (pointer_address y are.target are.right)
           (λ is_test. pointer_tests u k ground at (Int (int_kind k)) 0 None is_test sign x y (pointer_address x are.target are.left) (pointer_address y are.target are.right) p q)
 
       by : (o : Option ℕ) → common_target k (term_type x) (term_type y) ≡ o → Makes u (pointer_relation_by k at sign x y o)
@@ -59,13 +59,13 @@ module _ (u : UnitView) (k : Known) (ground : IsGround u k) where
   left_made : (at : Place) (sign : BinaryOp) (x y : TermTree) → IsMade u x → IsMade u y → IsPointer (term_type x) → ComesToPointer (term_type y) (is_null y) → IsMadeOperand u (pointer_comparison k at sign x (in_type k y (term_type x)))
   left_made at sign x y p q pointer comes =
       let given : IsGiven u (in_type k y (term_type x)) (term_type x) = pointer_given u k ground y (term_type x) pointer.0 pointer.1 q comes p.typed in
-      comparison_made at sign x (in_type k y (term_type x)) (scalar_marked u x p (pointer_scalar x pointer.0 pointer.1)) given.marked (pointer_address x pointer.0 pointer.1) (given_address u k ground (in_type k y (term_type x)) (term_type x) pointer.0 pointer.1 given)
+      comparison_made at sign x (in_type k y (term_type x)) (scalar_well_typed u x p (pointer_scalar x pointer.0 pointer.1)) given.well_typed (pointer_address x pointer.0 pointer.1) (given_address u k ground (in_type k y (term_type x)) (term_type x) pointer.0 pointer.1 given)
       (λ is_test. left_pointer_tests u k ground at (Int (int_kind k)) 0 None is_test sign x y (pointer_address x pointer.0 pointer.1) (comes_null y comes) p q)
 
   right_made : (at : Place) (sign : BinaryOp) (x y : TermTree) → IsMade u x → IsMade u y → ComesToPointer (term_type x) (is_null x) → IsPointer (term_type y) → IsMadeOperand u (pointer_comparison k at sign (in_type k x (term_type y)) y)
   right_made at sign x y p q comes pointer =
       let given : IsGiven u (in_type k x (term_type y)) (term_type y) = pointer_given u k ground x (term_type y) pointer.0 pointer.1 p comes q.typed in
-      comparison_made at sign (in_type k x (term_type y)) y given.marked (scalar_marked u y q (pointer_scalar y pointer.0 pointer.1)) (given_address u k ground (in_type k x (term_type y)) (term_type y) pointer.0 pointer.1 given) (pointer_address y pointer.0 pointer.1)
+      comparison_made at sign (in_type k x (term_type y)) y given.well_typed (scalar_well_typed u y q (pointer_scalar y pointer.0 pointer.1)) (given_address u k ground (in_type k x (term_type y)) (term_type y) pointer.0 pointer.1 given) (pointer_address y pointer.0 pointer.1)
       (λ is_test. right_pointer_tests u k ground at (Int (int_kind k)) 0 None is_test sign x y (comes_null x comes) (pointer_address y pointer.0 pointer.1) p q)
 
   pointer_equality_made : (at : Place) (sign : BinaryOp) (x y : TermTree) → IsMade u x → IsMade u y → Makes u (pointer_equality k at sign x y)

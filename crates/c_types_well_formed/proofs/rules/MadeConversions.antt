@@ -20,13 +20,13 @@ use Rattle.lower_templates.specs.Worklist.TermKinds as lowered
 use Rattle.lower_templates.specs.Worklist.TermKinds.{scalar_of}
 use Rattle.source_preservation.specs.Checks.LookedTypes.{is_scalar_type, is_address, converts}
 use Rattle.source_preservation.specs.Checks.LookedTerms as look
-use Rattle.source_preservation.specs.Checks.LookedTerms.{is_exact_zero, is_marked_term}
+use Rattle.source_preservation.specs.Checks.LookedTerms.{is_exact_zero, is_well_typed_term}
 use Rattle.source_preservation.proofs.checks.Truths.{never, both_true}
 use Rattle.source_preservation.proofs.checks.SameTypes.{type_is}
 use Rattle.c_types_well_formed.specs.WellFormed.ModelTypes.{IsKindOf, IsTypeOf, IsGround}
 use Rattle.c_types_well_formed.specs.WellFormed.MadeTerms.{IsExactly, IsMade, IsGiven, Gives}
 use Rattle.c_types_well_formed.proofs.decided_tests.ModelKinds.{scalar_there}
-use Rattle.c_types_well_formed.proofs.decided_tests.Rewrapped.{noted_type, noted_exact, noted_marked}
+use Rattle.c_types_well_formed.proofs.decided_tests.Rewrapped.{noted_type, noted_exact, noted_well_typed}
 
 -- ---- types
 
@@ -55,11 +55,11 @@ is_number_zero e k typed h = number_zero e k (is_zero e) typed h
 
 module _ (u : UnitView) where
   -- a value that is used
-  pub used_marked : (e : TermTree) → IsMade u e → is_void (term_type e) ≡ false → is_marked_term u true e ≡ true
-  used_marked e made value = subst (λ b. is_marked_term u (not b) e ≡ true) value made.marked
+  pub used_well_typed : (e : TermTree) → IsMade u e → is_void (term_type e) ≡ false → is_well_typed_term u true e ≡ true
+  used_well_typed e made value = subst (λ b. is_well_typed_term u (not b) e ≡ true) value made.well_typed
 
-  pub scalar_marked : (e : TermTree) → IsMade u e → is_scalar (term_type e) ≡ true → is_marked_term u true e ≡ true
-  scalar_marked e made scalar = used_marked e made (not_void (term_type e) scalar)
+  pub scalar_well_typed : (e : TermTree) → IsMade u e → is_scalar (term_type e) ≡ true → is_well_typed_term u true e ≡ true
+  scalar_well_typed e made scalar = used_well_typed e made (not_void (term_type e) scalar)
 
   -- the constant 0
   pub zero_exact : (e : TermTree) → IsMade u e → is_zero e ≡ true → is_exact_zero u.model e ≡ true
@@ -76,29 +76,29 @@ module _ (u : UnitView) where
   IsConverted e to = (converts (scalar_of to) (scalar_of (term_type e)) ≡ true) ⊎ ((is_address to ≡ true) × (is_exact_zero u.model e ≡ true))
 
   abbrev direct : TermTree → Ty → Bool
-  direct e to = is_marked_term u true e && converts (scalar_of to) (scalar_of (term_type e))
+  direct e to = is_well_typed_term u true e && converts (scalar_of to) (scalar_of (term_type e))
 
   abbrev from_zero : TermTree → Ty → Bool
   from_zero e to = is_address to && is_exact_zero u.model e
 
   module _ (k : Known) where
-    noted_converted : (e : TermTree) (to : Ty) → is_marked_term u true e ≡ true → IsConverted e to → (direct (noted k to e) to || from_zero (noted k to e) to) ≡ true
-    noted_converted e to marked (inl c) =
+    noted_converted : (e : TermTree) (to : Ty) → is_well_typed_term u true e ≡ true → IsConverted e to → (direct (noted k to e) to || from_zero (noted k to e) to) ≡ true
+    noted_converted e to well_typed (inl c) =
         or_left (direct (noted k to e) to) (from_zero (noted k to e) to)
-        (and_from (is_marked_term u true (noted k to e)) (converts (scalar_of to) (scalar_of (term_type (noted k to e)))) (noted_marked k to u true e ∙ marked) (ap (λ t. converts (scalar_of to) (scalar_of t)) (noted_type k to e) ∙ c))
-    noted_converted e to marked (inr z) =
+        (and_from (is_well_typed_term u true (noted k to e)) (converts (scalar_of to) (scalar_of (term_type (noted k to e)))) (noted_well_typed k to u true e ∙ well_typed) (ap (λ t. converts (scalar_of to) (scalar_of t)) (noted_type k to e) ∙ c))
+    noted_converted e to well_typed (inr z) =
         or_right (direct (noted k to e) to) (from_zero (noted k to e) to)
         (and_from (is_address to) (is_exact_zero u.model (noted k to e)) z.0 (ap lowered.is_zero (noted_exact k to u.model e) ∙ z.1))
 
-    pub converted_marked : (how : ConversionKind) (at : Place) (e : TermTree) (to : Ty) (used : Bool) → is_marked_term u true e ≡ true → is_scalar_type u to ≡ true → IsConverted e to → is_marked_term u used (converted_term k how at e to) ≡ true
-    converted_marked how at e to used marked scalar by = and_from (is_scalar_type u to) (direct (noted k to e) to || from_zero (noted k to e) to) scalar (noted_converted e to marked by)
+    pub converted_well_typed : (how : ConversionKind) (at : Place) (e : TermTree) (to : Ty) (used : Bool) → is_well_typed_term u true e ≡ true → is_scalar_type u to ≡ true → IsConverted e to → is_well_typed_term u used (converted_term k how at e to) ≡ true
+    converted_well_typed how at e to used well_typed scalar by = and_from (is_scalar_type u to) (direct (noted k to e) to || from_zero (noted k to e) to) scalar (noted_converted e to well_typed by)
 
     module _ (proper : is_model u.model ≡ true) where
       pub implicit_given : (e : TermTree) (to : Ty) → IsMade u e → is_scalar (term_type e) ≡ true → IsTypeOf u.model to → IsConverted e to → IsGiven u (implicit k e to) to
-      implicit_given e to made scalar known by = record { marked = converted_marked kind.Implicit (term_place e) e to true (scalar_marked e made scalar) (scalar_there u to proper known) by; same = refl }
+      implicit_given e to made scalar known by = record { well_typed = converted_well_typed kind.Implicit (term_place e) e to true (scalar_well_typed e made scalar) (scalar_there u to proper known) by; same = refl }
 
       pub same_given : (e : TermTree) (to : Ty) → IsMade u e → is_scalar (term_type e) ≡ true → term_type e ≡ to → IsGiven u e to
-      same_given e to made scalar same = record { marked = scalar_marked e made scalar; same = same }
+      same_given e to made scalar same = record { well_typed = scalar_well_typed e made scalar; same = same }
 
       pub type_given : (e : TermTree) (to : Ty) → IsMade u e → is_scalar (term_type e) ≡ true → IsTypeOf u.model to → IsConverted e to → IsGiven u (in_type k e to) to
       type_given e to made scalar known how = by (same_type (term_type e) to) refl

@@ -8,7 +8,7 @@ use Rattle.c_types_scopes.specs.Refusals.{Ruled}
 use Rattle.c_types_operands.specs.Operands.{OperandView, is_scalar, is_void}
 use Rattle.lower_templates.specs.Worklist.TermKinds.{converted, is_zero_cast}
 use Rattle.source_preservation.specs.Checks.LookedTerms as look
-use Rattle.source_preservation.specs.Checks.LookedTerms.{is_marked_term, has_tests}
+use Rattle.source_preservation.specs.Checks.LookedTerms.{is_well_typed_term, has_tests}
 use Rattle.source_preservation.proofs.checks.Truths.{never, no_some}
 use Rattle.c_types_well_formed.specs.WellFormed.ModelTypes.{IsTypeOf}
 use Rattle.c_types_well_formed.specs.WellFormed.MadeTerms.{IsExactly, is_implicit_form, IsMade, Makes}
@@ -18,13 +18,13 @@ module _ (u : UnitView) where
   pub term_made : (at : Place) (t : Ty) (parens : ℕ) (constant : Option ℤ) (f : FormTree)
       → is_implicit_form f ≡ false
       → converted f ≡ None
-      → is_marked_term u (not (is_void t)) (Typed at t parens constant f) ≡ true
+      → is_well_typed_term u (not (is_void t)) (Typed at t parens constant f) ≡ true
       → IsTypeOf u.model t
       → ((n : ℤ) → constant ≡ Some n → IsExactly u (Typed at t parens constant f) n)
       → (is_scalar t ≡ true → (is_test : Bool) → has_tests u is_test (Typed at t parens constant f) ≡ true)
       → IsMade u (Typed at t parens constant f)
-  term_made at t parens constant f bare none marked typed numbers tests = record {
-    marked = marked;
+  term_made at t parens constant f bare none well_typed typed numbers tests = record {
+    well_typed = well_typed;
     typed = typed;
     bare = bare;
     constant = numbers;
@@ -36,11 +36,11 @@ module _ (u : UnitView) where
   pub node_made : (at : Place) (t : Ty) (parens : ℕ) (f : FormTree)
       → is_implicit_form f ≡ false
       → converted f ≡ None
-      → is_marked_term u (not (is_void t)) (Typed at t parens None f) ≡ true
+      → is_well_typed_term u (not (is_void t)) (Typed at t parens None f) ≡ true
       → IsTypeOf u.model t
       → (is_scalar t ≡ true → (is_test : Bool) → has_tests u is_test (Typed at t parens None f) ≡ true)
       → IsMade u (Typed at t parens None f)
-  node_made at t parens f bare none marked typed tests = term_made at t parens None f bare none marked typed (λ n h. no_some n h) tests
+  node_made at t parens f bare none well_typed typed tests = term_made at t parens None f bare none well_typed typed (λ n h. no_some n h) tests
 
   pub makes_if : (b : Bool) (r s : Ruled OperandView) → (b ≡ true → Makes u r) → (b ≡ false → Makes u s) → Makes u (cond b r s)
   makes_if true r s f g = f refl

@@ -17,14 +17,14 @@ use Rattle.c_types_operands.specs.PointerArithmetic.{SumView, sum_by, target_siz
 use Rattle.c_types_operands.specs.Indirections.{target_by, indirection, at_sum, subscript}
 use Rattle.source_preservation.specs.Checks.LookedTypes as look
 use Rattle.source_preservation.specs.Checks.LookedTypes.{is_address, adds_to, subtracts}
-use Rattle.source_preservation.specs.Checks.LookedTerms.{is_marked_term}
+use Rattle.source_preservation.specs.Checks.LookedTerms.{is_well_typed_term}
 use Rattle.source_preservation.proofs.checks.Truths.{no_some, some_is}
 use Rattle.source_preservation.proofs.checks.SameTypes.{type_is}
 use Rattle.c_types_well_formed.specs.WellFormed.ModelTypes.{IsTypeOf, IsGround}
 use Rattle.c_types_well_formed.specs.WellFormed.MadeTerms.{IsMade, IsMadeOperand, Makes}
 use Rattle.c_types_well_formed.proofs.decided_tests.MadeTests.{no_tests}
 use Rattle.c_types_well_formed.proofs.rules.GroundKinds.{number_scalar, number_integer, pointer_scalar, pointer_address, target_known, size_there, difference_there}
-use Rattle.c_types_well_formed.proofs.rules.MadeConversions.{scalar_marked}
+use Rattle.c_types_well_formed.proofs.rules.MadeConversions.{scalar_well_typed}
 use Rattle.c_types_well_formed.proofs.rules.MadeNodes.{node_made}
 use Rattle.c_types_well_formed.proofs.rules.MadeValues.{value_made}
 
@@ -86,24 +86,24 @@ MakesTerm u (Ok e) = IsMade u e
 MakesTerm u (Err f) = Unit {0}
 
 module _ (u : UnitView) (k : Known) (ground : IsGround u k) where
-  shift_made : (at : Place) (down : Bool) (v : SumView) (t : Ty) (left right : TermTree) → is_marked_term u true left ≡ true → is_marked_term u true right ≡ true → adds_to (term_type left) (term_type right) ≡ true → IsTypeOf u.model t → v.ctype ≡ Pointer t → IsMade u (Typed at v.ctype 0 None (tree.Shift down v.size left right))
+  shift_made : (at : Place) (down : Bool) (v : SumView) (t : Ty) (left right : TermTree) → is_well_typed_term u true left ≡ true → is_well_typed_term u true right ≡ true → adds_to (term_type left) (term_type right) ≡ true → IsTypeOf u.model t → v.ctype ≡ Pointer t → IsMade u (Typed at v.ctype 0 None (tree.Shift down v.size left right))
   shift_made at down v t left right x y adds known is =
       subst (λ s. IsMade u (Typed at s 0 None (tree.Shift down v.size left right))) (sym is)
       (node_made u at (Pointer t) 0 (tree.Shift down v.size left right) refl refl
-      (and_from (is_marked_term u true left) (is_marked_term u true right && (adds_to (term_type left) (term_type right) && true)) x
-      (and_from (is_marked_term u true right) (adds_to (term_type left) (term_type right) && true) y (and_from (adds_to (term_type left) (term_type right)) true adds refl)))
+      (and_from (is_well_typed_term u true left) (is_well_typed_term u true right && (adds_to (term_type left) (term_type right) && true)) x
+      (and_from (is_well_typed_term u true right) (adds_to (term_type left) (term_type right) && true) y (and_from (adds_to (term_type left) (term_type right)) true adds refl)))
       known
       (λ scalar is_test. no_tests u k ground at (Pointer t) 0 None is_test (tree.Shift down v.size left right) refl))
 
   moved_left : (at : Place) (down : Bool) (v : SumView) (left right : TermTree) → IsMade u left → IsMade u right → IsSumOf (term_type left) (term_type right) v → IsMade u (Typed at v.ctype 0 None (tree.Shift down v.size left right))
   moved_left at down v left right x y sum =
-      shift_made at down v sum.target left right (scalar_marked u left x (pointer_scalar left sum.target sum.pointer_is)) (scalar_marked u right y (number_scalar right sum.kind sum.number_is))
+      shift_made at down v sum.target left right (scalar_well_typed u left x (pointer_scalar left sum.target sum.pointer_is)) (scalar_well_typed u right y (number_scalar right sum.kind sum.number_is))
       (or_left (is_address (term_type left) && look.is_integer (term_type right)) (look.is_integer (term_type left) && is_address (term_type right)) (and_from (is_address (term_type left)) (look.is_integer (term_type right)) (pointer_address left sum.target sum.pointer_is) (number_integer right sum.kind sum.number_is)))
       (target_known u k ground left sum.target x sum.pointer_is) sum.same
 
   moved_right : (at : Place) (down : Bool) (v : SumView) (left right : TermTree) → IsMade u left → IsMade u right → IsSumOf (term_type right) (term_type left) v → IsMade u (Typed at v.ctype 0 None (tree.Shift down v.size left right))
   moved_right at down v left right x y sum =
-      shift_made at down v sum.target left right (scalar_marked u left x (number_scalar left sum.kind sum.number_is)) (scalar_marked u right y (pointer_scalar right sum.target sum.pointer_is))
+      shift_made at down v sum.target left right (scalar_well_typed u left x (number_scalar left sum.kind sum.number_is)) (scalar_well_typed u right y (pointer_scalar right sum.target sum.pointer_is))
       (or_right (is_address (term_type left) && look.is_integer (term_type right)) (look.is_integer (term_type left) && is_address (term_type right)) (and_from (look.is_integer (term_type left)) (is_address (term_type right)) (number_integer left sum.kind sum.number_is) (pointer_address right sum.target sum.pointer_is)))
       (target_known u k ground right sum.target y sum.pointer_is) sum.same
 
@@ -134,8 +134,8 @@ module _ (u : UnitView) (k : Known) (ground : IsGround u k) where
       on : (size : ℕ) → ArePointers (term_type left) (term_type right) → IsMade u (Typed at t 0 None (tree.Difference size left right))
       on size p =
           node_made u at t 0 (tree.Difference size left right) refl refl
-          (and_from (is_marked_term u true left) (is_marked_term u true right && (is_address (term_type left) && (is_address (term_type right) && subtracts u t))) (scalar_marked u left x (pointer_scalar left p.target p.left))
-          (and_from (is_marked_term u true right) (is_address (term_type left) && (is_address (term_type right) && subtracts u t)) (scalar_marked u right y (pointer_scalar right p.target p.right))
+          (and_from (is_well_typed_term u true left) (is_well_typed_term u true right && (is_address (term_type left) && (is_address (term_type right) && subtracts u t))) (scalar_well_typed u left x (pointer_scalar left p.target p.left))
+          (and_from (is_well_typed_term u true right) (is_address (term_type left) && (is_address (term_type right) && subtracts u t)) (scalar_well_typed u right y (pointer_scalar right p.target p.right))
           (and_from (is_address (term_type left)) (is_address (term_type right) && subtracts u t) (pointer_address left p.target p.left)
           (and_from (is_address (term_type right)) (subtracts u t) (pointer_address right p.target p.right) (difference_there u k ground)))))
           (size_there u k ground true)
@@ -168,7 +168,7 @@ module _ (u : UnitView) (k : Known) (ground : IsGround u k) where
   indirection_made at e made = by (complete_target k (term_type e)) refl
     where
       on : (t : Ty) → term_type e ≡ Pointer t → Makes u (target_by at e (Some t))
-      on t is = record { marked = and_from (is_marked_term u true e) (is_address (term_type e)) (scalar_marked u e made (pointer_scalar e t is)) (pointer_address e t is); typed = target_known u k ground e t made is }
+      on t is = record { well_typed = and_from (is_well_typed_term u true e) (is_address (term_type e)) (scalar_well_typed u e made (pointer_scalar e t is)) (pointer_address e t is); typed = target_known u k ground e t made is }
 
       by : (o : Option Ty) → complete_target k (term_type e) ≡ o → Makes u (target_by at e o)
       by None is = tt

@@ -13,7 +13,7 @@ use Rattle.semantics.specs.SourceMachine.SourceStates.{function_at}
 use Rattle.source_items.specs.StackKinds.KindedTerms.{argument_kinds}
 use Rattle.source_preservation.specs.Checks.LookedTypes.{same_mark}
 use Rattle.source_items.specs.Operations.TakenKinds.{result_kind}
-use Rattle.source_preservation.specs.Checks.LookedTerms.{has_tests, have_parameters, calls, accepts, is_given, calls_library, is_marked_term, are_marked_terms}
+use Rattle.source_preservation.specs.Checks.LookedTerms.{has_tests, have_parameters, calls, accepts, is_given, calls_library, is_well_typed_term, are_well_typed_terms}
 use Rattle.source_preservation.proofs.checks.Truths.{both_true}
 
 abbrev gives_value : Bool → Ty → FunctionView → Bool
@@ -52,21 +52,21 @@ module _ (u : UnitView) where
       and_from a (b' && s) x.0 (and_from b' s (f y.0) y.1)
 
   -- what is not used need not be given
-  pub still_marked : (used : Bool) (e : TermTree) → is_marked_term u used e ≡ true → is_marked_term u false e ≡ true
-  still_marked used (Typed at t parens fixed (tree.Discard a)) h = and_from (is_marked_term u false a) true (both_true (is_marked_term u false a) (not used) h).0 refl
-  still_marked used (Typed at t parens fixed (tree.Conditional c a b)) h =
-      arms (is_marked_term u true c) (has_tests u true c) (is_marked_term u used a) (is_marked_term u used b) (is_marked_term u false a) (is_marked_term u false b) (same_mark (term_type a) t && same_mark (term_type b) t) (λ x. still_marked used a x) (λ x. still_marked used b x) h
-  still_marked used (Typed at t parens fixed (tree.Comma a b)) h = last (is_marked_term u false a) (is_marked_term u used b) (is_marked_term u false b) (same_mark (term_type b) t) (λ x. still_marked used b x) h
-  still_marked used (Typed at t parens fixed (tree.Call g args is_used)) h =
-      let x = both_true (are_marked_terms u args) (calls used is_used t args (function_at u g)) h in
-      and_from (are_marked_terms u args) (calls false is_used t args (function_at u g)) x.0 (call_unused used is_used t args (function_at u g) x.1)
-  still_marked used (Typed at t parens fixed (tree.Library function args allocated)) h =
-      let x = both_true (are_marked_terms u args) (calls_library u used t function args) h in
-      and_from (are_marked_terms u args) (calls_library u false t function args) x.0 (library_unused u used t function args x.1)
-  still_marked used (Typed at t parens fixed f) h = h
+  pub still_well_typed : (used : Bool) (e : TermTree) → is_well_typed_term u used e ≡ true → is_well_typed_term u false e ≡ true
+  still_well_typed used (Typed at t parens fixed (tree.Discard a)) h = and_from (is_well_typed_term u false a) true (both_true (is_well_typed_term u false a) (not used) h).0 refl
+  still_well_typed used (Typed at t parens fixed (tree.Conditional c a b)) h =
+      arms (is_well_typed_term u true c) (has_tests u true c) (is_well_typed_term u used a) (is_well_typed_term u used b) (is_well_typed_term u false a) (is_well_typed_term u false b) (same_mark (term_type a) t && same_mark (term_type b) t) (λ x. still_well_typed used a x) (λ x. still_well_typed used b x) h
+  still_well_typed used (Typed at t parens fixed (tree.Comma a b)) h = last (is_well_typed_term u false a) (is_well_typed_term u used b) (is_well_typed_term u false b) (same_mark (term_type b) t) (λ x. still_well_typed used b x) h
+  still_well_typed used (Typed at t parens fixed (tree.Call g args is_used)) h =
+      let x = both_true (are_well_typed_terms u args) (calls used is_used t args (function_at u g)) h in
+      and_from (are_well_typed_terms u args) (calls false is_used t args (function_at u g)) x.0 (call_unused used is_used t args (function_at u g) x.1)
+  still_well_typed used (Typed at t parens fixed (tree.Library function args allocated)) h =
+      let x = both_true (are_well_typed_terms u args) (calls_library u used t function args) h in
+      and_from (are_well_typed_terms u args) (calls_library u false t function args) x.0 (library_unused u used t function args x.1)
+  still_well_typed used (Typed at t parens fixed f) h = h
 
-  pub unused_marked : (used : Bool) (e : TermTree) → is_marked_term u used e ≡ true → is_marked_term u false (unused e) ≡ true
-  unused_marked used (Typed at t parens fixed (tree.Call g args is_used)) h =
-      let x = both_true (are_marked_terms u args) (calls used is_used t args (function_at u g)) h in
-      and_from (are_marked_terms u args) (calls false false t args (function_at u g)) x.0 (call_alone used is_used t args (function_at u g) x.1)
-  unused_marked used (Typed at t parens fixed f) h = still_marked used (Typed at t parens fixed f) h
+  pub unused_well_typed : (used : Bool) (e : TermTree) → is_well_typed_term u used e ≡ true → is_well_typed_term u false (unused e) ≡ true
+  unused_well_typed used (Typed at t parens fixed (tree.Call g args is_used)) h =
+      let x = both_true (are_well_typed_terms u args) (calls used is_used t args (function_at u g)) h in
+      and_from (are_well_typed_terms u args) (calls false false t args (function_at u g)) x.0 (call_alone used is_used t args (function_at u g) x.1)
+  unused_well_typed used (Typed at t parens fixed f) h = still_well_typed used (Typed at t parens fixed f) h

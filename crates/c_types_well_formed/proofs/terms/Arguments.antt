@@ -17,7 +17,7 @@ use Rattle.lower_functions.specs.Functions.Functions.{local_type}
 use Rattle.lower_templates.specs.Worklist.TermKinds as flow
 use Rattle.source_items.specs.StackKinds.KindedTerms.{argument_kinds}
 use Rattle.source_items.specs.Operations.Kinds.{kind_of_type}
-use Rattle.source_preservation.specs.Checks.LookedTerms.{are_marked_terms, have_parameters}
+use Rattle.source_preservation.specs.Checks.LookedTerms.{are_well_typed_terms, have_parameters}
 use Rattle.source_preservation.specs.Checks.LookedTypes.{same_mark}
 use Rattle.c_types_well_formed.specs.WellFormed.MadeLaws.{ValuesAreMade, ConversionsGive}
 use Rattle.c_types_well_formed.specs.WellFormed.MadeTerms.{IsMadeOperand, IsGiven, Gives}
@@ -71,11 +71,11 @@ module _ (u : UnitView) (k : Known) (known : IsGround u k) (values : ValuesAreMa
 
 -- ---- what the looks see of them
 
-pub given_marked : (u : UnitView) (es : List TermTree) (ts : List Ty) → AreGiven u es ts → are_marked_terms u (term_trees es) ≡ true
-given_marked u [] [] h = refl
-given_marked u [] (t ∷ ts) h = absurd h
-given_marked u (e ∷ es) [] h = absurd h
-given_marked u (e ∷ es) (t ∷ ts) h = and_from _ _ h.0.marked (given_marked u es ts h.1)
+pub given_well_typed : (u : UnitView) (es : List TermTree) (ts : List Ty) → AreGiven u es ts → are_well_typed_terms u (term_trees es) ≡ true
+given_well_typed u [] [] h = refl
+given_well_typed u [] (t ∷ ts) h = absurd h
+given_well_typed u (e ∷ es) [] h = absurd h
+given_well_typed u (e ∷ es) (t ∷ ts) h = and_from _ _ h.0.well_typed (given_well_typed u es ts h.1)
 
 pub given_kinds : (u : UnitView) (es : List TermTree) (ts : List Ty) → AreGiven u es ts → argument_kinds (term_trees es) ≡ map kind_of_type ts
 given_kinds u [] [] h = refl

@@ -33,7 +33,7 @@ use Rattle.lower_templates.specs.Worklist.TermKinds as flow
 use Rattle.source_items.specs.StackKinds.KindedTerms.{argument_kinds}
 use Rattle.source_items.specs.Operations.Kinds.{kind_of_type}
 use Rattle.source_preservation.specs.Checks.LookedTerms as look
-use Rattle.source_preservation.specs.Checks.LookedTerms.{begins_with_address, is_marked_term, are_marked_terms, have_parameters, has_tests}
+use Rattle.source_preservation.specs.Checks.LookedTerms.{begins_with_address, is_well_typed_term, are_well_typed_terms, have_parameters, has_tests}
 use Rattle.source_preservation.specs.Checks.LookedTypes.{same_mark}
 use Rattle.c_types_well_formed.specs.WellFormed.KnownTypes.{HasTypes}
 use Rattle.c_types_well_formed.specs.WellFormed.MadeLaws.{ValuesAreMade, ConversionsGive}
@@ -41,7 +41,7 @@ use Rattle.c_types_well_formed.specs.WellFormed.MadeTerms.{IsMade, IsMadeOperand
 use Rattle.c_types_well_formed.specs.WellFormed.ModelTypes.{IsTypeOf, IsGround}
 use Rattle.c_types_well_formed.specs.WellFormed.UnitParts.{IsPartOf, IsThere}
 use Rattle.c_types_well_formed.proofs.rules.ModelKinds.{mark_same, promoted_known}
-use Rattle.c_types_well_formed.proofs.terms.Arguments.{AreMade, AreGiven, GivesAll, arguments_given, given_marked, given_parameters, type_is}
+use Rattle.c_types_well_formed.proofs.terms.Arguments.{AreMade, AreGiven, GivesAll, arguments_given, given_well_typed, given_parameters, type_is}
 use Rattle.c_types_well_formed.proofs.terms.LibraryCalls.{library_called_made, library_call_made}
 use Rattle.c_types_well_formed.proofs.terms.Parts.{in_model}
 use Rattle.c_types_well_formed.proofs.terms.Primaries.{in_unit}
@@ -68,7 +68,7 @@ no_tests u at t g args used false = refl
 
 called_made : (u : UnitView) (at : Place) (f : SignatureView) (n : ℕ) (es : List TermTree) → f.number ≡ Some n → IsThere u f n → IsTypeOf u.model f.result.ctype → AreGiven u es f.parameters → IsMadeOperand u (called at f es)
 called_made u at f n es number there typed given = record {
-  marked = and_from _ _ (given_marked u es f.parameters given) (
+  well_typed = and_from _ _ (given_well_typed u es f.parameters given) (
       calls_there f.result.ctype (term_trees es) there.function (slice_get u.functions (unwrap_or f.number no_number)) (ap (λ o. slice_get u.functions (unwrap_or o no_number)) number ∙ there.found) there.head.returns
       (given_parameters u there.function 0 es f.parameters given (λ i t is. let at_i : i ≡ 0 + i = omega arith in subst (λ j. same_mark t (local_type there.function j) ≡ true) at_i (there.head.parameters i t is)) (let counted = there.head.counted in omega (arith, counted))));
   typed = typed;
@@ -120,19 +120,19 @@ abbrev pub IsSpelled : Option Tree → List OperandView → Type 0
 IsSpelled None xs = Unit {0}
 IsSpelled (Some e) xs = (bytes : List ℕ) → literal_bytes e ≡ Some bytes → BeginsWithText xs
 
-abbrev AreMarked : UnitView → Ruled (List TermTree) → Type 0
-AreMarked u r = Holds (λ (es : List TermTree). are_marked_terms u (term_trees es) ≡ true) r
+abbrev AreWellTyped : UnitView → Ruled (List TermTree) → Type 0
+AreWellTyped u r = Holds (λ (es : List TermTree). are_well_typed_terms u (term_trees es) ≡ true) r
 
-abbrev IsMarked : UnitView → Ruled TermTree → Type 0
-IsMarked u r = Holds (λ (e : TermTree). is_marked_term u true e ≡ true) r
+abbrev IsWellTyped : UnitView → Ruled TermTree → Type 0
+IsWellTyped u r = Holds (λ (e : TermTree). is_well_typed_term u true e ≡ true) r
 
-with_first_marked : (u : UnitView) (e : TermTree) (rs : Ruled (List TermTree)) → is_marked_term u true e ≡ true → AreMarked u rs → AreMarked u (with_first e rs)
-with_first_marked u e (Ok es) g h = and_from _ _ g h
-with_first_marked u e (Err f) g h = tt
+with_first_well_typed : (u : UnitView) (e : TermTree) (rs : Ruled (List TermTree)) → is_well_typed_term u true e ≡ true → AreWellTyped u rs → AreWellTyped u (with_first e rs)
+with_first_well_typed u e (Ok es) g h = and_from _ _ g h
+with_first_well_typed u e (Err f) g h = tt
 
-if_first_marked : (u : UnitView) (r : Ruled TermTree) (rs : Ruled (List TermTree)) → IsMarked u r → AreMarked u rs → AreMarked u (if_first r rs)
-if_first_marked u (Ok e) rs g h = with_first_marked u e rs g h
-if_first_marked u (Err f) rs g h = tt
+if_first_well_typed : (u : UnitView) (r : Ruled TermTree) (rs : Ruled (List TermTree)) → IsWellTyped u r → AreWellTyped u rs → AreWellTyped u (if_first r rs)
+if_first_well_typed u (Ok e) rs g h = with_first_well_typed u e rs g h
+if_first_well_typed u (Err f) rs g h = tt
 
 nothing_wanted : (k : Known) (w : Wanted) → is_wanted k w Void ≡ true → ⊥
 nothing_wanted k want.Text h = cc
@@ -145,45 +145,45 @@ module _ (u : UnitView) (k : Known) (known : IsGround u k) (values : ValuesAreMa
   given_by at e to true h = h
   given_by at e to false h = h
 
-  promoted_marked : (w : Wanted) (e : TermTree) → IsMade u e → is_wanted k w (term_type (promoted_argument k e)) ≡ true → is_marked_term u true (promoted_argument k e) ≡ true
-  promoted_marked w (tree.Typed at (Int kind) parens constant f) made is =
+  promoted_well_typed : (w : Wanted) (e : TermTree) → IsMade u e → is_wanted k w (term_type (promoted_argument k e)) ≡ true → is_well_typed_term u true (promoted_argument k e) ≡ true
+  promoted_well_typed w (tree.Typed at (Int kind) parens constant f) made is =
       let kind_known = in_model k.numbers u.model (Int (promoted k.numbers kind)) (sym known.same) (promoted_known k.numbers kind (in_model u.model k.numbers (Int kind) known.same made.typed)) in
       let given = conversions u k known at (tree.Typed at (Int kind) parens constant f) (Int (promoted k.numbers kind)) made kind_known in
-      (given_by at (tree.Typed at (Int kind) parens constant f) (Int (promoted k.numbers kind)) (same_kind kind (promoted k.numbers kind)) given).marked
-  promoted_marked w (tree.Typed at (Pointer t) parens constant f) made is = made.marked
-  promoted_marked w (tree.Typed at (Array t n) parens constant f) made is = made.marked
-  promoted_marked w (tree.Typed at (Struct i) parens constant f) made is = made.marked
-  promoted_marked w (tree.Typed at Void parens constant f) made is = absurd (nothing_wanted k w is)
+      (given_by at (tree.Typed at (Int kind) parens constant f) (Int (promoted k.numbers kind)) (same_kind kind (promoted k.numbers kind)) given).well_typed
+  promoted_well_typed w (tree.Typed at (Pointer t) parens constant f) made is = made.well_typed
+  promoted_well_typed w (tree.Typed at (Array t n) parens constant f) made is = made.well_typed
+  promoted_well_typed w (tree.Typed at (Struct i) parens constant f) made is = made.well_typed
+  promoted_well_typed w (tree.Typed at Void parens constant f) made is = absurd (nothing_wanted k w is)
 
-  wanted_marked : (at : Place) (e : TermTree) (b : Bool) → (b ≡ true → is_marked_term u true e ≡ true) → IsMarked u (cond b (Ok e) (format_fault at))
-  wanted_marked at e true h = h refl
-  wanted_marked at e false h = tt
+  wanted_well_typed : (at : Place) (e : TermTree) (b : Bool) → (b ≡ true → is_well_typed_term u true e ≡ true) → IsWellTyped u (cond b (Ok e) (format_fault at))
+  wanted_well_typed at e true h = h refl
+  wanted_well_typed at e false h = tt
 
-  formatted_marked : (at : Place) (w : Wanted) (x : OperandView) → IsMadeOperand u x → IsMarked u (formatted k at w x)
-  formatted_marked at w x made = wanted_marked at (promoted_argument k (term_of x)) (is_wanted k w (term_type (promoted_argument k (term_of x)))) (λ is. promoted_marked w (term_of x) (values u k known x made) is)
+  formatted_well_typed : (at : Place) (w : Wanted) (x : OperandView) → IsMadeOperand u x → IsWellTyped u (formatted k at w x)
+  formatted_well_typed at w x made = wanted_well_typed at (promoted_argument k (term_of x)) (is_wanted k w (term_type (promoted_argument k (term_of x)))) (λ is. promoted_well_typed w (term_of x) (values u k known x made) is)
 
-  each_marked : (at : Place) (ws : List Wanted) (xs : List OperandView) → AreMade u xs → AreMarked u (each_formatted k at ws xs)
+  each_well_typed : (at : Place) (ws : List Wanted) (xs : List OperandView) → AreMade u xs → AreWellTyped u (each_formatted k at ws xs)
   unfolding each_formatted
-  each_marked at [] [] made = refl
-  each_marked at (w ∷ ws) [] made = refl
-  each_marked at [] (x ∷ xs) made = tt
-  each_marked at (w ∷ ws) (x ∷ xs) made = if_first_marked u (formatted k at w x) (each_formatted k at ws xs) (formatted_marked at w x made.0) (each_marked at ws xs made.1)
+  each_well_typed at [] [] made = refl
+  each_well_typed at (w ∷ ws) [] made = refl
+  each_well_typed at [] (x ∷ xs) made = tt
+  each_well_typed at (w ∷ ws) (x ∷ xs) made = if_first_well_typed u (formatted k at w x) (each_formatted k at ws xs) (formatted_well_typed at w x made.0) (each_well_typed at ws xs made.1)
 
-  arguments_marked : (at : Place) (ws : List Wanted) (xs : List OperandView) (b : Bool) → AreMade u xs → AreMarked u (cond b (each_formatted k at ws xs) (format_fault at))
-  arguments_marked at ws xs true made = each_marked at ws xs made
-  arguments_marked at ws xs false made = tt
+  arguments_well_typed : (at : Place) (ws : List Wanted) (xs : List OperandView) (b : Bool) → AreMade u xs → AreWellTyped u (cond b (each_formatted k at ws xs) (format_fault at))
+  arguments_well_typed at ws xs true made = each_well_typed at ws xs made
+  arguments_well_typed at ws xs false made = tt
 
-  printed_made : (at : Place) (format : OperandView) (r : Ruled (List TermTree)) → IsMadeOperand u format → IsText format.form → AreMarked u r → Makes u (calls.printed k at (term_of format) r)
-  printed_made at format (Err f) made text marked = tt
-  printed_made at format (Ok es) made text marked =
+  printed_made : (at : Place) (format : OperandView) (r : Ruled (List TermTree)) → IsMadeOperand u format → IsText format.form → AreWellTyped u r → Makes u (calls.printed k at (term_of format) r)
+  printed_made at format (Err f) made text well_typed = tt
+  printed_made at format (Ok es) made text well_typed =
       let value = text_value format.form format.fixed text in
       library_called_made u k.numbers at 0 lib.Printf (term_of format ∷ es) known.same (subst (λ m. is_model m ≡ true) known.same known.proper)
-      (and_from _ _ (subst (λ t. is_marked_term u (not (is_void t)) (term_of format) ≡ true) value.1 (values u k known format made).marked) marked)
+      (and_from _ _ (subst (λ t. is_well_typed_term u (not (is_void t)) (term_of format) ≡ true) value.1 (values u k known format made).well_typed) well_typed)
       (subst (λ t. begins_with_address (kind_of_type t ∷ argument_kinds (term_trees es)) ≡ true) (sym (type_is (term_of format) ∙ value.1)) refl)
 
   printf_with_made : (at : Place) (ws : List Wanted) (xs : List OperandView) → AreMade u xs → BeginsWithText xs → Makes u (calls.printf_with k at ws xs)
   printf_with_made at ws [] made text = tt
-  printf_with_made at ws (x ∷ xs) made text = printed_made at x (formatted_arguments k at ws xs) made.0 text (arguments_marked at ws xs (length xs == length ws) made.1)
+  printf_with_made at ws (x ∷ xs) made text = printed_made at x (formatted_arguments k at ws xs) made.0 text (arguments_well_typed at ws xs (length xs == length ws) made.1)
 
   printf_wanting_made : (at : Place) (xs : List OperandView) (o : Option (List Wanted)) → AreMade u xs → BeginsWithText xs → Makes u (calls.printf_wanting k at xs o)
   printf_wanting_made at xs None made text = tt

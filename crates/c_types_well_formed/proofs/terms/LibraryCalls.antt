@@ -25,14 +25,14 @@ use Rattle.lower_templates.specs.Worklist.TermKinds.{scalar_of}
 use Rattle.source_items.specs.StackKinds.KindedTerms.{argument_kinds}
 use Rattle.source_items.specs.Operations.Kinds.{kind_of_type}
 use Rattle.source_items.specs.Operations.TakenKinds.{result_kind}
-use Rattle.source_preservation.specs.Checks.LookedTerms.{accepts, is_given, has_tests, are_marked_terms}
+use Rattle.source_preservation.specs.Checks.LookedTerms.{accepts, is_given, has_tests, are_well_typed_terms}
 use Rattle.c_types_well_formed.specs.WellFormed.KnownTypes.{HasTypes}
 use Rattle.c_types_well_formed.specs.WellFormed.MadeLaws.{ValuesAreMade, ConversionsGive}
 use Rattle.c_types_well_formed.specs.WellFormed.MadeTerms.{IsMadeOperand, Makes}
 use Rattle.c_types_well_formed.specs.WellFormed.ModelTypes.{IsKindOf, IsTypeOf, Each}
 use Rattle.c_types_well_formed.specs.WellFormed.UnitParts.{IsPartOf}
 use Rattle.c_types_well_formed.proofs.rules.ModelKinds.{model_numbers}
-use Rattle.c_types_well_formed.proofs.terms.Arguments.{AreMade, GivesAll, arguments_given, given_marked, given_kinds}
+use Rattle.c_types_well_formed.proofs.terms.Arguments.{AreMade, GivesAll, arguments_given, given_well_typed, given_kinds}
 use Rattle.c_types_well_formed.proofs.terms.Parts.{kind_is, in_model, each_none, each_first}
 use Rattle.c_types_well_formed.proofs.terms.Primaries.{in_unit}
 use Rattle.c_types_well_formed.proofs.terms.Steps.{ground}
@@ -170,9 +170,9 @@ no_tests u at t f args true = refl
 no_tests u at t f args false = refl
 
 -- a call of a function that takes its arguments
-pub library_called_made : (u : UnitView) (m : Model) (at : Place) (stream : ℕ) (f : LibFn) (es : List TermTree) → u.model ≡ m → is_model m ≡ true → are_marked_terms u (term_trees es) ≡ true → accepts f (argument_kinds (term_trees es)) ≡ true → IsMadeOperand u (library_called at (library_result m stream f) f es)
-library_called_made u m at stream f es same proper marked accepted = record {
-  marked = and_from _ _ marked (and_from _ _ accepted (and_from _ _ (used_given m stream f) (subst (λ x. (not (gives f) || is_given x f (result_kind f) (scalar_of (library_result m stream f))) ≡ true) (sym same) (result_given m stream f proper))));
+pub library_called_made : (u : UnitView) (m : Model) (at : Place) (stream : ℕ) (f : LibFn) (es : List TermTree) → u.model ≡ m → is_model m ≡ true → are_well_typed_terms u (term_trees es) ≡ true → accepts f (argument_kinds (term_trees es)) ≡ true → IsMadeOperand u (library_called at (library_result m stream f) f es)
+library_called_made u m at stream f es same proper well_typed accepted = record {
+  well_typed = and_from _ _ well_typed (and_from _ _ accepted (and_from _ _ (used_given m stream f) (subst (λ x. (not (gives f) || is_given x f (result_kind f) (scalar_of (library_result m stream f))) ≡ true) (sym same) (result_given m stream f proper))));
   typed = in_model m u.model (library_result m stream f) (sym same) (result_typed m stream f);
   bare = refl;
   constant = λ n e. absurd (cc);
@@ -184,7 +184,7 @@ module _ (s : State) (u : UnitView) (h : HasTypes s) (p : IsPartOf s u) (values 
   library_with_made : (at : Place) (f : LibFn) (r : Ruled (List TermTree)) → takes_format f ≡ false → GivesAll u (library_parameters s.known.numbers s.stream f) r → Makes u (calls.library_with at (library_result s.known.numbers s.stream f) f r)
   library_with_made at f (Err e) plain given = tt
   library_with_made at f (Ok es) plain given =
-      library_called_made u s.known.numbers at s.stream f es p.model h.proper (given_marked u es (library_parameters s.known.numbers s.stream f) given)
+      library_called_made u s.known.numbers at s.stream f es p.model h.proper (given_well_typed u es (library_parameters s.known.numbers s.stream f) given)
       (subst (λ ks. accepts f ks ≡ true) (sym (given_kinds u es (library_parameters s.known.numbers s.stream f) given)) (slots_accepted s.known.numbers s.stream f plain))
 
   -- a call of a function with a prototype

@@ -57,7 +57,7 @@ no_tests u at t c n false = refl
 
 pub number_made : (u : UnitView) (at : Place) (kind : IntType) (n : ℤ) → IsKindOf u.model kind → in_type kind n ≡ true → IsMadeOperand u (fixed_number at (Int kind) n)
 number_made u at kind n is fits = record {
-  marked = fits;
+  well_typed = fits;
   typed = is;
   bare = refl;
   constant = λ k e. record { integer = kind; typed = refl; number = e; fits = subst (λ x. in_type kind x ≡ true) (same_Some n k e) fits };
@@ -72,7 +72,7 @@ constant_made s u at c p h = number_made u at c.kind (primaries.constant_value c
 
 static_made : (u : UnitView) (at : Place) (t : Ty) (e : Option ℕ) (number : Option ℕ) (b : Bool) → ((n : ℕ) → number ≡ Some n → is_some (slice_get u.objects n) ≡ true) → IsTypeOf u.model t → b ≡ true
     → Makes u (cond (is_none number && b) (undeclared at) (Ok (designated at t (tree.Object (object.Static (unwrap_or number no_number))) e)))
-static_made u at t e (Some n) b there typed h = record { marked = there n refl; typed = typed }
+static_made u at t e (Some n) b there typed h = record { well_typed = there n refl; typed = typed }
 static_made u at t e None true there typed h = tt
 static_made u at t e None false there typed h = absurd (cc)
 
@@ -82,7 +82,7 @@ static_by_made s u at declared (Some o) h ev p is = static_made u at o.declared.
 
 local_by_made : (s : State) (u : UnitView) (at : Place) (number : ℕ) (o : Option LocalView) → HasTypes s → IsPartOf s u → slice_get s.body.locals number ≡ o → Makes u (primaries.local_by s at number o)
 local_by_made s u at number None h p is = tt
-local_by_made s u at number (Some o) h p is = record { marked = refl; typed = in_unit s u o.ctype p (h.locals number o is) }
+local_by_made s u at number (Some o) h p is = record { well_typed = refl; typed = in_unit s u o.ctype p (h.locals number o is) }
 
 not_declared_made : (u : UnitView) (at : Place) (f : Option LibFn) → Makes u (primaries.not_declared at f)
 not_declared_made u at (Some f) = tt
@@ -144,7 +144,7 @@ literal_there s x u false h p = absurd (cc)
 
 pub literal_made : (s : State) (at : Place) (bytes : List ℕ) (u : UnitView) → HasTypes s → is_evaluated s ≡ true → IsPartOf (with_literal s at bytes) u → IsMadeOperand u (primaries.literal_operand s at bytes)
 literal_made s at bytes u h ev p = record {
-  marked = literal_there s (record { at = at; bytes = bytes }) u (is_evaluated s) ev p;
+  well_typed = literal_there s (record { at = at; bytes = bytes }) u (is_evaluated s) ev p;
   typed = in_unit s u (Int (primaries.char_kind s.known)) (literal_parts s (record { at = at; bytes = bytes }) (is_evaluated s) u p) (kind_is s.known.numbers rank.Char _);
 }
 
@@ -190,7 +190,7 @@ entry_holds s owner (Some e) h = in_struct_holds s.known.numbers e (slice_get s.
 module _ (s : State) (u : UnitView) (h : HasTypes s) (p : IsPartOf s u) where
   member_found_made : (at : Place) (whole : LvalueTree) (o : Option MemberView) → IsMadePlace u whole → HoldsIf (IsMemberOf s.known.numbers) o → Makes u (members.member_found at whole o)
   member_found_made at whole None made g = tt
-  member_found_made at whole (Some m) made g = record { marked = made.marked; typed = in_unit s u m.field.ctype p g }
+  member_found_made at whole (Some m) made g = record { well_typed = made.well_typed; typed = in_unit s u m.field.ctype p g }
 
   member_known_made : (at : Place) (whole : LvalueTree) (owner : ℕ) (o : Option ℕ) → IsMadePlace u whole → Makes u (members.member_known s at whole owner o)
   member_known_made at whole owner None made = tt

@@ -22,7 +22,7 @@ use Rattle.c_types_operators.specs.Choices.{logical, conditional, comma}
 use Rattle.c_types_operators.specs.SizesAndCasts.{size_of_operand, size_of_type, cast}
 use Rattle.c_types_operators.specs.UnaryOperators.{unary, step}
 use Rattle.lower_conditions.specs.Tests.{named}
-use Rattle.source_preservation.specs.Checks.LookedTerms.{is_marked_term}
+use Rattle.source_preservation.specs.Checks.LookedTerms.{is_well_typed_term}
 use Rattle.source_preservation.specs.UnitChecks.LookedStatements.{selects_by}
 use Rattle.c_types_well_formed.specs.WellFormed.ModelTypes.{IsTypeOf, IsGround}
 use Rattle.c_types_well_formed.specs.WellFormed.MadeTerms.{IsMade, IsMadeOperand, Makes, Gives}
@@ -55,8 +55,8 @@ abbrev pub ConversionsGive : Type 0
 ConversionsGive = (u : UnitView) (k : Known) → IsGround u k → (at : Place) (e : TermTree) (to : Ty) → IsMade u e → IsTypeOf u.model to → Gives u to (assigned k at e to)
 
 -- a term whose value is not used
-abbrev pub UnusedIsMarked : Type 0
-UnusedIsMarked = (u : UnitView) (k : Known) → IsGround u k → (e : TermTree) → IsMade u e → is_marked_term u false (unused e) ≡ true
+abbrev pub UnusedIsWellTyped : Type 0
+UnusedIsWellTyped = (u : UnitView) (k : Known) → IsGround u k → (e : TermTree) → IsMade u e → is_well_typed_term u false (unused e) ≡ true
 
 -- what a switch selects by
 abbrev pub SwitchesSelect : Type 0

@@ -11,7 +11,7 @@ use Rattle.c_types_operands.specs.Operands.{OperandForm, AsValue, AsLvalue, Oper
 use Rattle.c_types_scopes.specs.Refusals.{Ruled}
 use Rattle.lower_templates.specs.Worklist.TermKinds.{is_zero_cast, converted, term_form}
 use Rattle.source_preservation.specs.Checks.LookedTerms as look
-use Rattle.source_preservation.specs.Checks.LookedTerms.{exact, is_marked_term, is_marked_place, has_tests}
+use Rattle.source_preservation.specs.Checks.LookedTerms.{exact, is_well_typed_term, is_well_typed_place, has_tests}
 use Rattle.c_types_well_formed.specs.WellFormed.ModelTypes.{IsTypeOf}
 
 -- the number that a term is, which its type has
@@ -30,7 +30,7 @@ is_implicit (tree.Typed at t parens constant f) = is_implicit_form f
 
 -- a term that an operand is: no implicit conversion stands round it
 pub record IsMade (u : UnitView) (e : TermTree) : Type 0 where
-  pub marked : is_marked_term u (not (is_void (term_type e))) e ≡ true
+  pub well_typed : is_well_typed_term u (not (is_void (term_type e))) e ≡ true
   pub typed : IsTypeOf u.model (term_type e)
   pub bare : is_implicit e ≡ false
   pub constant : (n : ℤ) → term_constant e ≡ Some n → IsExactly u e n
@@ -38,7 +38,7 @@ pub record IsMade (u : UnitView) (e : TermTree) : Type 0 where
   pub tests : is_scalar (term_type e) ≡ true → (is_test : Bool) → has_tests u is_test e ≡ true
 
 pub record IsMadePlace (u : UnitView) (l : LvalueTree) : Type 0 where
-  pub marked : is_marked_place u l ≡ true
+  pub well_typed : is_well_typed_place u l ≡ true
   pub typed : IsTypeOf u.model (lvalue_type l)
 
 abbrev pub IsMadeForm : UnitView → OperandForm → Type 0
@@ -55,7 +55,7 @@ Makes u (Err f) = Unit {0}
 
 -- a term of a type, which a conversion may have given it
 pub record IsGiven (u : UnitView) (e : TermTree) (to : Ty) : Type 0 where
-  pub marked : is_marked_term u true e ≡ true
+  pub well_typed : is_well_typed_term u true e ≡ true
   pub same : term_type e ≡ to
 
 abbrev pub Gives : UnitView → Ty → Ruled TermTree → Type 0

@@ -1,5 +1,5 @@
 //! What rules of typing make of what is made.
-ghost use Rattle.c_types_well_formed.specs.WellFormed.MadeLaws.{ConversionsGive, UnusedIsMarked, ValuesAreMade};
+ghost use Rattle.c_types_well_formed.specs.WellFormed.MadeLaws.{ConversionsGive, UnusedIsWellTyped, ValuesAreMade};
 
 /// The value of an operand is marked.
 pub fn values_are_made()
@@ -12,6 +12,6 @@ pub fn conversions_give()
 {}
 
 /// A term is marked where its value is not used.
-pub fn unused_is_marked()
-    ensures { UnusedIsMarked }
+pub fn unused_is_well_typed()
+    ensures { UnusedIsWellTyped }
 {}

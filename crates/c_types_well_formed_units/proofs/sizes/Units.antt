@@ -27,7 +27,7 @@ use Rattle.c_types.specs.Units.UnitEntries.{judged}
 use Rattle.c_types_theorems.proofs.entries.Entries.{same_value}
 use Rattle.memory_model.specs.Effects.LibraryChecks.{most_size}
 use Rattle.c_layout.specs.ByteTexts.{are_bytes}
-use Rattle.source_preservation.specs.UnitChecks.LookedUnits.{is_small, is_small_local, is_proper_value, is_proper_store, is_marked_static, is_marked_literal, are_marked_objects}
+use Rattle.source_preservation.specs.UnitChecks.LookedUnits.{is_small, is_small_local, is_proper_value, is_proper_store, is_well_typed_static, is_well_typed_literal, are_well_typed_objects}
 use Rattle.source_preservation.specs.UnitChecks.SmallUnits.{has_small_objects, is_small_unit}
 use Rattle.c_types_well_formed.specs.WellFormed.ModelTypes.{IsTypeOf}
 use Rattle.c_types_well_formed.specs.WellFormed.ProperStatements.{AreProperExternals}
@@ -37,7 +37,7 @@ use Rattle.c_types_well_formed.proofs.layouts.Inside.{sized_small}
 use Rattle.c_types_well_formed.proofs.layouts.Laying.{none_is}
 use Rattle.c_types_well_formed.specs.Initializers.PartLaws.{HasLaws}
 use Rattle.c_types_well_formed.specs.Initializers.ReadyStates.{IsReady, Goes}
-use Rattle.c_types_well_formed_units.proofs.units.Externals.{AreTypedFunctions, AreMarkedBodies, externals_go, begun_ready}
+use Rattle.c_types_well_formed_units.proofs.units.Externals.{AreTypedFunctions, AreWellTypedBodies, externals_go, begun_ready}
 use Rattle.c_types_well_formed_units.proofs.units.Functions.{IsTypedFunction}
 use Rattle.c_types_well_formed_units.specs.Sizes.FitTypes.{IsFit}
 use Rattle.c_types_well_formed_units.specs.Sizes.SmallChecks.{ChecksAreSmall}
@@ -153,14 +153,14 @@ module _ (m : Model) (model : is_model m ≡ true) (fs : List FunctionView) (s :
   functions_small [] is fits = refl
   functions_small (f ∷ gs) is fits = both (has_small_objects unit f) (list_all (has_small_objects unit) gs) (function_small f is.0 fits.0) (functions_small gs is.1 fits.1)
 
-  literal_small : (i : ℕ) (l : LiteralView) → slice_get s.literals i ≡ Some l → is_marked_literal unit l ≡ true
+  literal_small : (i : ℕ) (l : LiteralView) → slice_get s.literals i ≡ Some l → is_well_typed_literal unit l ≡ true
   literal_small i l at = let g = ready.types.literals i l at in both (are_bytes l.bytes) (nat_le (length l.bytes + 1) (most_size m)) g.bytes (room_fits m (length l.bytes + 1) model g.short)
 
   own_type : (t : Ty) → IsTypeOf s.known.numbers t → IsTypeOf m t
   own_type t is = subst (λ n. IsTypeOf n t) ready.numbers is
 
   -- an object with its length and bounds
-  object_small : (i : ℕ) (o : StaticView) → slice_get s.statics i ≡ Some o → ends.stores_fit sizes (map (ends.bounded_store sizes) o.stores) ≡ true → is_marked_static unit (ends.bounded_object sizes (ends.completed_object o)) ≡ true
+  object_small : (i : ℕ) (o : StaticView) → slice_get s.statics i ≡ Some o → ends.stores_fit sizes (map (ends.bounded_store sizes) o.stores) ≡ true → is_well_typed_static unit (ends.bounded_object sizes (ends.completed_object o)) ≡ true
   object_small i o at fits =
       both (is_small unit (ends.completed o.ctype)) (list_all (is_proper_store unit) (map (ends.bounded_store sizes) o.stores))
       (room_fits m _ model (completed_small m s.types.structs model sized.small o.ctype (own_type o.ctype (ready.types.statics i o at)) (subst (λ k. IsFit k o.ctype) own (sized.static i o at))))
@@ -177,18 +177,18 @@ module _ (m : Model) (model : is_model m ≡ true) (fs : List FunctionView) (s :
         | inr listed ↦ inr listed
       ]
 
-  statics_small : (i : ℕ) (x : StaticView) → slice_get (ends.with_bounded (ends.with_completed s)).statics i ≡ Some x → is_marked_static unit x ≡ true
+  statics_small : (i : ℕ) (x : StaticView) → slice_get (ends.with_bounded (ends.with_completed s)).statics i ≡ Some x → is_well_typed_static unit x ≡ true
   statics_small i x at =
       let b = mapped_is (ends.bounded_object sizes) (ends.with_completed s).statics i x at in
       let c = mapped_is ends.completed_object s.statics i b.0 b.1 in
       let same : ends.bounded_object sizes (ends.completed_object c.0) ≡ x = ap (ends.bounded_object sizes) c.2 ∙ b.2 in
       let fits : ends.stores_fit sizes x.stores ≡ true = listed_fits sizes (ends.with_bounded (ends.with_completed s)).statics s.initializers inside bounded_listed i x at in
-      subst (λ v. is_marked_static unit v ≡ true) same (object_small i c.0 c.1 (subst (λ v. ends.stores_fit sizes v.stores ≡ true) (sym same) fits))
+      subst (λ v. is_well_typed_static unit v ≡ true) same (object_small i c.0 c.1 (subst (λ v. ends.stores_fit sizes v.stores ≡ true) (sym same) fits))
 
   unit_small : is_small_unit unit ≡ true
   unit_small =
-      both (list_all (has_small_objects unit) fs) (are_marked_objects unit) (functions_small fs typed fit)
-      (both (list_all (is_marked_static unit) unit.objects) (list_all (is_marked_literal unit) s.literals) (each_all (is_marked_static unit) unit.objects statics_small) (each_all (is_marked_literal unit) s.literals literal_small))
+      both (list_all (has_small_objects unit) fs) (are_well_typed_objects unit) (functions_small fs typed fit)
+      (both (list_all (is_well_typed_static unit) unit.objects) (list_all (is_well_typed_literal unit) s.literals) (each_all (is_well_typed_static unit) unit.objects statics_small) (each_all (is_well_typed_literal unit) s.literals literal_small))
 
 -- ---- units
 
@@ -204,7 +204,7 @@ module _ (laws : HasLaws) (heads_keep : HeadsKeep) where
       begun : State
       begun = with_externals es (with_stream (first_state m))
 
-      of_parts : (r : Ruled (List FunctionView × State)) → Goes m begun (AreTypedFunctions m) (λ u fs. AreMarkedBodies u [] → AreMarkedBodies u fs) r → To begun MakesAll r → WhenSmall m (after r checks.finished)
+      of_parts : (r : Ruled (List FunctionView × State)) → Goes m begun (AreTypedFunctions m) (λ u fs. AreWellTypedBodies u [] → AreWellTypedBodies u fs) r → To begun MakesAll r → WhenSmall m (after r checks.finished)
       of_parts (Ok p) h g = of_bounds (ends.first_past (ends.object_sizes (ends.with_completed p.1)) (ends.with_bounded (ends.with_completed p.1)).statics p.1.initializers) refl
         where
           of_bounds : (past : Option Place) → ends.first_past (ends.object_sizes (ends.with_completed p.1)) (ends.with_bounded (ends.with_completed p.1)).statics p.1.initializers ≡ past → WhenSmall m (after (ends.judged_bounds past (ends.with_bounded (ends.with_completed p.1))) (checks.functions_kept p.0))

@@ -38,24 +38,24 @@ use Rattle.c_types_well_formed.proofs.initializers.Going.{IsPassed}
 use Rattle.c_types_well_formed.proofs.initializers.ReadySteps.{named_ready, scoped_ready}
 use Rattle.c_types_well_formed_units.proofs.units.FileDeclarations.{Runs, steps, done, choose, typedef_runs, declared_object_runs, object_initializer_runs}
 use Rattle.c_types_well_formed_units.proofs.units.FileSteps.{no_item, defined_ready, streamed_ready}
-use Rattle.c_types_well_formed_units.proofs.units.Functions.{IsTypedFunction, IsMarkedBody, prototype_runs, function_goes}
+use Rattle.c_types_well_formed_units.proofs.units.Functions.{IsTypedFunction, IsWellTypedBody, prototype_runs, function_goes}
 
 -- what is known of the functions so far
 abbrev pub AreTypedFunctions : Model → List FunctionView → Type 0
 AreTypedFunctions m [] = Unit {0}
 AreTypedFunctions m (f ∷ fs) = IsTypedFunction m f × AreTypedFunctions m fs
 
-abbrev pub AreMarkedBodies : UnitView → List FunctionView → Type 0
-AreMarkedBodies u [] = Unit {0}
-AreMarkedBodies u (f ∷ fs) = IsMarkedBody u f × AreMarkedBodies u fs
+abbrev pub AreWellTypedBodies : UnitView → List FunctionView → Type 0
+AreWellTypedBodies u [] = Unit {0}
+AreWellTypedBodies u (f ∷ fs) = IsWellTypedBody u f × AreWellTypedBodies u fs
 
 typed_more : (m : Model) (fs : List FunctionView) (f : FunctionView) → AreTypedFunctions m fs → IsTypedFunction m f → AreTypedFunctions m (fs ++ f ∷ [])
 typed_more m [] f h g = (g, tt)
 typed_more m (x ∷ fs) f h g = (h.0, typed_more m fs f h.1 g)
 
-marked_more : (u : UnitView) (fs : List FunctionView) (f : FunctionView) → AreMarkedBodies u fs → IsMarkedBody u f → AreMarkedBodies u (fs ++ f ∷ [])
-marked_more u [] f h g = (g, tt)
-marked_more u (x ∷ fs) f h g = (h.0, marked_more u fs f h.1 g)
+well_typed_more : (u : UnitView) (fs : List FunctionView) (f : FunctionView) → AreWellTypedBodies u fs → IsWellTypedBody u f → AreWellTypedBodies u (fs ++ f ∷ [])
+well_typed_more u [] f h g = (g, tt)
+well_typed_more u (x ∷ fs) f h g = (h.0, well_typed_more u fs f h.1 g)
 
 module _ (laws : HasLaws) (heads_keep : HeadsKeep) (m : Model) where
   -- ---- declarations
@@ -93,26 +93,26 @@ module _ (laws : HasLaws) (heads_keep : HeadsKeep) (m : Model) where
 
   -- with the functions that are made so far
   abbrev Goes_on : State → List FunctionView → Ruled (List FunctionView × State) → Type 0
-  Goes_on s made r = Goes m s (AreTypedFunctions m) (λ u fs. AreMarkedBodies u made → AreMarkedBodies u fs) r
+  Goes_on s made r = Goes m s (AreTypedFunctions m) (λ u fs. AreWellTypedBodies u made → AreWellTypedBodies u fs) r
 
   external_goes : (s : State) (made : List FunctionView) (e : ExternalTree) → IsReady m s → AreTypedFunctions m made → IsProperExternal m e → Goes_on s made (checks.external s made e)
   external_goes s made (Declared at words ds) ready had proper = of_kept (external.external_declaration s at words ds) (declaration_runs s at words ds ready proper.0 proper.1)
     where
       of_kept : (r : Ruled (Unit {0} × State)) → Runs laws m s r → Goes_on s made (after r (checks.functions_kept made))
-      of_kept (Ok p) h = (h.0, had, λ u part. ((h.2 u part).0, λ marked. marked))
+      of_kept (Ok p) h = (h.0, had, λ u part. ((h.2 u part).0, λ well_typed. well_typed))
       of_kept (Err f) h = tt
   external_goes s made (Defined at words f body) ready had proper = of_made (bodies.function_definition s at words f body) (function_goes laws heads_keep m s at words f body ready proper.0 proper.1.0 proper.1.1)
     where
-      of_made : (r : Ruled (FunctionView × State)) → Goes m s (IsTypedFunction m) IsMarkedBody r → Goes_on s made (after r (checks.with_function made))
-      of_made (Ok p) h = (h.0, typed_more m made p.0 had h.1, λ u part. (let g = h.2 u part in (g.0, λ marked. marked_more u made p.0 marked g.1)))
+      of_made : (r : Ruled (FunctionView × State)) → Goes m s (IsTypedFunction m) IsWellTypedBody r → Goes_on s made (after r (checks.with_function made))
+      of_made (Ok p) h = (h.0, typed_more m made p.0 had h.1, λ u part. (let g = h.2 u part in (g.0, λ well_typed. well_typed_more u made p.0 well_typed g.1)))
       of_made (Err e) h = tt
 
   pub externals_go : (es : List ExternalTree) (s : State) (made : List FunctionView) → IsReady m s → AreTypedFunctions m made → AreProperExternals m es → Goes_on s made (checks.externals s made es)
-  externals_go [] s made ready had proper = (ready, had, λ u part. (part, λ marked. marked))
+  externals_go [] s made ready had proper = (ready, had, λ u part. (part, λ well_typed. well_typed))
   externals_go (e ∷ es) s made ready had proper = of_first (checks.external s made e) (external_goes s made e ready had proper.0) (λ more t there typed. externals_go es t more there typed proper.1)
     where
-      of_rest : (more : List FunctionView) (t : State) (r : Ruled (List FunctionView × State)) → ((u : UnitView) → IsPartOf t u → IsPartOf s u × (AreMarkedBodies u made → AreMarkedBodies u more)) → Goes_on t more r → Goes_on s made r
-      of_rest more t (Ok p) before h = (h.0, h.1, λ u part. (let g = h.2 u part in let k = before u g.0 in (k.0, λ marked. g.1 (k.1 marked))))
+      of_rest : (more : List FunctionView) (t : State) (r : Ruled (List FunctionView × State)) → ((u : UnitView) → IsPartOf t u → IsPartOf s u × (AreWellTypedBodies u made → AreWellTypedBodies u more)) → Goes_on t more r → Goes_on s made r
+      of_rest more t (Ok p) before h = (h.0, h.1, λ u part. (let g = h.2 u part in let k = before u g.0 in (k.0, λ well_typed. g.1 (k.1 well_typed))))
       of_rest more t (Err f) before h = tt
 
       of_first : (r : Ruled (List FunctionView × State)) → Goes_on s made r → ((more : List FunctionView) (t : State) → IsReady m t → AreTypedFunctions m more → Goes_on t more (checks.externals t more es)) → Goes_on s made (after r (λ more t. checks.externals t more es))

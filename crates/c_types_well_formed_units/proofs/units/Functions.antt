@@ -25,7 +25,7 @@ use Rattle.c_types.specs.declared.file_scope.function_declarations.NameBefore.{N
 use Rattle.c_types.specs.declared.file_scope.function_declarations.NameBefore.TheVariants as standing
 use Rattle.c_types.specs.Units.FunctionDefinitions as bodies
 use Rattle.c_types_theorems.proofs.entries.Leading.{Leads}
-use Rattle.source_preservation.specs.UnitChecks.LookedStatements.{are_marked_statements}
+use Rattle.source_preservation.specs.UnitChecks.LookedStatements.{are_well_typed_statements}
 use Rattle.c_types_well_formed.specs.WellFormed.ModelTypes.{IsTypeOf, Each}
 use Rattle.c_types_well_formed.specs.WellFormed.ProperStatements.{IsProperFunction, AreProperStatements, AreProperWords}
 use Rattle.c_types_well_formed.specs.WellFormed.UnitParts.{IsPartOf}
@@ -33,9 +33,9 @@ use Rattle.c_types_well_formed.specs.WellFormed.TypingLaws.{LeadsOn}
 use Rattle.c_types_well_formed.specs.Layouts.LaidStructs.{LaidBehind}
 use Rattle.c_types_well_formed.specs.Types.TypeLaws.{HasHead, HeadsKeep}
 use Rattle.c_types_well_formed.specs.Initializers.PartLaws.{HasLaws}
-use Rattle.c_types_well_formed.specs.Initializers.MarkedDeclarations.{AreMarkedParts}
+use Rattle.c_types_well_formed.specs.Initializers.WellTypedDeclarations.{AreWellTypedParts}
 use Rattle.c_types_well_formed.specs.Initializers.ReadyStates.{IsReady, Goes}
-use Rattle.c_types_well_formed.proofs.statements.Bodies.{bodies_are_marked}
+use Rattle.c_types_well_formed.proofs.statements.Bodies.{bodies_are_well_typed}
 use Rattle.c_types_well_formed.proofs.initializers.Declaring.{specifiers_go}
 use Rattle.c_types_well_formed.proofs.initializers.Going as going
 use Rattle.c_types_well_formed.proofs.initializers.Going.{IsPassed}
@@ -73,8 +73,8 @@ pub record IsTypedFunction (m : Model) (f : FunctionView) : Type 0 where
   pub returns : IsTypeOf m f.returns
   pub locals : Each (λ (l : LocalView). IsTypeOf m l.ctype) f.locals
 
-abbrev pub IsMarkedBody : UnitView → FunctionView → Type 0
-IsMarkedBody u f = are_marked_statements u f (statement_trees f.body) ≡ true
+abbrev pub IsWellTypedBody : UnitView → FunctionView → Type 0
+IsWellTypedBody u f = are_well_typed_statements u f (statement_trees f.body) ≡ true
 
 -- the function that a body and its head are
 abbrev view_of : NameView → HeadView → PartsView × ℕ → State → FunctionView
@@ -191,31 +191,31 @@ module _ (laws : HasLaws) (heads_keep : HeadsKeep) (m : Model) where
 
   -- ---- bodies
 
-  body_goes : (n : NameView) (ts : StatementTrees) (h : HeadView) (s : State) → IsReady m s → HasResult h → AreProperStatements m ts → Goes m s (IsTypedFunction m) IsMarkedBody (bodies.with_body n ts h s)
+  body_goes : (n : NameView) (ts : StatementTrees) (h : HeadView) (s : State) → IsReady m s → HasResult h → AreProperStatements m ts → Goes m s (IsTypedFunction m) IsWellTypedBody (bodies.with_body n ts h s)
   body_goes n ts h s ready typed proper =
-      going.then m s (λ (b : PartsView × ℕ). Unit {0}) (λ u b. AreMarkedParts h.declared.ctype u b.0) (IsTypedFunction m) IsMarkedBody (bodies.body_parts h ts s) (bodies.function_of_parts n h) (bodies_are_marked laws m s h ts ready typed proper)
+      going.then m s (λ (b : PartsView × ℕ). Unit {0}) (λ u b. AreWellTypedParts h.declared.ctype u b.0) (IsTypedFunction m) IsWellTypedBody (bodies.body_parts h ts s) (bodies.function_of_parts n h) (bodies_are_well_typed laws m s h ts ready typed proper)
       (λ b t there none. (
         bare_ready m t there functions.no_body refl,
         record { returns = typed; locals = subst (λ k. Each (λ (l : LocalView). IsTypeOf k l.ctype) t.body.locals) there.numbers there.types.locals },
-        λ u part. (body_passes t functions.no_body u part, λ marked. marked (view_of n h b t) refl),
+        λ u part. (body_passes t functions.no_body u part, λ well_typed. well_typed (view_of n h b t) refl),
       ))
 
-  ended_goes : (s : State) (f : FunctionView) → IsReady m s → IsTypedFunction m f → Goes m s (IsTypedFunction m) (λ u y. IsMarkedBody u f → IsMarkedBody u y) (bodies.ended f s)
+  ended_goes : (s : State) (f : FunctionView) → IsReady m s → IsTypedFunction m f → Goes m s (IsTypedFunction m) (λ u y. IsWellTypedBody u f → IsWellTypedBody u y) (bodies.ended f s)
   ended_goes s f ready typed =
       let t : State = functions.out_of_scope s in
-      (scoped_ready m s ready t.scopes refl, typed, λ u part. (scoped_passes s t.scopes u part, λ marked. marked))
+      (scoped_ready m s ready t.scopes refl, typed, λ u part. (scoped_passes s t.scopes u part, λ well_typed. well_typed))
 
-  defined_goes : (s : State) (base : SpecifiedView) (f : FunctionDeclaratorView) (ts : StatementTrees) → IsReady m s → IsTypeOf m base.declared.ctype → IsProperFunction m f → AreProperStatements m ts → Goes m s (IsTypedFunction m) IsMarkedBody (bodies.defined f ts base s)
-  defined_goes s base f ts ready typed proper marked =
-      going.then m s (IsTypedFunction m) IsMarkedBody (IsTypedFunction m) IsMarkedBody (after (bodies.defined_head s base f) (bodies.with_body f.name ts)) bodies.ended
-      (going.then m s HasResult (λ u h. Unit {0}) (IsTypedFunction m) IsMarkedBody (bodies.defined_head s base f) (bodies.with_body f.name ts) (defined_heads s base f ready typed proper)
-      (λ h t there is. going.weaker m t (IsTypedFunction m) IsMarkedBody (λ u y. Unit {0} → IsMarkedBody u y) (bodies.with_body f.name ts h t) (body_goes f.name ts h t there is marked) (λ u y body none. body)))
+  defined_goes : (s : State) (base : SpecifiedView) (f : FunctionDeclaratorView) (ts : StatementTrees) → IsReady m s → IsTypeOf m base.declared.ctype → IsProperFunction m f → AreProperStatements m ts → Goes m s (IsTypedFunction m) IsWellTypedBody (bodies.defined f ts base s)
+  defined_goes s base f ts ready typed proper well_typed =
+      going.then m s (IsTypedFunction m) IsWellTypedBody (IsTypedFunction m) IsWellTypedBody (after (bodies.defined_head s base f) (bodies.with_body f.name ts)) bodies.ended
+      (going.then m s HasResult (λ u h. Unit {0}) (IsTypedFunction m) IsWellTypedBody (bodies.defined_head s base f) (bodies.with_body f.name ts) (defined_heads s base f ready typed proper)
+      (λ h t there is. going.weaker m t (IsTypedFunction m) IsWellTypedBody (λ u y. Unit {0} → IsWellTypedBody u y) (bodies.with_body f.name ts h t) (body_goes f.name ts h t there is well_typed) (λ u y body none. body)))
       (λ y t there is. ended_goes t y there is)
 
-  pub function_goes : (s : State) (at : Place) (words : List SpecTree) (f : FunctionDeclaratorView) (body : List syntax.StatementTree) → IsReady m s → AreProperWords m words → IsProperFunction m f → AreProperStatements m (syntax.statement_trees body) → Goes m s (IsTypedFunction m) IsMarkedBody (bodies.function_definition s at words f body)
+  pub function_goes : (s : State) (at : Place) (words : List SpecTree) (f : FunctionDeclaratorView) (body : List syntax.StatementTree) → IsReady m s → AreProperWords m words → IsProperFunction m f → AreProperStatements m (syntax.statement_trees body) → Goes m s (IsTypedFunction m) IsWellTypedBody (bodies.function_definition s at words f body)
   function_goes s at words f body ready specs proper statements =
-      going.then m s (λ (b : SpecifiedView). IsTypeOf m b.declared.ctype) (λ u b. Unit {0}) (IsTypedFunction m) IsMarkedBody (specifiers s at false (spec_trees words)) (bodies.defined_by f (syntax.statement_trees body)) (specifiers_go laws m s at false (spec_trees words) ready specs)
+      going.then m s (λ (b : SpecifiedView). IsTypeOf m b.declared.ctype) (λ u b. Unit {0}) (IsTypedFunction m) IsWellTypedBody (specifiers s at false (spec_trees words)) (bodies.defined_by f (syntax.statement_trees body)) (specifiers_go laws m s at false (spec_trees words) ready specs)
       (λ b t there is.
-      going.weaker m t (IsTypedFunction m) IsMarkedBody (λ u y. Unit {0} → IsMarkedBody u y) (bodies.defined_by f (syntax.statement_trees body) b t)
-      (going.cond_goes m t (IsTypedFunction m) IsMarkedBody (is_typedef b.storage) (type_fault f.name.at) (bodies.defined f (syntax.statement_trees body) b t) tt (defined_goes t b f (syntax.statement_trees body) there is proper statements))
+      going.weaker m t (IsTypedFunction m) IsWellTypedBody (λ u y. Unit {0} → IsWellTypedBody u y) (bodies.defined_by f (syntax.statement_trees body) b t)
+      (going.cond_goes m t (IsTypedFunction m) IsWellTypedBody (is_typedef b.storage) (type_fault f.name.at) (bodies.defined f (syntax.statement_trees body) b t) tt (defined_goes t b f (syntax.statement_trees body) there is proper statements))
       (λ u y body none. body))

@@ -30,8 +30,8 @@ use Rattle.memory_model.specs.Effects.UnitStarts.{entry_parameters, parameters_o
 use Rattle.semantics.specs.SourceMachine.SourceStates.{function_at}
 use Rattle.source_preservation.specs.Checks.LookedTypes.{is_kind, is_scalar_type, is_such}
 use Rattle.source_preservation.proofs.checks.Truths.{both_true}
-use Rattle.source_preservation.specs.UnitChecks.LookedStatements.{are_marked_statements}
-use Rattle.source_preservation.specs.UnitChecks.LookedUnits.{is_small, is_small_local, are_scalars, is_marked_function, is_entered, are_marked_objects, has_entry, is_marked}
+use Rattle.source_preservation.specs.UnitChecks.LookedStatements.{are_well_typed_statements}
+use Rattle.source_preservation.specs.UnitChecks.LookedUnits.{is_small, is_small_local, are_scalars, is_well_typed_function, is_entered, are_well_typed_objects, has_entry, is_well_typed}
 use Rattle.source_preservation.specs.UnitChecks.SmallUnits.{has_small_objects, is_small_unit}
 use Rattle.c_types_well_formed.specs.WellFormed.ModelTypes.{IsKindOf, IsTypeOf, Each}
 use Rattle.c_types_well_formed.specs.WellFormed.ProperStatements.{AreProperExternals}
@@ -41,9 +41,9 @@ use Rattle.c_types_well_formed_units.specs.Heads.HeadLaws.{UnitsHaveHeads}
 use Rattle.c_types_well_formed.specs.Types.TypeLaws.{HeadsKeep}
 use Rattle.c_types_well_formed.specs.Initializers.PartLaws.{HasLaws}
 use Rattle.c_types_well_formed.specs.Initializers.ReadyStates.{Goes}
-use Rattle.c_types_well_formed_units.specs.Units.MarkedUnits.{ChecksAreMarked}
-use Rattle.c_types_well_formed_units.proofs.units.Externals.{AreTypedFunctions, AreMarkedBodies, externals_go, begun_ready}
-use Rattle.c_types_well_formed_units.proofs.units.Functions.{IsTypedFunction, IsMarkedBody}
+use Rattle.c_types_well_formed_units.specs.Units.WellTypedUnits.{ChecksAreWellTyped}
+use Rattle.c_types_well_formed_units.proofs.units.Externals.{AreTypedFunctions, AreWellTypedBodies, externals_go, begun_ready}
+use Rattle.c_types_well_formed_units.proofs.units.Functions.{IsTypedFunction, IsWellTypedBody}
 
 both : (a b : Bool) → a ≡ true → b ≡ true → (a && b) ≡ true
 both true b h g = g
@@ -73,19 +73,19 @@ scalars_typed u f (suc n) proper typed =
 
 -- ---- functions
 
-function_marked : (u : UnitView) (f : FunctionView) → is_model u.model ≡ true → IsTypedFunction u.model f → IsMarkedBody u f → has_small_objects u f ≡ true → is_marked_function u f ≡ true
-function_marked u f proper typed marked small =
+function_marked : (u : UnitView) (f : FunctionView) → is_model u.model ≡ true → IsTypedFunction u.model f → IsWellTypedBody u f → has_small_objects u f ≡ true → is_well_typed_function u f ≡ true
+function_marked u f proper typed well_typed small =
     let s = both_true (is_small u f.returns) (list_all (is_small_local u) f.locals) small in
-    both (are_marked_statements u f (statement_trees f.body)) _ marked
+    both (are_well_typed_statements u f (statement_trees f.body)) _ well_typed
     (both (are_scalars u f f.parameters) _ (scalars_typed u f f.parameters proper typed)
     (both (is_void f.returns || is_scalar_type u f.returns) _ (either_of (is_void f.returns) (is_scalar_type u f.returns) (scalar_typed u f.returns proper typed.returns))
     (both (is_small u f.returns) _ s.0 s.1)))
 
-functions_marked : (u : UnitView) (fs : List FunctionView) → is_model u.model ≡ true → AreTypedFunctions u.model fs → AreMarkedBodies u fs → list_all (has_small_objects u) fs ≡ true → list_all (is_marked_function u) fs ≡ true
-functions_marked u [] proper typed marked small = refl
-functions_marked u (f ∷ fs) proper typed marked small =
+functions_well_typed : (u : UnitView) (fs : List FunctionView) → is_model u.model ≡ true → AreTypedFunctions u.model fs → AreWellTypedBodies u fs → list_all (has_small_objects u) fs ≡ true → list_all (is_well_typed_function u) fs ≡ true
+functions_well_typed u [] proper typed well_typed small = refl
+functions_well_typed u (f ∷ fs) proper typed well_typed small =
     let s = both_true (has_small_objects u f) (list_all (has_small_objects u) fs) small in
-    both (is_marked_function u f) (list_all (is_marked_function u) fs) (function_marked u f proper typed.0 marked.0 s.0) (functions_marked u fs proper typed.1 marked.1 s.1)
+    both (is_well_typed_function u f) (list_all (is_well_typed_function u) fs) (function_marked u f proper typed.0 well_typed.0 s.0) (functions_well_typed u fs proper typed.1 well_typed.1 s.1)
 
 function_typed : (m : Model) (fs : List FunctionView) (n : ℕ) (f : FunctionView) → AreTypedFunctions m fs → slice_get fs n ≡ Some f → IsTypedFunction m f
 function_typed m [] n f typed at = absurd (none at)
@@ -127,7 +127,7 @@ finished_part s u p = record { model = p.model; objects = p.objects; literals = 
 -- what typing gives in the end
 record IsMade (m : Model) (fs : List FunctionView) (s : State) : Type 0 where
   typed : AreTypedFunctions m fs
-  marked : (u : UnitView) → IsPartOf s u → AreMarkedBodies u fs
+  well_typed : (u : UnitView) → IsPartOf s u → AreWellTypedBodies u fs
 
 abbrev WhenMade : Model → Ruled (List FunctionView × State) → Type 0
 WhenMade m (Ok p) = IsMade m p.0 p.1
@@ -140,33 +140,33 @@ module _ (laws : HasLaws) (heads_keep : HeadsKeep) where
       begun : State
       begun = with_externals es (with_stream (first_state m))
 
-      of_parts : (r : Ruled (List FunctionView × State)) → Goes m begun (AreTypedFunctions m) (λ u fs. AreMarkedBodies u [] → AreMarkedBodies u fs) r → WhenMade m (after r checks.finished)
+      of_parts : (r : Ruled (List FunctionView × State)) → Goes m begun (AreTypedFunctions m) (λ u fs. AreWellTypedBodies u [] → AreWellTypedBodies u fs) r → WhenMade m (after r checks.finished)
       of_parts (Ok p) h = of_bounds (ends.first_past (ends.object_sizes (ends.with_completed p.1)) (ends.with_bounded (ends.with_completed p.1)).statics p.1.initializers)
         where
           of_bounds : (past : Option Place) → WhenMade m (after (ends.judged_bounds past (ends.with_bounded (ends.with_completed p.1))) (checks.functions_kept p.0))
           of_bounds (Some at) = tt
-          of_bounds None = record { typed = h.1; marked = λ u part. (h.2 u (finished_part p.1 u part)).1 tt }
+          of_bounds None = record { typed = h.1; well_typed = λ u part. (h.2 u (finished_part p.1 u part)).1 tt }
       of_parts (Err f) h = tt
 
-  pub checks_marked : EntriesTakeIntegers → UnitsHaveHeads → ChecksAreMarked
-  checks_marked takes heads m name es u proper trees is regular small = of_unit (checks.typed_unit (first_state m) es) refl (unit_made m es proper trees) is
+  pub checks_well_typed : EntriesTakeIntegers → UnitsHaveHeads → ChecksAreWellTyped
+  checks_well_typed takes heads m name es u proper trees is regular small = of_unit (checks.typed_unit (first_state m) es) refl (unit_made m es proper trees) is
     where
-      of_entry : (fs : List FunctionView) (s : State) (entry : ℕ) → checks.typed_unit (first_state m) es ≡ Ok (fs, s) → IsMade m fs s → entry_number fs name ≡ Some entry → checks.unit_of m fs s entry ≡ u → is_marked u ≡ true
+      of_entry : (fs : List FunctionView) (s : State) (entry : ℕ) → checks.typed_unit (first_state m) es ≡ Ok (fs, s) → IsMade m fs s → entry_number fs name ≡ Some entry → checks.unit_of m fs s entry ≡ u → is_well_typed u ≡ true
       of_entry fs s entry typed made found same =
           let v : UnitView = checks.unit_of m fs s entry in
           let e = found_entry fs 0 name entry found in
           let at : function_at v v.entry ≡ Some e.f = ap (slice_get fs) (let i = e.is in let j : entry ≡ e.k = omega (arith, i) in j) ∙ e.among in
-          let room = both_true (list_all (has_small_objects v) fs) (are_marked_objects v) (subst (λ x. is_small_unit x ≡ true) (sym same) small) in
-          subst (λ x. is_marked x ≡ true) same
+          let room = both_true (list_all (has_small_objects v) fs) (are_well_typed_objects v) (subst (λ x. is_small_unit x ≡ true) (sym same) small) in
+          subst (λ x. is_well_typed x ≡ true) same
           (both (is_regular_unit v) _ (subst (λ x. is_regular_unit x ≡ true) (sym same) regular)
-          (both (list_all (is_marked_function v) fs) _ (functions_marked v fs proper made.typed (made.marked v (heads m es fs s entry typed)) room.0)
-          (both (are_marked_objects v) (has_entry v) room.1
+          (both (list_all (is_well_typed_function v) fs) _ (functions_well_typed v fs proper made.typed (made.well_typed v (heads m es fs s entry typed)) room.0)
+          (both (are_well_typed_objects v) (has_entry v) room.1
           (has_its_entry v e.f proper (function_typed m fs e.k e.f made.typed e.among) at (subst TakesIntegers (sym same) (takes m name es u is))))))
 
-      of_judged : (fs : List FunctionView) (s : State) (r : Ruled ℕ) → judged fs name s.calls ≡ r → checks.typed_unit (first_state m) es ≡ Ok (fs, s) → IsMade m fs s → checks.entered m fs s r ≡ Ok u → is_marked u ≡ true
+      of_judged : (fs : List FunctionView) (s : State) (r : Ruled ℕ) → judged fs name s.calls ≡ r → checks.typed_unit (first_state m) es ≡ Ok (fs, s) → IsMade m fs s → checks.entered m fs s r ≡ Ok u → is_well_typed u ≡ true
       of_judged fs s (Ok entry) j typed made e = of_entry fs s entry typed made (judged_is fs s.calls entry (entry_number fs name) j) (same_value (checks.unit_of m fs s entry) u e)
       of_judged fs s (Err f) j typed made e = absurd (cc)
 
-      of_unit : (r : Ruled (List FunctionView × State)) → checks.typed_unit (first_state m) es ≡ r → WhenMade m r → checks.judged_unit m name r ≡ Ok u → is_marked u ≡ true
+      of_unit : (r : Ruled (List FunctionView × State)) → checks.typed_unit (first_state m) es ≡ r → WhenMade m r → checks.judged_unit m name r ≡ Ok u → is_well_typed u ≡ true
       of_unit (Ok p) typed made e = of_judged p.0 p.1 (judged p.0 name p.1.calls) refl typed made e
       of_unit (Err f) typed made e = absurd (cc)

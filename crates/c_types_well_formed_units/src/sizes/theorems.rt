@@ -3,7 +3,7 @@ ghost use Rattle.c_types_well_formed_units.specs.Sizes.SmallChecks.{ChecksAreSma
 
 use c_types_well_formed::decided_tests::switches_select;
 use c_types_well_formed::operators::operators_make;
-use c_types_well_formed::rules::{conversions_give, unused_is_marked, values_are_made};
+use c_types_well_formed::rules::{conversions_give, unused_is_well_typed, values_are_made};
 use c_types_well_formed::terms::expressions_are_made;
 use c_types_well_formed::types::{declarators_keep, heads_keep, specifiers_keep};
 
@@ -15,7 +15,7 @@ pub fn checks_are_small()
     operators_make();
     values_are_made();
     conversions_give();
-    unused_is_marked();
+    unused_is_well_typed();
     switches_select();
     expressions_are_made();
     specifiers_keep();

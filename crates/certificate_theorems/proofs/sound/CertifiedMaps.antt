@@ -16,7 +16,7 @@ use Rattle.value_domain.specs.Values.Cells.{cell_lattice}
 use Rattle.store_objects.specs.LiveBases.{most_bases}
 use Rattle.store_sound.specs.Concretization.Coverage.{state_of}
 use Rattle.store_sound.specs.Concretization.RowMeaning.{InGamma}
-use Rattle.semantics.specs.CfgMachine.FlowStates.{Standing}
+use Rattle.semantics.specs.CfgMachine.FlowStates.{ProgramState}
 use Rattle.transfer_edges.specs.StartRows.{start_row}
 use Rattle.transfer_system.specs.declared.bounded_rows.cell_kinds.CellKind.{CellKind}
 use Rattle.transfer_system.specs.declared.bounded_rows.cell_kinds.CellKind.TheVariants as kind
@@ -52,7 +52,7 @@ module _ {I : Type 0} (l : LatticeOf I) (n : IntegersOf I) (list : List ℤ) (r 
 module _ {I : Type 0} {l : LatticeOf I} {n : IntegersOf I} {gamma : I → ℤ → Type 0} (o : OrderLaws l) (k : RoundLaws l) (h : HeightLaws l) (b : BoundLaws l n gamma) (ends : EndLaws l n)
     (list : List ℤ) (wide : list_ends list ≡ Some (negsuc (2 ^ 64 - 1), pos (2 ^ 64))) (flow : Flow) (laid : IsLaidOut (program_bases (length flow.bases.items)) flow) (few : length flow.bases.items ≤ most_bases) where
   -- what is fitted stands for the state for which the row that came does
-  fitted_behind : (s : Standing) (x : List (Cell I)) → InGammaAfter l n gamma flow (Some x) s → InGammaAfter l n gamma flow (Some (row_fit l n list flow.bases.items flow.width x)) s
+  fitted_behind : (s : ProgramState) (x : List (Cell I)) → InGammaAfter l n gamma flow (Some x) s → InGammaAfter l n gamma flow (Some (row_fit l n list flow.bases.items flow.width x)) s
   fitted_behind s x behind =
       let same : behind.row ≡ x = (let i = behind.is in cc) in
       record {
@@ -69,7 +69,7 @@ module _ {I : Type 0} {l : LatticeOf I} {n : IntegersOf I} {gamma : I → ℤ �
     own_unmixed None own = tt
     own_unmixed (Some y) own = cells_unmixed l n list (reach_of l n list (length flow.bases.items)) (all_kinds flow.bases.items) y (own_cells o k h b ends list flow.bases.items flow.width y own)
 
-    entered : (block : ℕ) (s : Standing) (x : List (Cell I)) → InGammaAfter l n gamma flow (Some x) s → reached_leq (cell_lattice l) (Some (row_fit l n list flow.bases.items flow.width x)) (row_at rows block) ≡ true → InGammaAfter l n gamma flow (row_at rows block) s
+    entered : (block : ℕ) (s : ProgramState) (x : List (Cell I)) → InGammaAfter l n gamma flow (Some x) s → reached_leq (cell_lattice l) (Some (row_fit l n list flow.bases.items flow.width x)) (row_at rows block) ≡ true → InGammaAfter l n gamma flow (row_at rows block) s
     entered block s x behind e = larger_behind o b flow s (row_fit l n list flow.bases.items flow.width x) (row_at rows block) (fitted_behind s x behind) e (own_unmixed (row_at rows block) (closed.own block))
 
     left_below : (number : ℕ) (e : Edge) (r x : List (Cell I)) → slice_get flow.edges.items number ≡ Some e → row_at rows e.from ≡ Some r → edge_end l n flow e.from number r ≡ Some x

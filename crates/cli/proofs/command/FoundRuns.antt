@@ -19,8 +19,8 @@ use Rattle.analysis.specs.Analyses.{IsAnalysis}
 use Rattle.memory_model.specs.Effects.Worlds.{Violation}
 use Rattle.simulation_units.specs.Units.UnitRuns.{IsProgramOf}
 use Rattle.simulation_units.specs.CheckedUnits.LookedRuns.{PassesLooks, LookedRunsAreProgramRuns}
-use Rattle.analysis_sound.specs.Units.CheckedUnits.{FindsPairsOfChecked, FindsTurnedPairsOfChecked}
-use Rattle.cli_units.specs.Judging.{SettingView, IsTyped, IsLowered, IsTurned}
+use Rattle.analysis_sound.specs.Units.CheckedUnits.{FindsPairsOfChecked, FindsUnrolledPairsOfChecked}
+use Rattle.cli_units.specs.Judging.{SettingView, IsTyped, IsLowered, IsUnrolled}
 use Rattle.cli.specs.Command.DefinedRuns.{TypedUnitsPassLooks}
 use Rattle.cli.specs.Command.FoundRuns.{IsViolatedBy, JudgedRunsAreFound, ReportsHoldRuns}
 
@@ -56,12 +56,12 @@ violated_in runs u program is looks v violated =
     record { draws = violated.draws; steps = x.0; there = subst (λ vs. Contains vs v) x.1.found violated.there }
 
 -- the analysis is of the program, or of the one with turns unrolled
-finds_pairs : CheckedRunsAreFound → FindsTurnedPairsOfChecked → (turns : Option ℕ) (flow unrolled : Flow) (list : List ℤ) (found : List Diag)
-    → IsTurned turns flow unrolled → is_well_formed standard_limits flow ≡ true → IsAnalysis unrolled list found → FindsPairsOfChecked flow found
+finds_pairs : CheckedRunsAreFound → FindsUnrolledPairsOfChecked → (turns : Option ℕ) (flow unrolled : Flow) (list : List ℤ) (found : List Diag)
+    → IsUnrolled turns flow unrolled → is_well_formed standard_limits flow ≡ true → IsAnalysis unrolled list found → FindsPairsOfChecked flow found
 finds_pairs once turned None flow unrolled list found is good analysis u of v there = once flow list found (subst (λ f. IsAnalysis f list found) is analysis) u of v there
 finds_pairs once turned (Some turns) flow unrolled list found is good analysis u of v there = turned turns standard_limits flow unrolled list found good is analysis u of v there
 
-pub judged_runs : LookedRunsAreProgramRuns → TypedUnitsPassLooks → CheckedRunsAreFound → FindsTurnedPairsOfChecked → JudgedRunsAreFound
+pub judged_runs : LookedRunsAreProgramRuns → TypedUnitsPassLooks → CheckedRunsAreFound → FindsUnrolledPairsOfChecked → JudgedRunsAreFound
 judged_runs runs pass once turned unit s j judged v violated =
     let f = judged.found in
     let finds = finds_pairs once turned s.turns judged.flow judged.analysed f.list f.runs judged.turned judged.made f.by_runs in

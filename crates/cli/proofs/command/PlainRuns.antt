@@ -19,10 +19,10 @@ use Rattle.typed_lowering.specs.Units.PlainUnits.{IsPlainUnit}
 use Rattle.typed_lowering.specs.Units.TypedUnitLaws.{TypedUnitsHaveTypedAccesses, IsLoopedFlow, LoopedUnitsHaveTypedPrograms}
 use Rattle.typed_lowering.specs.StandingTypes.{AreLaidOut}
 use Rattle.analysis_sound.proofs.units.CheckedUnits.{analysed_structs, same_structs}
-use Rattle.unit_exact.specs.Unrolled.TurnedUnits.{UnrolledUnitsAreExact}
-use Rattle.unit_exact.specs.Unrolled.TurnedLoops.{TakesTurns, IsSingleUpTo, LoopedUnitsAreExact}
+use Rattle.unit_exact.specs.Unrolled.UnrolledUnits.{UnrolledUnitsAreExact}
+use Rattle.unit_exact.specs.Unrolled.UnrolledLoops.{TakesTurns, IsSingleUpTo, LoopedUnitsAreExact}
 use Rattle.simulation_units.specs.CheckedUnits.LookedRuns.{PassesLooks}
-use Rattle.cli_units.specs.Judging.{IsTurned}
+use Rattle.cli_units.specs.Judging.{IsUnrolled}
 use Rattle.cli.specs.Command.DefinedRuns.{TypedUnitsPassLooks}
 use Rattle.cli.specs.Command.PlainRuns.{HasOneRun, JudgedPairsAreViolated, ReportsHoldJustRuns}
 use Rattle.cli.proofs.command.FoundRuns.{program_of}
@@ -32,7 +32,7 @@ abbrev PlainUnitsAreTold : Type 0
 PlainUnitsAreTold = (flow : Flow) (list : List ℤ) (found : List Diag) → IsAnalysis flow list found → FindsJustUnitRuns flow found
 
 -- the analysis is of the unit's own program, or of that with turns unrolled
-finds_run : PlainUnitsAreTold → UnrolledUnitsAreExact → (turns : Option ℕ) (flow analysed : Flow) (list : List ℤ) (found : List Diag) → IsTurned turns flow analysed → IsAnalysis analysed list found → FindsJustUnitRuns flow found
+finds_run : PlainUnitsAreTold → UnrolledUnitsAreExact → (turns : Option ℕ) (flow analysed : Flow) (list : List ℤ) (found : List Diag) → IsUnrolled turns flow analysed → IsAnalysis analysed list found → FindsJustUnitRuns flow found
 finds_run told turned None flow analysed list found is own = told flow list found (subst (λ (p : Flow). IsAnalysis p list found) is own)
 finds_run told turned (Some turns) flow analysed list found is own = turned turns flow analysed list found is own
 
@@ -45,7 +45,7 @@ pub laid_by : (flow : Flow) (list : List ℤ) (found : List Diag) → IsAnalysis
 laid_by flow list found own = let sound = analysed_structs flow list found own in record { model = sound.model; apart = sound.apart; ordered = sound.ordered }
 
 -- also where turns are unrolled
-structs_laid : (turns : Option ℕ) (flow analysed : Flow) (list : List ℤ) (found : List Diag) → IsTurned turns flow analysed → IsAnalysis analysed list found → AreLaidOut flow.model (structs_view flow.structs)
+structs_laid : (turns : Option ℕ) (flow analysed : Flow) (list : List ℤ) (found : List Diag) → IsUnrolled turns flow analysed → IsAnalysis analysed list found → AreLaidOut flow.model (structs_view flow.structs)
 structs_laid None flow analysed list found is own = laid_by flow list found (subst (λ (p : Flow). IsAnalysis p list found) is own)
 structs_laid (Some turns) flow analysed list found is own =
     let sound = same_structs turns flow analysed is (analysed_structs analysed list found own) in
@@ -73,12 +73,12 @@ pub record Laws : Type 0 where
   pub looped_typed : LoopedUnitsHaveTypedPrograms
 
 module _ (laws : Laws) (flow analysed : Flow) (list : List ℤ) (found : List Diag) (own : IsAnalysis analysed list found) (u : UnitView) (unit : IsUnitOf u flow) (is : IsProgramOf u standard_limits flow) (looks : PassesLooks u) (d : Diag) (there : Contains found d) where
-  plain_violated : (turns : Option ℕ) → IsTurned turns flow analysed → IsPlainUnit u flow → RunViolates u (record { at = d.place; rule = d.rule })
+  plain_violated : (turns : Option ℕ) → IsUnrolled turns flow analysed → IsPlainUnit u flow → RunViolates u (record { at = d.place; rule = d.rule })
   plain_violated turns turned plain =
       let single = single_program flow u (laws.lowered u standard_limits flow is plain.look) (accesses_typed laws.typed u standard_limits flow is (structs_laid turns flow analysed list found turned own) plain) in
       (finds_run laws.told laws.turned turns flow analysed list found turned own u standard_limits unit is looks single d).0 there
 
-  run_violated : (turns : Option ℕ) → IsTurned turns flow analysed → HasOneRun turns u flow → RunViolates u (record { at = d.place; rule = d.rule })
+  run_violated : (turns : Option ℕ) → IsUnrolled turns flow analysed → HasOneRun turns u flow → RunViolates u (record { at = d.place; rule = d.rule })
   run_violated None turned plain = plain_violated None turned plain
   run_violated (Some turns) turned (inl plain) = plain_violated (Some turns) turned plain
   run_violated (Some turns) turned (inr one) =

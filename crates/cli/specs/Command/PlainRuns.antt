@@ -13,7 +13,7 @@ use Rattle.cfg.specs.declared.programs.Flow.{Flow}
 use Rattle.typed_lowering.specs.Units.PlainUnits.{IsPlainUnit}
 use Rattle.typed_lowering.specs.LoopedUnits.LoopedUnits.{is_looped_unit}
 use Rattle.typed_lowering.specs.Conversions.TypedUnits.{is_typed_unit}
-use Rattle.unit_exact.specs.Unrolled.TurnedLoops.{TakesTurns}
+use Rattle.unit_exact.specs.Unrolled.UnrolledLoops.{TakesTurns}
 use Rattle.simulation_units.specs.Termination.EndedRuns.{HasStopped}
 use Rattle.semantics.specs.SourceMachine.SourceRuns.{Run}
 use Rattle.unit_exact.specs.Units.SingleUnits.{RunViolates}

@@ -13,7 +13,7 @@ use analysis_sound::units::checked_runs_are_found;
 use c_types_well_formed_units::scoped_units::checks_are_scoped;
 use c_types_well_formed_units::sizes::checks_are_small;
 use c_types_well_formed_units::trees::{trees_are_proper, trees_declare_in_blocks};
-use c_types_well_formed_units::units::checks_are_marked;
+use c_types_well_formed_units::units::checks_are_well_typed;
 use certificate_theorems::sound::accepted_certificates_hold_units;
 use cli_theorems::units::one_parse;
 use simulation_units::checked_units::{looked_runs_are_program_runs, looked_units_are_never_stuck};
@@ -29,7 +29,7 @@ pub fn typed_units_pass_looks()
 {
     trees_are_proper();
     trees_declare_in_blocks();
-    checks_are_marked();
+    checks_are_well_typed();
     checks_are_small();
     checks_are_scoped();
 }

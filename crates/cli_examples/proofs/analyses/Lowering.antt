@@ -15,8 +15,8 @@ use Rattle.lower_templates.specs.Worklist.Plans.{with_work, with_name, with_labe
 use Rattle.lower_templates.specs.Worklist.Scopes.{with_new_scope}
 use Rattle.lower_functions.specs.Functions.Functions.{IsTemplate}
 use Rattle.lower_tables.specs.Counts.FirstOver.{unit_counts}
-use Rattle.lower_tables.specs.Counts.Preparations.{Calls, called, IsTemplateOf, Reaches, begun, further, Counts, counts, counts_from, AreCounts, IsSettled, IsPrepared}
-use Rattle.lower_tables.specs.Counts.SettledTemplates.{settled, with_if}
+use Rattle.lower_tables.specs.Counts.Preparations.{Calls, called, IsTemplateOf, Reaches, begun, further, Counts, counts, counts_from, AreCounts, IsNormalized, IsPrepared}
+use Rattle.lower_tables.specs.Counts.NormalizedTemplates.{normalized, with_if}
 use Rattle.lower_objects.specs.Counts.SharedObjects.{shared_bases}
 use Rattle.lower_objects.specs.declared.counts.function_counts.FunctionCounts.{FunctionCounts}
 use Rattle.lower_tables.specs.declared.counts.count_limits.UnitCounts.{UnitCounts}
@@ -101,7 +101,7 @@ module _ (one_template : OneTemplate) where
   table = Some entry_counts ∷ []
 
   abbrev templates : List (Option TemplateView)
-  templates = Some (settled [] template) ∷ []
+  templates = Some (normalized [] template) ∷ []
 
   nothing_counted : AreCounts checked_unit []
   nothing_counted m c at = absurd (none_there (Some c) m at)
@@ -113,8 +113,8 @@ module _ (one_template : OneTemplate) where
   are_counts zero c at = subst (λ x. Counts checked_unit 0 x) (some_inj (some_inj at)) is_counted
   are_counts (suc m) c at = absurd (none_there (Some c) m at)
 
-  is_settled : IsSettled checked_unit 0 (settled [] template)
-  is_settled = record {
+  is_normalized : IsNormalized checked_unit 0 (normalized [] template)
+  is_normalized = record {
     function = main_function;
     template = template;
     table = [];
@@ -126,9 +126,9 @@ module _ (one_template : OneTemplate) where
     settles = refl;
   }
 
-  are_settled : (n : ℕ) (s : TemplateView) → slice_get templates n ≡ Some (Some s) → IsSettled checked_unit n s
-  are_settled zero s at = subst (λ x. IsSettled checked_unit 0 x) (some_inj (some_inj at)) is_settled
-  are_settled (suc n) s at = absurd (none_there (Some s) n at)
+  are_normalized : (n : ℕ) (s : TemplateView) → slice_get templates n ≡ Some (Some s) → IsNormalized checked_unit n s
+  are_normalized zero s at = subst (λ x. IsNormalized checked_unit 0 x) (some_inj (some_inj at)) is_normalized
+  are_normalized (suc n) s at = absurd (none_there (Some s) n at)
 
   abbrev IsMade : ℕ → Type 0
   IsMade n = (s : TemplateView) × (c : FunctionCounts) × (slice_get templates n ≡ Some (Some s)) × (slice_get table n ≡ Some (Some c))
@@ -136,9 +136,9 @@ module _ (one_template : OneTemplate) where
   prepared : IsPrepared checked_unit templates table
   prepared = record {
     numbered = refl;
-    are_settled = are_settled;
+    are_normalized = are_normalized;
     are_counts = are_counts;
-    all = λ n reached. subst IsMade (sym (only_entry n reached)) (settled [] template, entry_counts, refl, refl);
+    all = λ n reached. subst IsMade (sym (only_entry n reached)) (normalized [] template, entry_counts, refl, refl);
   }
 
   abbrev all_counts : UnitCounts

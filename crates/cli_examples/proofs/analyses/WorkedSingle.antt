@@ -6,7 +6,7 @@ use Rattle.cfg.specs.declared.machine_instructions.Instruction.{Instruction}
 use Rattle.cfg.specs.declared.machine_instructions.Operation.{Operation}
 use Rattle.cfg.specs.declared.machine_instructions.Operation.TheVariants as op
 use Rattle.cfg.specs.declared.programs.Flow.{Flow}
-use Rattle.semantics.specs.CfgMachine.FlowStates.{Standing}
+use Rattle.semantics.specs.CfgMachine.FlowStates.{ProgramState}
 use Rattle.transfer_system.specs.System.FlowMachines.{is_head_at}
 use Rattle.diagnose.specs.Diagnostics.AdmittedRules.{instructions_of}
 use Rattle.transfer_sound.specs.Induction.SoundEnds.{IsDoneIn}
@@ -25,7 +25,7 @@ module _ (some : Flow) where
   -- no call but of a plain function, and no access but of the kind of what lies there, in whatever state
   record IsPlainStep (i : Instruction) : Type 0 where
     plain : IsPlainOperation i.operation
-    typed : (s : Standing) → IsTypedStep (program some) i.operation s
+    typed : (s : ProgramState) → IsTypedStep (program some) i.operation s
 
   abbrev ArePlainSteps : List Instruction → Type 0
   ArePlainSteps is = (n : ℕ) (i : Instruction) → slice_get is n ≡ Some i → IsPlainStep i

@@ -18,7 +18,7 @@ use Rattle.certificate_theorems.proofs.verdicts.VerdictProofs.{one_verdict_alone
 use Rattle.certificate_theorems.proofs.proved.AcceptedTexts.{proved_accepted}
 use Rattle.certificate_theorems.proofs.proved.ProvedTexts.{analysis_read}
 use Rattle.cli_texts.specs.Reports.{Bytes}
-use Rattle.cli_units.specs.Judging.{SettingView, Judgement, IsTurned, IsJudged}
+use Rattle.cli_units.specs.Judging.{SettingView, Judgement, IsUnrolled, IsJudged}
 use Rattle.cli_units.specs.Certifying.{IsProgram, IsProved, shows, refuses, IsVerifiedUnit}
 use Rattle.cli_theorems.specs.Units.Accepted.{HasProgram}
 use Rattle.cli_theorems.proofs.units.OneParse.{one_program_of}
@@ -49,13 +49,13 @@ module _ (unit : Unit7) (s : SettingView) (text : Bytes) (p : IsProved unit s te
       let pairs : IsOrderedSet (admitted_pairs p.flow (map_rows p.flow text)) shown = subst (λ (ds : List Diag). IsOrderedSet ds shown) (sym (one_admission p.flow v.flow view (map_rows p.flow text))) rows in
       analysis_read p.flow p.proof.list text p.proof.certificate shown pairs
 
-  turned_none : (turns : Option ℕ) (flow analysed : Flow) → turns ≡ None → IsTurned turns flow analysed → analysed ≡ flow
-  turned_none turns flow analysed none is = subst (λ t. IsTurned t flow analysed) none is
+  unrolled_none : (turns : Option ℕ) (flow analysed : Flow) → turns ≡ None → IsUnrolled turns flow analysed → analysed ≡ flow
+  unrolled_none turns flow analysed none is = subst (λ t. IsUnrolled t flow analysed) none is
 
   pub runs_are : s.turns ≡ None → (shown : List Diag) → IsVerifiedUnit unit s text (shows shown) → (j : Judgement) (a : IsJudged unit s j) → a.found.runs ≡ shown
   runs_are none shown v j a =
       let first : flow_view p.flow ≡ flow_view a.flow = same_view (judged_program unit s j a) in
-      let view : flow_view p.flow ≡ flow_view a.analysed = first ∙ sym (ap flow_view (turned_none s.turns a.flow a.analysed none a.turned)) in
+      let view : flow_view p.flow ≡ flow_view a.analysed = first ∙ sym (ap flow_view (unrolled_none s.turns a.flow a.analysed none a.turned)) in
       let list : p.proof.list ≡ a.found.list = one_list_of_views p.flow a.flow first p.proof.list a.found.list p.proof.thresholds a.found.thresholds p.proof.ascending a.found.ascending in
       let runs : IsAnalysis a.analysed p.proof.list a.found.runs = subst (λ (l : List ℤ). IsAnalysis a.analysed l a.found.runs) (sym list) a.found.by_runs in
       sym (one_analysis p.flow a.analysed view p.proof.list shown a.found.runs (found_by_text shown v) runs)

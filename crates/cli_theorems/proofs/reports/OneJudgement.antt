@@ -15,7 +15,7 @@ use Rattle.loop_unrolling.specs.Turns.{split}
 use Rattle.analysis_determined.specs.Analyses.{IsAnalysis}
 use Rattle.analysis_determined.proofs.least_maps.OrderedSets as ordered
 use Rattle.analysis_determined.proofs.analysis_views.OneAnalysis.{one_analysis}
-use Rattle.cli_units.specs.Judging.{SettingView, IsTurned, IsFound, Judgement, cells_from, IsJudged}
+use Rattle.cli_units.specs.Judging.{SettingView, IsUnrolled, IsFound, Judgement, cells_from, IsJudged}
 use Rattle.cli_theorems.proofs.units.OneParse.{one_checked, one_flow}
 
 -- ordered sets of the same pairs are the same
@@ -26,7 +26,7 @@ one_set pairs others xs ys same p q =
     (λ d e. p.kept d (subst (λ (ds : List Diag). Contains ds d) (sym same) (q.made d e)))
 
 -- programs that look alike look alike with turns unrolled
-turned_same : (turns : Option ℕ) (f g x y : Flow) → flow_view f ≡ flow_view g → IsTurned turns f x → IsTurned turns g y → flow_view x ≡ flow_view y
+turned_same : (turns : Option ℕ) (f g x y : Flow) → flow_view f ≡ flow_view g → IsUnrolled turns f x → IsUnrolled turns g y → flow_view x ≡ flow_view y
 turned_same None f g x y h p q = ap flow_view p ∙ (h ∙ sym (ap flow_view q))
 turned_same (Some turns) f g x y h p q = p ∙ (ap (split turns) h ∙ sym q)
 

@@ -27,18 +27,18 @@ pub record HasProgram (unit : Unit7) (s : SettingView) : Type 0 where
   pub lowered : IsLowered checked flow
 
 -- no count of a program passes its limit when so many turns of its loops are unrolled
-abbrev pub FitsTurned : Option ℕ → Flow → Type 0
-FitsTurned None flow = Unit {0}
-FitsTurned (Some turns) flow = first_over standard_limits (split_counts turns (flow_view flow)) ≡ None
+abbrev pub FitsUnrolled : Option ℕ → Flow → Type 0
+FitsUnrolled None flow = Unit {0}
+FitsUnrolled (Some turns) flow = first_over standard_limits (split_counts turns (flow_view flow)) ≡ None
 
 pub record IsAccepted (unit : Unit7) (s : SettingView) : Type 0 where
   pub program : HasProgram unit s
-  pub fits : FitsTurned s.turns program.flow
+  pub fits : FitsUnrolled s.turns program.flow
 
 -- a count of a program passes its limit when so many turns of its loops are unrolled
-abbrev pub PassesTurned : Option ℕ → Flow → Fault → Type 0
-PassesTurned None flow why = ⊥
-PassesTurned (Some turns) flow why = Splits standard_limits turns (flow_view flow) (stop.Refused why)
+abbrev pub PassesUnrolled : Option ℕ → Flow → Fault → Type 0
+PassesUnrolled None flow why = ⊥
+PassesUnrolled (Some turns) flow why = Splits standard_limits turns (flow_view flow) (stop.Refused why)
 
 -- ---- one tree, one checked unit, one program
 
@@ -56,7 +56,7 @@ OneProgram = (unit : Unit7) (s : SettingView) (a b : HasProgram unit s) → flow
 
 -- a refusal of a unit with a program is of the program with turns unrolled
 abbrev pub RefusedForTurns : Type 0
-RefusedForTurns = (unit : Unit7) (s : SettingView) (p : HasProgram unit s) (why : Fault) → IsShort unit → RefusesUnit unit s why → PassesTurned s.turns p.flow why
+RefusedForTurns = (unit : Unit7) (s : SettingView) (p : HasProgram unit s) (why : Fault) → IsShort unit → RefusesUnit unit s why → PassesUnrolled s.turns p.flow why
 
 abbrev pub AcceptedNotRefused : Type 0
 AcceptedNotRefused = (unit : Unit7) (s : SettingView) (why : Fault) → IsShort unit → IsAccepted unit s → RefusesUnit unit s why → ⊥

@@ -31,7 +31,7 @@ use Rattle.memory_model.specs.Effects.NumberedTables.{empty_table}
 use Rattle.memory_model.specs.Effects.Operands.{is_of_kind}
 use Rattle.memory_model.specs.Effects.ScalarBytes.{scalar_bytes}
 use Rattle.memory_model.specs.Effects.UnitStarts.{base_instance, value_bytes}
-use Rattle.semantics.specs.CfgMachine.FlowStates.{Standing}
+use Rattle.semantics.specs.CfgMachine.FlowStates.{ProgramState}
 use Rattle.store_sound.specs.Concretization.SoundMemory.{IsMemoryOf, IsScalarIn}
 use Rattle.store_sound.specs.Concretization.ValueMeaning.{Naming, InGammaByLife, InGammaPointer, InGammaScalar}
 use Rattle.store_sound.specs.Operations.Scalars.{signed_in}
@@ -44,7 +44,7 @@ use Rattle.store_sound.proofs.operations.FreshValues.{type_near}
 use Rattle.entry_sound.specs.Cells.StaticObjects.{IsValueOf}
 
 -- the state of a run with these objects in a memory, before anything is done
-abbrev pub standing : (ℕ → Option ℕ) → Memory → Standing
+abbrev pub standing : (ℕ → Option ℕ) → Memory → ProgramState
 standing entered memory = record { block = 0; at = 0; temps = empty_table; bases = entered; world = record { memory = memory; draws = []; violated = [] } }
 
 -- ---- a value of an initializer as a scalar

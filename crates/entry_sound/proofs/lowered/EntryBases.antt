@@ -10,8 +10,8 @@ use Rattle.c_layout.specs.declared.shapes.BaseKind.TheVariants as kind
 use Rattle.lower_objects.specs.Shapes.FirstZeros.{object_shape}
 use Rattle.lower_functions.specs.Functions.Functions.{local_type}
 use Rattle.lower_tables.specs.Bases.BaseTables.{TableView, known, info, local_or, local}
-use Rattle.lower.specs.Inlining.Openings as o
-use Rattle.lower.specs.Inlining.Openings.{Placed}
+use Rattle.lower.specs.Inlining.Inlinings as o
+use Rattle.lower.specs.Inlining.Inlinings.{Placed}
 use Rattle.store_sound.proofs.operations.Slices.{get_set_other}
 use Rattle.entry_sound.specs.Tables.UnitStarts.{IsBaseOf}
 use Rattle.entry_sound.proofs.lowered.NotedBases.{none_some, base_stays, base_new, AreNoted}

@@ -18,8 +18,8 @@ use Rattle.lower_templates.specs.declared.worklist.template_pieces.OwnCall.{OwnC
 use Rattle.lower_functions.specs.Functions.Functions.{type_or, local_type}
 use Rattle.lower_tables.specs.Counts.Preparations.{begun}
 use Rattle.lower_tables.specs.Bases.BaseTables.{TableView}
-use Rattle.lower.specs.Inlining.Openings as o
-use Rattle.lower.specs.Inlining.Openings.{Made, Placed, joined, placed}
+use Rattle.lower.specs.Inlining.Inlinings as o
+use Rattle.lower.specs.Inlining.Inlinings.{Made, Placed, joined, placed}
 use Rattle.lower.specs.Inlining.Lowerings.{input_type, input, inputs, IsLowering}
 use Rattle.memory_model.specs.Effects.UnitStarts.{parameters_of}
 use Rattle.store_sound.proofs.operations.Slices.{get_left, get_right}

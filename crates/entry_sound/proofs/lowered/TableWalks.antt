@@ -10,8 +10,8 @@ use Rattle.lower_templates.specs.Worklist.Pieces.{NameView, Way, Always, When, C
 use Rattle.lower_templates.specs.declared.worklist.template_pieces.OwnCall.{OwnCall}
 use Rattle.lower_tables.specs.Bases.BaseTables.{TableView, base}
 use Rattle.lower.specs.Inlining.MovedActs.{own_base}
-use Rattle.lower.specs.Inlining.Openings as o
-use Rattle.lower.specs.Inlining.Openings.{Made, CopyView, Placed, is_none, placed, name_at}
+use Rattle.lower.specs.Inlining.Inlinings as o
+use Rattle.lower.specs.Inlining.Inlinings.{Made, CopyView, Placed, is_none, placed, name_at}
 
 cond_keeps : {A : Type 0} (P : A → Type 0) (b : Bool) (x y : A) → P x → P y → P (cond b x y)
 cond_keeps P true x y p q = p

@@ -7,7 +7,7 @@ use Rattle.cc_base.specs.IntegerTypes.{least_of, greatest_of}
 use Rattle.c_layout.specs.Types.{Ty, Int, Pointer, Array, Struct, Void}
 use Rattle.c_layout.specs.CheckedUnits.{LocalView, UnitView}
 use Rattle.lower_templates.specs.Views.ProgramViews.{FlowView}
-use Rattle.semantics.specs.CfgMachine.FlowStates.{Standing, running}
+use Rattle.semantics.specs.CfgMachine.FlowStates.{ProgramState, running}
 use Rattle.semantics.specs.CfgMachine.FlowStarts.{begun_by, flow_begin}
 use Rattle.memory_model.specs.Memory.Instances.{automatic, Memory, Instance}
 use Rattle.memory_model.specs.Effects.ObjectEffects.{fresh}
@@ -99,7 +99,7 @@ module _ (u : UnitView) where
       let c = length-map u.literals literal_made in
       omega (arith, a, b, c)
 
-  first_of : (f : FlowView) (draws : List ℤ) (s : Standing) (r : Reply (Unit {0})) → start_world u draws ≡ r → begun_by u f r ≡ running s [] → IsFirst u f s
+  first_of : (f : FlowView) (draws : List ℤ) (s : ProgramState) (r : Reply (Unit {0})) → start_world u draws ≡ r → begun_by u f r ≡ running s [] → IsFirst u f s
   first_of f draws s (stops why w) is e = absurd (cc)
   first_of f draws s (goes x w) is e =
       let t = taken_in (entry_parameters u) (world_before u draws) x w is in
@@ -115,5 +115,5 @@ module _ (u : UnitView) where
         inputs = λ j l h. let r = t.each j l h in let z : length (start_memory u) + j ≡ front u + j = ap (λ m. m + j) start in (r.0, r.1, sym (ap (slice_get w.memory) z) ∙ r.2);
       }
 
-  pub run_first : (f : FlowView) (draws : List ℤ) (s : Standing) → flow_begin u f draws ≡ running s [] → IsFirst u f s
+  pub run_first : (f : FlowView) (draws : List ℤ) (s : ProgramState) → flow_begin u f draws ≡ running s [] → IsFirst u f s
   run_first f draws s e = first_of f draws s (start_world u draws) refl e

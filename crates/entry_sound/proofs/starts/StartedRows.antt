@@ -36,7 +36,7 @@ use Rattle.memory_model.specs.Effects.Touches.{is_allocated}
 use Rattle.memory_model.specs.Effects.UnitStarts.{start_world}
 use Rattle.memory_model.specs.Effects.Worlds.{Reply, goes, stops}
 use Rattle.lower_templates.specs.Views.ProgramViews.{FlowView, flow_view}
-use Rattle.semantics.specs.CfgMachine.FlowStates.{Standing, running}
+use Rattle.semantics.specs.CfgMachine.FlowStates.{ProgramState, running}
 use Rattle.semantics.specs.CfgMachine.FlowStarts.{first_standing, begun_by}
 use Rattle.store_sound.specs.Concretization.RowMeaning.{InGamma}
 use Rattle.store_sound.specs.Concretization.SoundMemory.{storage_for}
@@ -330,7 +330,7 @@ module _ {I : Type 0} {l : LatticeOf I} {n : IntegersOf I} {gamma : I → ℤ �
           sym (ap length same_row) ∙ ((taken_kept 0 flow.parameters.items g.parameters mid).long ∙ mid_long row mid long f)
 
 -- no temporary has anything at the start of a run
-no_temps : (u : UnitView) (f : FlowView) (r : Reply (Unit {0})) (s : Standing) → begun_by u f r ≡ running s [] → empty_table ≡ s.temps
+no_temps : (u : UnitView) (f : FlowView) (r : Reply (Unit {0})) (s : ProgramState) → begun_by u f r ≡ running s [] → empty_table ≡ s.temps
 no_temps u f (goes x w) s e = let h : first_standing u f w ≡ s = cc in ap (λ z. z.temps) h
 no_temps u f (stops why w) s e = absurd (cc)
 

@@ -27,7 +27,7 @@ use Rattle.cfg.specs.declared.programs.InitialValue.TheVariants as initial_value
 use Rattle.cfg.specs.declared.programs.ParameterInput.{ParameterInput}
 use Rattle.lower_templates.specs.Views.ProgramViews as views
 use Rattle.lower_templates.specs.Views.ProgramViews.{initial, flow_view, Stored, Spelled}
-use Rattle.semantics.specs.CfgMachine.FlowStates.{Standing}
+use Rattle.semantics.specs.CfgMachine.FlowStates.{ProgramState}
 use Rattle.semantics.specs.CfgMachine.FlowStarts.{Names}
 use Rattle.lower_objects.specs.Shapes.FirstZeros.{zeros_of}
 use Rattle.lower_objects.specs.Counts.SharedObjects.{literal_type}
@@ -71,7 +71,7 @@ base_some : (o : Option ℕ) → has_base o ≡ true → (b : ℕ) × (o ≡ Som
 base_some None h = absurd (cc)
 base_some (Some b) h = (b, refl)
 
-module _ (u : UnitView) (flow : Flow) (limits : Limits) (good : is_well_formed limits flow ≡ true) (texts : has_initial_bytes flow ≡ true) (p : HasPremises flow) (a : StartsAs u flow) (s : Standing) (f : IsFirst u (flow_view flow) s) where
+module _ (u : UnitView) (flow : Flow) (limits : Limits) (good : is_well_formed limits flow ≡ true) (texts : has_initial_bytes flow ≡ true) (p : HasPremises flow) (a : StartsAs u flow) (s : ProgramState) (f : IsFirst u (flow_view flow) s) where
   abbrev memory : Memory
   memory = roles.memory u flow a s f
 

@@ -13,7 +13,7 @@ use Rattle.cfg.specs.declared.programs.Flow.{Flow}
 use Rattle.cfg.specs.declared.programs.InitialObject.{InitialObject}
 use Rattle.cfg.specs.declared.programs.ParameterInput.{ParameterInput}
 use Rattle.lower_templates.specs.Views.ProgramViews.{initial, flow_view}
-use Rattle.semantics.specs.CfgMachine.FlowStates.{Standing}
+use Rattle.semantics.specs.CfgMachine.FlowStates.{ProgramState}
 use Rattle.semantics.specs.CfgMachine.FlowStarts.{Names, name_objects, start_names}
 use Rattle.lower_objects.specs.Counts.SharedObjects.{literal_type}
 use Rattle.lower_tables.specs.Bases.BaseTables.{found_in, known}
@@ -195,7 +195,7 @@ module _ (u : UnitView) (flow : Flow) (a : StartsAs u flow) where
   same_int : (k m : IntType) → Int k ≡ Int m → k ≡ m
   same_int k m e = cc
 
-  module _ (s : Standing) (f : IsFirst u (flow_view flow) s) where
+  module _ (s : ProgramState) (f : IsFirst u (flow_view flow) s) where
     abbrev pub memory : Memory
     memory = f.world.memory
 

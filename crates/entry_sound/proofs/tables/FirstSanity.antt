@@ -35,7 +35,7 @@ use Rattle.cfg.specs.declared.programs.InitialValue.TheVariants as initial_value
 use Rattle.cfg.specs.declared.programs.ParameterInput.{ParameterInput}
 use Rattle.lower_templates.specs.Views.ProgramViews as views
 use Rattle.lower_templates.specs.Views.ProgramViews.{initial, flow_view, Stored, Spelled}
-use Rattle.semantics.specs.CfgMachine.FlowStates.{Standing}
+use Rattle.semantics.specs.CfgMachine.FlowStates.{ProgramState}
 use Rattle.memory_model.specs.Memory.Labels.{Labels, no_labels, input_labels}
 use Rattle.memory_model.specs.Memory.ScalarSizes.{class_bytes}
 use Rattle.memory_model.specs.Memory.Bytes.{MachinePointer, into, Content, number, part, Tag, Byte}
@@ -104,7 +104,7 @@ live_ends e = cc
 live_freed : live ≡ freed → ⊥
 live_freed e = cc
 
-module _ (u : UnitView) (flow : Flow) (limits : Limits) (good : is_well_formed limits flow ≡ true) (texts : has_initial_bytes flow ≡ true) (p : HasPremises flow) (a : StartsAs u flow) (s : Standing) (f : IsFirst u (flow_view flow) s) where
+module _ (u : UnitView) (flow : Flow) (limits : Limits) (good : is_well_formed limits flow ≡ true) (texts : has_initial_bytes flow ≡ true) (p : HasPremises flow) (a : StartsAs u flow) (s : ProgramState) (f : IsFirst u (flow_view flow) s) where
   abbrev memory : Memory
   memory = roles.memory u flow a s f
 

@@ -12,7 +12,7 @@ use Rattle.memory_model.specs.Effects.ScalarBytes.{scalar_bytes, refilled}
 use Rattle.memory_model.specs.Effects.UnitStarts.{typed_bytes, static_instance, literal_made, entry_parameters}
 use Rattle.memory_model.specs.Effects.Worlds.{World}
 use Rattle.lower_templates.specs.Views.ProgramViews.{FlowView}
-use Rattle.semantics.specs.CfgMachine.FlowStates.{Standing}
+use Rattle.semantics.specs.CfgMachine.FlowStates.{ProgramState}
 use Rattle.semantics.specs.CfgMachine.FlowStarts.{first_standing}
 
 module _ (u : UnitView) where
@@ -32,7 +32,7 @@ module _ (u : UnitView) where
   front = length u.objects + length u.literals
 
   -- the first state of a run: the objects of the unit, its literals, and the parameters of the entry
-  pub record IsFirst (f : FlowView) (s : Standing) : Type 0 where
+  pub record IsFirst (f : FlowView) (s : ProgramState) : Type 0 where
     pub world : World
     pub is : first_standing u f world ≡ s
     pub long : length world.memory ≡ front + length (entry_parameters u)

@@ -20,7 +20,7 @@ use Rattle.memory_model.specs.Effects.NumberedTables.{empty_table}
 use Rattle.memory_model.specs.Effects.ObjectEffects.{all_of}
 use Rattle.memory_model.specs.Effects.UnitStarts.{all_stored}
 use Rattle.lower_templates.specs.Views.ProgramViews.{flow_view}
-use Rattle.semantics.specs.CfgMachine.FlowStates.{Standing, running}
+use Rattle.semantics.specs.CfgMachine.FlowStates.{ProgramState, running}
 use Rattle.semantics.specs.CfgMachine.FlowStarts.{flow_begin}
 use Rattle.store_sound.specs.Concretization.RowMeaning.{InGamma}
 use Rattle.store_sound.specs.Concretization.SoundMemory.{IsMemoryOf, AreEntered}
@@ -75,12 +75,12 @@ module _ (u : UnitView) (flow : Flow) (naming : Naming) (memory : Memory) (enter
     pub all : (i b : ℕ) → naming i ≡ Some b → HasObject b ⊎ HasParameter b
 
 -- by some names a run's first state has such a memory
-pub record IsStartOf (u : UnitView) (flow : Flow) (s : Standing) : Type 0 where
+pub record IsStartOf (u : UnitView) (flow : Flow) (s : ProgramState) : Type 0 where
   pub naming : Naming
   pub beginning : IsBeginning u flow naming s.world.memory s.bases
 
 abbrev pub HasBeginnings : UnitView → Flow → Type 0
-HasBeginnings u flow = (draws : List ℤ) (s : Standing) → flow_begin u (flow_view flow) draws ≡ running s [] → IsStartOf u flow s
+HasBeginnings u flow = (draws : List ℤ) (s : ProgramState) → flow_begin u (flow_view flow) draws ≡ running s [] → IsStartOf u flow s
 
 module _ {I : Type 0} (l : LatticeOf I) (n : IntegersOf I) (gamma : I → ℤ → Type 0) (flow : Flow) where
   -- the row of the entry stands for the state in which a run begins
@@ -92,4 +92,4 @@ module _ {I : Type 0} (l : LatticeOf I) (n : IntegersOf I) (gamma : I → ℤ �
   -- where each run of the unit begins with such a memory, the row of the entry stands for the state in which it begins
   abbrev pub RunsBeginInStartRows : Type 0
   RunsBeginInStartRows = (limits : Limits) → is_well_formed limits flow ≡ true → HasPremises flow → (u : UnitView) → u.model ≡ flow.model → HasBeginnings u flow
-      → (row after : List (Cell I)) → length row ≡ flow.width → start_row l n flow row ≡ Some after → (draws : List ℤ) (s : Standing) → flow_begin u (flow_view flow) draws ≡ running s [] → InGammaAfter l n gamma flow (Some after) s
+      → (row after : List (Cell I)) → length row ≡ flow.width → start_row l n flow row ≡ Some after → (draws : List ℤ) (s : ProgramState) → flow_begin u (flow_view flow) draws ≡ running s [] → InGammaAfter l n gamma flow (Some after) s

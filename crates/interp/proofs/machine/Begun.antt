@@ -9,7 +9,7 @@ use Rattle.semantics.specs.SourceMachine.Items.{Item}
 use Rattle.semantics.specs.SourceMachine.SourceRuns.{name_parameters, body_of, first_state}
 use Rattle.semantics.specs.SourceMachine.SourceStates.{function_at}
 use Rattle.semantics.specs.SourceMachine.StatementItems.{body}
-use Rattle.interp_stack.specs.Standings.{standing}
+use Rattle.interp_stack.specs.StackViews.{standing}
 use Rattle.interp_steps.specs.Operations.Pending.{pending}
 use Rattle.interp_steps.specs.MachineItems.MachineViews.{names_view, frame_view, state_view}
 use Rattle.interp_steps.specs.declared.machine_items.machines.Machine.{Machine}

@@ -11,7 +11,7 @@ use Rattle.semantics.specs.SourceMachine.Items.{NamedTest, Item, items_of, liste
 use Rattle.semantics.specs.SourceMachine.ObjectSteps.{on}
 use Rattle.semantics.specs.SourceMachine.SourceStates.{State, first_do}
 use Rattle.semantics.specs.SourceMachine.SourceSteps.{turn_by}
-use Rattle.interp_stack.specs.Standings.{Standing, on_line}
+use Rattle.interp_stack.specs.StackViews.{StackView, on_line}
 use Rattle.interp_steps.specs.MachineItems.Moves.{Moves, holds_on}
 use Rattle.interp_steps.specs.declared.machine_items.machines.Machine.{Machine}
 
@@ -54,7 +54,7 @@ other_way true held failed = refl
 other_way false held failed = refl
 
 -- the turn of a condition on a line, by whether the condition holds
-pub line_turn : (u : UnitView) (at : Place) (wants holds : Bool) (st : Standing) (s : State) (items : List Item) (stream size text v : Scalar) (vs rest : List Scalar) (w : World) → s.values ≡ vs → vs ≡ stream ∷ (size ∷ (text ∷ rest)) → fgets u.model (text ∷ (size ∷ (stream ∷ []))) s.world ≡ goes v w → holds ≡ holds_on wants (is_false v) → items ≡ cond holds st.yes st.no ++ st.items → (turn_by u s (on_line at wants st).items).reply ≡ goes (record s { control = items; values = rest; world = w }) w
+pub line_turn : (u : UnitView) (at : Place) (wants holds : Bool) (st : StackView) (s : State) (items : List Item) (stream size text v : Scalar) (vs rest : List Scalar) (w : World) → s.values ≡ vs → vs ≡ stream ∷ (size ∷ (text ∷ rest)) → fgets u.model (text ∷ (size ∷ (stream ∷ []))) s.world ≡ goes v w → holds ≡ holds_on wants (is_false v) → items ≡ cond holds st.yes st.no ++ st.items → (turn_by u s (on_line at wants st).items).reply ≡ goes (record s { control = items; values = rest; world = w }) w
 line_turn u at true holds st s items stream size text v vs rest w k e read h is =
     ap (read_line u (items_of st.no) (items_of st.yes) (record s { control = st.items })) k
     ∙ line_read u st.yes st.no items (record s { control = st.items }) stream size text v vs rest w e read

@@ -14,7 +14,7 @@ ghost use Rattle.semantics.specs.SourceMachine.LabelSearch.{found};
 ghost use Rattle.semantics.specs.SourceMachine.SourceStates.{instance_of};
 ghost use Rattle.semantics.specs.SourceMachine.TermTests.{test_if};
 ghost use Rattle.semantics.specs.SourceMachine.SourceSteps.{turn_by};
-ghost use Rattle.interp_stack.specs.Standings.{on_term, on_line, on_statement, standing};
+ghost use Rattle.interp_stack.specs.StackViews.{on_term, on_line, on_statement, standing};
 ghost use Rattle.interp_stack.specs.TestViews as tests;
 ghost use Rattle.interp_stack.specs.declared.items.Use7.TheVariants as use_of;
 ghost use Rattle.interp_stack.specs.declared.items.Way7.TheVariants as way;

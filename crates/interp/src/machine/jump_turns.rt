@@ -5,7 +5,7 @@ ghost use Rattle.semantics.specs.SourceMachine.LabelSearch.{from_label};
 ghost use Rattle.semantics.specs.SourceMachine.ObjectSteps.{on};
 ghost use Rattle.semantics.specs.SourceMachine.Scopes as scopes;
 ghost use Rattle.semantics.specs.SourceMachine.SourceSteps as machine;
-ghost use Rattle.interp_stack.specs.Standings.{standing};
+ghost use Rattle.interp_stack.specs.StackViews.{standing};
 ghost use Rattle.interp_steps.specs.MachineItems.MachineViews.{state_view};
 ghost use Rattle.interp_steps.specs.MachineItems.Moves.{JumpsTo, Moves};
 
@@ -47,7 +47,7 @@ pub fn go_to<'a>(m: &mut Machine<'a>, unit: &'a Checked, label: u32) -> Result<(
 }
 
 fn jump_behind_loop(alloc: Global, control: &mut Vec<Item7>) -> Result<(), AllocError>
-    ensures { (u : UnitView) → IfOk result (λ _. (standing u control.new.items).items ≡ scopes.jump (standing u control.old.items).items (scopes.behind_loop (standing u control.old.items).items)) }
+    ensures { (u : UnitView) → IfOk result (λ _. (standing u control.new.items).items ≡ scopes.jump (standing u control.old.items).items (scopes.past_loop (standing u control.old.items).items)) }
 {
     let from = open_scopes(alloc, control.as_slice())?;
     drop_loop(control);
@@ -55,7 +55,7 @@ fn jump_behind_loop(alloc: Global, control: &mut Vec<Item7>) -> Result<(), Alloc
 }
 
 fn jump_behind_turn(alloc: Global, control: &mut Vec<Item7>) -> Result<(), AllocError>
-    ensures { (u : UnitView) → IfOk result (λ _. (standing u control.new.items).items ≡ scopes.jump (standing u control.old.items).items (scopes.behind_turn (standing u control.old.items).items)) }
+    ensures { (u : UnitView) → IfOk result (λ _. (standing u control.new.items).items ≡ scopes.jump (standing u control.old.items).items (scopes.past_iteration (standing u control.old.items).items)) }
 {
     let from = open_scopes(alloc, control.as_slice())?;
     drop_turn(control);
@@ -64,7 +64,7 @@ fn jump_behind_turn(alloc: Global, control: &mut Vec<Item7>) -> Result<(), Alloc
 
 /// `break`
 pub fn break_out(m: &mut Machine) -> Result<(), Halt>
-    ensures { (u : UnitView) → Moves u (on (machine.jump_to (state_view u m.old) (scopes.behind_loop (state_view u m.old).control))) result m.new }
+    ensures { (u : UnitView) → Moves u (on (machine.jump_to (state_view u m.old) (scopes.past_loop (state_view u m.old).control))) result m.new }
 {
     match jump_behind_loop(m.world.alloc, &mut m.control) {
         Ok(()) => Ok(()),
@@ -74,7 +74,7 @@ pub fn break_out(m: &mut Machine) -> Result<(), Halt>
 
 /// `continue`
 pub fn next_turn(m: &mut Machine) -> Result<(), Halt>
-    ensures { (u : UnitView) → Moves u (on (machine.jump_to (state_view u m.old) (scopes.behind_turn (state_view u m.old).control))) result m.new }
+    ensures { (u : UnitView) → Moves u (on (machine.jump_to (state_view u m.old) (scopes.past_iteration (state_view u m.old).control))) result m.new }
 {
     match jump_behind_turn(m.world.alloc, &mut m.control) {
         Ok(()) => Ok(()),

@@ -7,7 +7,7 @@ ghost use Rattle.interp_memory.specs.ByteViews.{pointer_view, scalar_view};
 ghost use Rattle.interp_accesses.specs.WorldViews.{world_view};
 ghost use Rattle.interp_accesses.specs.declared.worlds.Halt.TheVariants as halt;
 ghost use Rattle.semantics.specs.SourceMachine.SourceStates as machine;
-ghost use Rattle.interp_stack.specs.Standings.{standing};
+ghost use Rattle.interp_stack.specs.StackViews.{standing};
 ghost use Rattle.interp_steps.specs.MachineItems.Asked.{type_size, entered_size, first_of, answers_yes, given_size, may_be_freed, called_size, IsMadeBy};
 ghost use Rattle.interp_steps.specs.MachineItems.MachineViews.{items_with, state_view};
 

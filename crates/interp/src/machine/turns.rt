@@ -7,7 +7,7 @@ ghost use Rattle.interp_accesses.specs.WorldViews.{world_view};
 ghost use Rattle.semantics.specs.SourceMachine.SourceRuns.{first_state};
 ghost use Rattle.semantics.specs.SourceMachine.SourceSteps as machine;
 ghost use Rattle.semantics.specs.SourceMachine.SourceSteps.{turn_by};
-ghost use Rattle.interp_stack.specs.Standings.{on_statement, standing};
+ghost use Rattle.interp_stack.specs.StackViews.{on_statement, standing};
 ghost use Rattle.interp_stack.specs.declared.items.Way7.TheVariants as way;
 ghost use Rattle.interp_steps.specs.MachineItems.MachineViews.{names_view, parameters_named, state_view, state_with};
 ghost use Rattle.interp_steps.specs.MachineItems.Moves.{HeldAs, TurnsTo, turn_of};
@@ -89,7 +89,7 @@ fn do_statement<'a>(m: &mut Machine<'a>, unit: &Checked, statement: &'a CheckedS
 }
 
 // The items of the next turn of a loop.
-fn do_turn<'a>(m: &mut Machine<'a>, unit: &Checked, statement: &'a CheckedStatement) -> Turned7
+fn do_iteration<'a>(m: &mut Machine<'a>, unit: &Checked, statement: &'a CheckedStatement) -> Turned7
     ensures { TurnsTo (unit_view unit.now) (turn_by (unit_view unit.now) (state_view (unit_view unit.now) m.old) (on_statement way.Turn (statement_tree statement.now) (standing (unit_view unit.now) m.old.control.items)).items) result m.new }
 {
     instead(push_loop(&mut m.control, statement))
@@ -108,9 +108,9 @@ fn act_on_statement<'a>(m: &mut Machine<'a>, unit: &'a Checked, item: Item7<'a>)
         Item7::ReadLine(at, wants_line) => step(at, read_line(m, unit, wants_line)),
         Item7::Statement(Way7::Whole, statement) => do_statement(m, unit, statement),
         Item7::Statements(statements) => first_statement(m, statements),
-        Item7::Statement(Way7::Turn, statement) => do_turn(m, unit, statement),
+        Item7::Statement(Way7::Turn, statement) => do_iteration(m, unit, statement),
         Item7::Statement(Way7::Select, statement) => select_at(m, unit, statement),
-        Item7::TurnEnd => quiet(Ok(())),
+        Item7::IterationEnd => quiet(Ok(())),
         Item7::LoopEnd => quiet(Ok(())),
         _ => act_by_jump(m, unit, item),
     }
@@ -125,7 +125,7 @@ fn act_by_jump<'a>(m: &mut Machine<'a>, unit: &'a Checked, item: Item7<'a>) -> T
         Item7::Hop => step(own_place(m, unit), Ok(())),
         Item7::GoTo(label) => quiet(go_to(m, unit, label)),
         Item7::BreakOut => quiet(break_out(m)),
-        Item7::NextTurn => quiet(next_turn(m)),
+        Item7::NextIteration => quiet(next_turn(m)),
         Item7::LeaveFunction => quiet(leave_function(m, unit)),
         Item7::EndBody => quiet(end_body(m, unit)),
         Item7::Invoke(at, function, count, used) => {

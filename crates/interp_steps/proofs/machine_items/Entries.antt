@@ -14,7 +14,7 @@ use Rattle.c_layout.specs.CheckedUnits.{UnitView}
 use Rattle.semantics.specs.SourceMachine.Scopes.{all_of}
 use Rattle.semantics.specs.SourceMachine.SourceStates.{Frame}
 use Rattle.semantics.specs.SourceMachine.SourceSteps.{is_entry}
-use Rattle.interp_stack.specs.Standings.{Standing, nothing_left, with_items, added, on_item, standing}
+use Rattle.interp_stack.specs.StackViews.{StackView, nothing_left, with_items, added, on_item, standing}
 use Rattle.interp_stack.specs.declared.items.Item7.{Item7}
 use Rattle.interp_stack.proofs.Stacks.{standing_more}
 
@@ -40,16 +40,16 @@ scope_more scopes k scope objects below positive within is same =
     ∙ ap (λ n. (scope.items ++ all_of (map (λ (v : Vec ℕ Global). v.items) (drop n scopes))) ++ below) next)
 
 -- an entry that is put back
-pub kept_objects : (r : Result (Option ℕ) Halt) (old : List ℕ) (s new : Standing) → old ≡ s.objects → IfOk r (λ next. next ≡ None) → IfOk r (λ _. s.objects ≡ []) → IfOk r (λ next. old ≡ with_next next new.objects)
+pub kept_objects : (r : Result (Option ℕ) Halt) (old : List ℕ) (s new : StackView) → old ≡ s.objects → IfOk r (λ next. next ≡ None) → IfOk r (λ _. s.objects ≡ []) → IfOk r (λ next. old ≡ with_next next new.objects)
 kept_objects (Ok next) old s new e n p = e ∙ p ∙ sym (ap (λ o. with_next o new.objects) n)
 kept_objects (Err h) old s new e n p = tt
 
-pub kept_items : (r : Result (Option ℕ) Halt) (old : List Item) (s new : Standing) → old ≡ s.items → IfOk r (λ _. new ≡ s) → IfOk r (λ _. old ≡ new.items)
-kept_items (Ok next) old s new e p = e ∙ ap (λ (t : Standing). t.items) (sym p)
+pub kept_items : (r : Result (Option ℕ) Halt) (old : List Item) (s new : StackView) → old ≡ s.items → IfOk r (λ _. new ≡ s) → IfOk r (λ _. old ≡ new.items)
+kept_items (Ok next) old s new e p = e ∙ ap (λ (t : StackView). t.items) (sym p)
 kept_items (Err h) old s new e p = tt
 
 -- what follows the body of a function on an empty stack
-abbrev behind : Bool → List Item → Standing
+abbrev behind : Bool → List Item → StackView
 behind hops end = added (hop_if hops) (added end nothing_left)
 
 pub behind_body_is : (hops : Bool) (end : List Item) (ns : List ℕ) → with_items (item.Leaves (ns ++ (behind hops end).objects) ∷ []) (behind hops end) ≡ with_items (item.Leaves ns ∷ (hop_if hops ++ end)) nothing_left

@@ -9,7 +9,7 @@ use Rattle.semantics.specs.SourceMachine.CallSteps.{prologue, waiting, invoke}
 use Rattle.semantics.specs.SourceMachine.ObjectSteps.{on}
 use Rattle.semantics.specs.SourceMachine.SourceStates.{State, if_some, function_at}
 use Rattle.semantics.specs.SourceMachine.StatementItems.{body}
-use Rattle.interp_stack.specs.Standings.{standing}
+use Rattle.interp_stack.specs.StackViews.{standing}
 use Rattle.interp_steps.specs.Operations.Pending.{pending}
 use Rattle.interp_steps.specs.MachineItems.MachineViews.{names_view, frame_view, state_view}
 use Rattle.interp_steps.specs.declared.machine_items.machines.Machine.{Machine}

@@ -8,7 +8,7 @@ use Rattle.memory_model.specs.Effects.Worlds.{World}
 use Rattle.interp_accesses.specs.WorldViews.{world_view}
 use Rattle.semantics.specs.SourceMachine.Items.{Item}
 use Rattle.semantics.specs.SourceMachine.SourceStates.{Frame, State, type_of}
-use Rattle.interp_stack.specs.Standings.{standing}
+use Rattle.interp_stack.specs.StackViews.{standing}
 use Rattle.interp_steps.specs.Operations.Pending.{pending}
 use Rattle.interp_steps.specs.MachineItems.MachineViews.{names_view, frame_view, state_view}
 use Rattle.interp_steps.specs.MachineItems.Moves.{object_type}

@@ -16,7 +16,7 @@ use Rattle.semantics.specs.SourceMachine.Items.{NamedSide, Item}
 use Rattle.c_layout.specs.CheckedTrees as tree
 use Rattle.c_layout.specs.CheckedTrees.{StatementTree}
 use Rattle.interp_stack.specs.ItemViews.{loop_item, loop_turn}
-use Rattle.interp_stack.specs.Standings.{Standing, on_line}
+use Rattle.interp_stack.specs.StackViews.{StackView, on_line}
 use Rattle.semantics.specs.SourceMachine.ObjectSteps.{on}
 use Rattle.semantics.specs.SourceMachine.SourceStates.{State, with_world, stuck_at, if_some, with_object, instance_of, first_do}
 use Rattle.semantics.specs.SourceMachine.SourceSteps.{Turned, quiet, turn_by, enter_all, leave_all}
@@ -109,7 +109,7 @@ side_lost s item.nothing use_it e = absurd cc
 
 -- ---- lines and loops
 
-pub line_counted : (u : UnitView) (at : Place) (wants : Bool) (st : Standing) (s : State) → (turn_by u s (on_line at wants st).items).counted ≡ Some at
+pub line_counted : (u : UnitView) (at : Place) (wants : Bool) (st : StackView) (s : State) → (turn_by u s (on_line at wants st).items).counted ≡ Some at
 line_counted u at true st s = refl
 line_counted u at false st s = refl
 

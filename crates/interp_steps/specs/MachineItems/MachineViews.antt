@@ -5,7 +5,7 @@ use Rattle.memory_model.specs.Effects.UnitStarts.{parameter_instance}
 use Rattle.interp_accesses.specs.WorldViews.{world_view}
 use Rattle.semantics.specs.SourceMachine.Items.{Item, Hop}
 use Rattle.semantics.specs.SourceMachine.SourceStates.{Frame, State}
-use Rattle.interp_stack.specs.Standings.{Standing, on_item, standing}
+use Rattle.interp_stack.specs.StackViews.{StackView, on_item, standing}
 use Rattle.interp_stack.specs.declared.items.Item7.{Item7}
 use Rattle.interp_steps.specs.Operations.Pending.{pending}
 use Rattle.interp_steps.specs.declared.machine_items.machines.Frame7.{Frame7}
@@ -47,7 +47,7 @@ hop_if true = Hop ∷ []
 hop_if false = []
 
 -- the items of a stack with an entry on top of it; none where there is no entry
-abbrev pub items_with : UnitView → Option Item7 → Standing → List Item
+abbrev pub items_with : UnitView → Option Item7 → StackView → List Item
 items_with u None s = []
 items_with u (Some i) s = (on_item u i s).items
 

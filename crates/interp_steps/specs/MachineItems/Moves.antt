@@ -17,7 +17,7 @@ use Rattle.semantics.specs.SourceMachine.Items.{Item, NamedSide}
 use Rattle.semantics.specs.SourceMachine.Scopes.{jump}
 use Rattle.semantics.specs.SourceMachine.SourceStates.{State, instance_of, static_type, local_of, function_at}
 use Rattle.semantics.specs.SourceMachine.SourceSteps.{Turned, turn_by}
-use Rattle.interp_stack.specs.Standings.{on_item, standing}
+use Rattle.interp_stack.specs.StackViews.{on_item, standing}
 use Rattle.interp_stack.specs.declared.items.Item7.{Item7}
 use Rattle.interp_steps.specs.MachineItems.MachineViews.{state_view}
 use Rattle.interp_steps.specs.declared.machine_items.machines.Machine.{Machine}

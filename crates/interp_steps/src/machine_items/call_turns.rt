@@ -10,7 +10,7 @@ ghost use Rattle.semantics.specs.SourceMachine.Scopes.{open_scopes, all_of};
 ghost use Rattle.semantics.specs.SourceMachine.SourceStates.{result_object};
 ghost use Rattle.semantics.specs.SourceMachine.StatementItems.{body};
 ghost use Rattle.interp_stack.specs.ItemViews.{bindings};
-ghost use Rattle.interp_stack.specs.Standings.{standing, with_items, added, Stacks};
+ghost use Rattle.interp_stack.specs.StackViews.{standing, with_items, added, Stacks};
 ghost use Rattle.interp_steps.specs.MachineItems.MachineViews.{frame_view, state_view, hop_if};
 ghost use Rattle.interp_steps.specs.MachineItems.Moves.{Moves};
 ghost use Rattle.interp_steps.specs.Operations.Pending.{pending};

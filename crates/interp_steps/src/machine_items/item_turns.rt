@@ -10,7 +10,7 @@ ghost use Rattle.semantics.specs.SourceMachine.StatementItems.{of_statement, lis
 ghost use Rattle.semantics.specs.SourceMachine.ConditionItems.{term_items};
 ghost use Rattle.semantics.specs.SourceMachine.TermItems.{arguments};
 ghost use Rattle.interp_stack.specs.ItemViews.{bindings};
-ghost use Rattle.interp_stack.specs.Standings.{with_items, standing, Stacks};
+ghost use Rattle.interp_stack.specs.StackViews.{with_items, standing, Stacks};
 ghost use Rattle.interp_steps.specs.MachineItems.MachineViews.{state_view};
 ghost use Rattle.interp_steps.specs.MachineItems.Moves.{Moves, TurnsTo, HeldAs, turn_with};
 

@@ -7,7 +7,7 @@ ghost use Rattle.memory_model.specs.Effects.NumberedTables.{set_at};
 ghost use Rattle.interp_accesses.specs.declared.worlds.Halt.TheVariants as halt;
 ghost use Rattle.interp_accesses.specs.declared.worlds.Cause.TheVariants as cause;
 ghost use Rattle.semantics.specs.SourceMachine.SourceStates.{function_at, result_object, instance_of};
-ghost use Rattle.interp_stack.specs.Standings.{Standing, on_item, standing};
+ghost use Rattle.interp_stack.specs.StackViews.{StackView, on_item, standing};
 ghost use Rattle.interp_steps.specs.MachineItems.MachineViews.{items_with, names_view};
 ghost use Rattle.interp_steps.specs.MachineItems.Moves.{object_type};
 
@@ -44,7 +44,7 @@ pub struct Machine<'a> {
 
 // Whether an entry of a list of items is no item of its own.
 fn is_silent(item: &Item7) -> bool
-    ensures { (u : UnitView) (s : Standing) → result ≡ true → (on_item u item.now s).items ≡ s.items }
+    ensures { (u : UnitView) (s : StackView) → result ≡ true → (on_item u item.now s).items ≡ s.items }
 {
     match item {
         Item7::Values(terms) => terms.is_empty(),

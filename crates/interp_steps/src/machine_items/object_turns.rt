@@ -10,7 +10,7 @@ ghost use Rattle.interp_accesses.specs.declared.worlds.Halt.TheVariants as halt;
 ghost use Rattle.semantics.specs.SourceMachine.ObjectSteps as machine;
 ghost use Rattle.semantics.specs.SourceMachine.CallSteps as calls;
 ghost use Rattle.interp_stack.specs.ItemViews.{change_view};
-ghost use Rattle.interp_stack.specs.Standings.{Standing, on_item, standing};
+ghost use Rattle.interp_stack.specs.StackViews.{StackView, on_item, standing};
 ghost use Rattle.interp_steps.specs.MachineItems.MachineViews.{state_view, with_next};
 ghost use Rattle.interp_steps.specs.MachineItems.Moves.{Moves};
 
@@ -122,7 +122,7 @@ pub fn leave_outcome(m: &mut Machine, unit: &Checked) -> Result<(), Halt>
 
 /// Whether an entry of a list of items ends the objects that one above it enters or leaves.
 pub fn ends_objects(item: &Item7) -> bool
-    ensures { (u : UnitView) (s : Standing) → result ≡ true → (on_item u item.now s).objects ≡ [] }
+    ensures { (u : UnitView) (s : StackView) → result ≡ true → (on_item u item.now s).objects ≡ [] }
 {
     match item {
         Item7::AfterNothing => false,

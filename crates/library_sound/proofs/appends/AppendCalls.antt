@@ -57,7 +57,7 @@ use Rattle.memory_model.specs.Effects.StringCalls.{written, further, append_stri
 use Rattle.memory_model.specs.Effects.StructCopies.{overlap}
 use Rattle.memory_model.specs.Effects.Touches.{storage_at, is_literal, set_bytes}
 use Rattle.memory_model.specs.Effects.Worlds.{World, Left, Reply, goes, stops, behind, stopped_by}
-use Rattle.semantics.specs.CfgMachine.FlowStates.{Standing, values_of}
+use Rattle.semantics.specs.CfgMachine.FlowStates.{ProgramState, values_of}
 use Rattle.store_sound.specs.Concretization.FirstZeroBytes.{seen_as, first_zero}
 use Rattle.store_sound.specs.Concretization.Matching.{number_in}
 use Rattle.store_sound.specs.Concretization.SeenLabels.{as_set}
@@ -133,7 +133,7 @@ module _ {I : Type 0} {l : LatticeOf I} {n : IntegersOf I} {gamma : I → ℤ �
         let b : k.zero ≡ (offset + h) - k.part.offset = omega (arith, a) in
         subst (λ y. first_zero (array_bytes y (bytes_at state.memory i)) ≡ Some ((offset + h) - y.offset)) (sym part_is) (k.is ∙ ap (λ y. Some y) b)
 
-module _ {I : Type 0} {l : LatticeOf I} {n : IntegersOf I} {gamma : I → ℤ → Type 0} (o : OrderLaws l) (q : BoundLaws l n gamma) (c : SoundLaws l n gamma) (flow : Flow) (p : HasPremises flow) (apart : HasApartTexts flow.bases.items) (naming : Naming) (row : List (Cell I)) (s : Standing) (r : IsReached l n gamma flow naming row s) (to : Option ℕ) (has : has_result (names_of flow) to ≡ true) (newest : Option ℕ)
+module _ {I : Type 0} {l : LatticeOf I} {n : IntegersOf I} {gamma : I → ℤ → Type 0} (o : OrderLaws l) (q : BoundLaws l n gamma) (c : SoundLaws l n gamma) (flow : Flow) (p : HasPremises flow) (apart : HasApartTexts flow.bases.items) (naming : Naming) (row : List (Cell I)) (s : ProgramState) (r : IsReached l n gamma flow naming row s) (to : Option ℕ) (has : has_result (names_of flow) to ≡ true) (newest : Option ℕ)
     (items : List ℕ) (wanted : Option ℕ) (vs : List Scalar) (e : values_of s.temps items ≡ Some vs)
     (d : MachinePointer) (m : MachinePointer) (first : slice_get vs 0 ≡ Some (pointer d)) (second : slice_get vs 1 ≡ Some (pointer m)) where
   abbrev call : Call

@@ -19,7 +19,7 @@ use Rattle.transfer_library_plans.specs.declared.call_plans.Plan.{Plan}
 use Rattle.memory_model.specs.Memory.Labels.{Labels}
 use Rattle.memory_model.specs.Memory.Scalars.{Scalar, integer}
 use Rattle.memory_model.specs.Effects.Worlds.{World, Why, Reply, goes, stops, drawn, drawn_from, drawn_in, OutOfDraws, Stuck}
-use Rattle.semantics.specs.CfgMachine.FlowStates.{Standing, and_value, values_of}
+use Rattle.semantics.specs.CfgMachine.FlowStates.{ProgramState, and_value, values_of}
 use Rattle.semantics.specs.CfgMachine.FlowActs.{calling}
 use Rattle.store_sound.specs.Concretization.SeenLabels.{as_set}
 use Rattle.store_sound.specs.Concretization.ValueMeaning.{Naming}
@@ -68,7 +68,7 @@ drawn_end w least most = from_end w least most w.draws refl
 
 -- ---- what a call gives
 
-module _ {I : Type 0} {l : LatticeOf I} {n : IntegersOf I} {gamma : I → ℤ → Type 0} (q : BoundLaws l n gamma) (flow : Flow) (p : HasPremises flow) (naming : Naming) (row : List (Cell I)) (s : Standing) (r : IsReached l n gamma flow naming row s) where
+module _ {I : Type 0} {l : LatticeOf I} {n : IntegersOf I} {gamma : I → ℤ → Type 0} (q : BoundLaws l n gamma) (flow : Flow) (p : HasPremises flow) (naming : Naming) (row : List (Cell I)) (s : ProgramState) (r : IsReached l n gamma flow naming row s) where
   pub clean : (told : Violations) → AreAdmitted told s.world.violated
   clean told = same_admitted told s.world.violated [] r.begun (none_admitted told)
 

@@ -50,7 +50,7 @@ use Rattle.memory_model.specs.Effects.IntegerEffects.{truth}
 use Rattle.memory_model.specs.Effects.LibraryCalls.{int_type, with_result, getchar, putchar, character_call, library}
 use Rattle.memory_model.specs.Effects.ScalarBytes.{bits_in}
 use Rattle.memory_model.specs.Effects.Worlds.{World, Reply, goes, stops, behind, stopped_by, drawn, Ended, Stuck, OutOfDraws, Violated}
-use Rattle.semantics.specs.CfgMachine.FlowStates.{Standing, values_of}
+use Rattle.semantics.specs.CfgMachine.FlowStates.{ProgramState, values_of}
 use Rattle.semantics.specs.CfgMachine.FlowActs.{calling}
 use Rattle.store_sound.specs.Concretization.SeenLabels.{as_set}
 use Rattle.store_sound.specs.Concretization.ValueMeaning.{Naming, InGammaScalar}
@@ -89,7 +89,7 @@ letter_near : (b : Bool) (c d : ℤ) → negsuc 999 ≤ℤ c → c ≤ℤ pos 99
 letter_near true c d p k g h = record { from = omega (arith, ints); to = omega (arith, ints) }
 letter_near false c d p k g h = record { from = omega (arith, ints); to = omega (arith, ints) }
 
-module _ {I : Type 0} {l : LatticeOf I} {n : IntegersOf I} {gamma : I → ℤ → Type 0} (o : OrderLaws l) (q : BoundLaws l n gamma) (c : SoundLaws l n gamma) (flow : Flow) (p : HasPremises flow) (naming : Naming) (row : List (Cell I)) (s : Standing) (r : IsReached l n gamma flow naming row s) (to : Option ℕ) (has : has_result (names_of flow) to ≡ true) (newest : Option ℕ) where
+module _ {I : Type 0} {l : LatticeOf I} {n : IntegersOf I} {gamma : I → ℤ → Type 0} (o : OrderLaws l) (q : BoundLaws l n gamma) (c : SoundLaws l n gamma) (flow : Flow) (p : HasPremises flow) (naming : Naming) (row : List (Cell I)) (s : ProgramState) (r : IsReached l n gamma flow naming row s) (to : Option ℕ) (has : has_result (names_of flow) to ≡ true) (newest : Option ℕ) where
   -- ---- `getchar`
 
   getchar_good : DrawnEnd s.world (negsuc 0) (pos 255) (drawn s.world (negsuc 0) (pos 255)) → GoodPlan q flow p naming row s r to has newest (plan_getchar l n flow.model) (with_result (getchar flow.model s.world))
@@ -194,7 +194,7 @@ module _ {I : Type 0} {l : LatticeOf I} {n : IntegersOf I} {gamma : I → ℤ �
     by_name f.Tolower h vs e = characters_good f.Tolower (λ lo hi z la a b g k w. number_result q flow p naming row s r to has newest (characters.lowered l n lo hi) first_value.labels (cond (is_upper z) (z +ℤ pos 32) z) la (lowered o q lo hi z a b g k) w.1 (letter_near (is_upper z) (z +ℤ pos 32) z (omega (arith, ints)) (omega (arith, ints)) (omega (arith, ints)) (omega (arith, ints)))) vs e
     by_name _ h vs e = absurd h
 
-module _ {I : Type 0} {l : LatticeOf I} {n : IntegersOf I} {gamma : I → ℤ → Type 0} (o : OrderLaws l) (q : BoundLaws l n gamma) (c : SoundLaws l n gamma) (flow : Flow) (p : HasPremises flow) (naming : Naming) (row : List (Cell I)) (s : Standing) (r : IsReached l n gamma flow naming row s) where
+module _ {I : Type 0} {l : LatticeOf I} {n : IntegersOf I} {gamma : I → ℤ → Type 0} (o : OrderLaws l) (q : BoundLaws l n gamma) (c : SoundLaws l n gamma) (flow : Flow) (p : HasPremises flow) (naming : Naming) (row : List (Cell I)) (s : ProgramState) (r : IsReached l n gamma flow naming row s) where
   pub result_call_sound : (to : Option ℕ) (name : LibFn) (arguments : _) (newest size : Option ℕ) → GivesNumber name → fits_operation (names_of flow) (op.Library to name arguments newest size) ≡ true → StepIsSound l n gamma flow row (op.Library to name arguments newest size) s
   unfolding operate call_step operation_violations
   result_call_sound to name arguments newest size is fits =

@@ -48,7 +48,7 @@ use Rattle.memory_model.specs.Effects.MemoryCalls.{with_contents, fill_memory}
 use Rattle.memory_model.specs.Effects.ScalarBytes.{bits_in, refilled}
 use Rattle.memory_model.specs.Effects.Touches.{storage_at, is_literal, set_bytes}
 use Rattle.memory_model.specs.Effects.Worlds.{World, Reply, goes, behind, stopped_by}
-use Rattle.semantics.specs.CfgMachine.FlowStates.{Standing, values_of}
+use Rattle.semantics.specs.CfgMachine.FlowStates.{ProgramState, values_of}
 use Rattle.store_sound.specs.Concretization.SoundMemory.{IsMemoryOf, IsWithin}
 use Rattle.store_sound.specs.Concretization.ValueMeaning.{Naming, InGammaInto, InGammaByLife, InGammaScalar}
 use Rattle.store_sound.specs.Concretization.RowMeaning.{IsLiveOf}
@@ -108,7 +108,7 @@ zero_bits (Some p) z h e =
     let same : p.0 ≡ z = omega (arith, ints, b, h0, h1) in
     ap unsigned_abs (ap (λ y. int_rem_euclid y (pos 256)) (sym same) ∙ c)
 
-module _ {I : Type 0} {l : LatticeOf I} {n : IntegersOf I} {gamma : I → ℤ → Type 0} (o : OrderLaws l) (q : BoundLaws l n gamma) (flow : Flow) (p : HasPremises flow) (naming : Naming) (row : List (Cell I)) (s : Standing) (r : IsReached l n gamma flow naming row s) (to : Option ℕ) (has : has_result (names_of flow) to ≡ true) (newest : Option ℕ)
+module _ {I : Type 0} {l : LatticeOf I} {n : IntegersOf I} {gamma : I → ℤ → Type 0} (o : OrderLaws l) (q : BoundLaws l n gamma) (flow : Flow) (p : HasPremises flow) (naming : Naming) (row : List (Cell I)) (s : ProgramState) (r : IsReached l n gamma flow naming row s) (to : Option ℕ) (has : has_result (names_of flow) to ≡ true) (newest : Option ℕ)
     (items : List ℕ) (wanted : Option ℕ) (vs : List Scalar) (e : values_of s.temps items ≡ Some vs)
     (m : MachinePointer) (z : ℤ) (la : Labels) (count : ℤ) (lb : Labels) (first : slice_get vs 0 ≡ Some (pointer m)) (second : slice_get vs 1 ≡ Some (integer z la)) (third : slice_get vs 2 ≡ Some (integer count lb)) (sized : pos 0 ≤ℤ count) where
   abbrev call : Call

@@ -19,7 +19,7 @@ use Rattle.transfer_sound.specs.Steps.{operate}
 use Rattle.memory_model.specs.Memory.Scalars.{Scalar, integer, pointer}
 use Rattle.memory_model.specs.Effects.LibraryCalls.{library}
 use Rattle.memory_model.specs.Effects.Worlds.{stops, Stuck}
-use Rattle.semantics.specs.CfgMachine.FlowStates.{Standing, values_of}
+use Rattle.semantics.specs.CfgMachine.FlowStates.{ProgramState, values_of}
 use Rattle.store_sound.specs.Concretization.ValueMeaning.{Naming}
 use Rattle.store_sound.specs.Programs.Premises.{HasPremises}
 use Rattle.transfer_sound.specs.Values.SoundSteps.{IsReached, StepIsSound}
@@ -30,7 +30,7 @@ use Rattle.library_sound.specs.Fills.FillCalls.{SetsBytes, IsFillCall}
 use Rattle.library_sound.proofs.fills.WriteCalls.{Good, plain_stop, three_sized}
 use Rattle.library_sound.proofs.fills.FillCalls.{fill_call_good}
 
-module _ {I : Type 0} {l : LatticeOf I} {n : IntegersOf I} {gamma : I → ℤ → Type 0} (o : OrderLaws l) (q : BoundLaws l n gamma) (flow : Flow) (p : HasPremises flow) (naming : Naming) (row : List (Cell I)) (s : Standing) (r : IsReached l n gamma flow naming row s) (to : Option ℕ) (has : has_result (names_of flow) to ≡ true) (newest : Option ℕ) where
+module _ {I : Type 0} {l : LatticeOf I} {n : IntegersOf I} {gamma : I → ℤ → Type 0} (o : OrderLaws l) (q : BoundLaws l n gamma) (flow : Flow) (p : HasPremises flow) (naming : Naming) (row : List (Cell I)) (s : ProgramState) (r : IsReached l n gamma flow naming row s) (to : Option ℕ) (has : has_result (names_of flow) to ≡ true) (newest : Option ℕ) where
   stuck_here : (plan : _) → Good o q flow p naming row s r to has newest plan (stops Stuck s.world)
   stuck_here plan = plain_stop o q flow p naming row s r to has newest plan s.world.violated (clean q flow p naming row s r plan.violations) Stuck
 
@@ -47,7 +47,7 @@ module _ {I : Type 0} {l : LatticeOf I} {n : IntegersOf I} {gamma : I → ℤ �
       fill_call_good o q flow p naming row s r to has newest items wanted (pointer m ∷ (integer z la ∷ (integer c lb ∷ []))) e m z la c lb refl refl refl (three_sized s.temps items (pointer m) (integer z la) c lb e sized)
   by_name _ h items wanted vs e sized = absurd h
 
-module _ {I : Type 0} {l : LatticeOf I} {n : IntegersOf I} {gamma : I → ℤ → Type 0} (o : OrderLaws l) (q : BoundLaws l n gamma) (flow : Flow) (p : HasPremises flow) (naming : Naming) (row : List (Cell I)) (s : Standing) (r : IsReached l n gamma flow naming row s) where
+module _ {I : Type 0} {l : LatticeOf I} {n : IntegersOf I} {gamma : I → ℤ → Type 0} (o : OrderLaws l) (q : BoundLaws l n gamma) (flow : Flow) (p : HasPremises flow) (naming : Naming) (row : List (Cell I)) (s : ProgramState) (r : IsReached l n gamma flow naming row s) where
   pub fill_call_sound : (to : Option ℕ) (name : LibFn) (arguments : _) (newest size : Option ℕ) → SetsBytes name → fits_operation (names_of flow) (op.Library to name arguments newest size) ≡ true → TakesSize name arguments.items s.temps → StepIsSound l n gamma flow row (op.Library to name arguments newest size) s
   unfolding operate call_step operation_violations
   fill_call_sound to name arguments newest size is fits sized =

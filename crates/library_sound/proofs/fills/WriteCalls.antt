@@ -33,7 +33,7 @@ use Rattle.memory_model.specs.Memory.Scalars.{Scalar, integer, pointer}
 use Rattle.memory_model.specs.Effects.LibraryChecks as machine
 use Rattle.memory_model.specs.Effects.NumberedTables.{put_at}
 use Rattle.memory_model.specs.Effects.Worlds.{World, Why, Reply, goes, stops, behind, stopped_by, Stuck, Violated}
-use Rattle.semantics.specs.CfgMachine.FlowStates.{Standing, and_value, values_of}
+use Rattle.semantics.specs.CfgMachine.FlowStates.{ProgramState, and_value, values_of}
 use Rattle.semantics.specs.CfgMachine.FlowActs.{calling}
 use Rattle.store_sound.specs.Concretization.SeenLabels.{as_set}
 use Rattle.store_sound.specs.Concretization.SoundMemory.{IsPointerIn, IsWithin}
@@ -110,7 +110,7 @@ sink_told t told labels below tells = by_flag (not (is_unlabelled t)) refl
     by_flag false e = none_admitted told
     by_flag true e = one_admitted told rule.Taintsink (tells rule.Taintsink (labels_shown t labels below e))
 
-module _ {I : Type 0} {l : LatticeOf I} {n : IntegersOf I} {gamma : I → ℤ → Type 0} (o : OrderLaws l) (q : BoundLaws l n gamma) (flow : Flow) (p : HasPremises flow) (naming : Naming) (row : List (Cell I)) (s : Standing) (r : IsReached l n gamma flow naming row s) (to : Option ℕ) (has : has_result (names_of flow) to ≡ true) (newest : Option ℕ) where
+module _ {I : Type 0} {l : LatticeOf I} {n : IntegersOf I} {gamma : I → ℤ → Type 0} (o : OrderLaws l) (q : BoundLaws l n gamma) (flow : Flow) (p : HasPremises flow) (naming : Naming) (row : List (Cell I)) (s : ProgramState) (r : IsReached l n gamma flow naming row s) (to : Option ℕ) (has : has_result (names_of flow) to ≡ true) (newest : Option ℕ) where
   abbrev pub Good : Plan I → Reply (Option Scalar) → Type 0
   Good plan reply = GoodPlan q flow p naming row s r to has newest plan reply
 
@@ -143,7 +143,7 @@ module _ {I : Type 0} {l : LatticeOf I} {n : IntegersOf I} {gamma : I → ℤ �
     by_result None h = stop_good l n gamma flow _ plan.violations Stuck s.world (clean q flow p naming row s r plan.violations)
     by_result (Some t) h = record {
       goes_on = λ u w e.
-          let now : Standing = record s { at = suc s.at; temps = put_at s.temps t v; world = world_after } in
+          let now : ProgramState = record s { at = suc s.at; temps = put_at s.temps t v; world = world_after } in
           let a : now ≡ u = cc in
           let b : world_after ≡ w = cc in
           let here : InGammaAfter l n gamma flow (Some (put_result flow (Some t) x after)) (record now { world = world_after }) = record {

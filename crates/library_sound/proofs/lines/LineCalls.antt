@@ -55,7 +55,7 @@ use Rattle.memory_model.specs.Effects.MemoryCalls.{with_contents}
 use Rattle.memory_model.specs.Effects.ScalarBytes.{refilled}
 use Rattle.memory_model.specs.Effects.Touches.{storage_at, is_literal, set_bytes}
 use Rattle.memory_model.specs.Effects.Worlds.{World, Why, Left, OutOfDraws, Violated, Reply, goes, stops, behind, stopped_by, drawn, world_of}
-use Rattle.semantics.specs.CfgMachine.FlowStates.{Standing, values_of}
+use Rattle.semantics.specs.CfgMachine.FlowStates.{ProgramState, values_of}
 use Rattle.store_sound.specs.Concretization.Matching.{number_in}
 use Rattle.store_sound.specs.Concretization.SeenLabels.{as_set}
 use Rattle.store_sound.specs.Concretization.SoundMemory.{IsMemoryOf, IsWithin}
@@ -121,7 +121,7 @@ upper_some : (x : Range) (z : ℤ) → RangeHas x z → z ≤ℤ upper_or (pos 1
 upper_some None z h = absurd h
 upper_some (Some x) z h = h.1
 
-module _ {I : Type 0} {l : LatticeOf I} {n : IntegersOf I} {gamma : I → ℤ → Type 0} (o : OrderLaws l) (q : BoundLaws l n gamma) (flow : Flow) (p : HasPremises flow) (naming : Naming) (row : List (Cell I)) (s : Standing) (r : IsReached l n gamma flow naming row s) (to : Option ℕ) (has : has_result (names_of flow) to ≡ true)
+module _ {I : Type 0} {l : LatticeOf I} {n : IntegersOf I} {gamma : I → ℤ → Type 0} (o : OrderLaws l) (q : BoundLaws l n gamma) (flow : Flow) (p : HasPremises flow) (naming : Naming) (row : List (Cell I)) (s : ProgramState) (r : IsReached l n gamma flow naming row s) (to : Option ℕ) (has : has_result (names_of flow) to ≡ true)
     (line : ℕ) (most : ℕ) (stream : ℕ) (vs : List Scalar) (e : values_of s.temps (line ∷ (most ∷ (stream ∷ []))) ≡ Some vs)
     (d : MachinePointer) (z : ℤ) (lb : Labels) (first : slice_get vs 0 ≡ Some (pointer d)) (second : slice_get vs 1 ≡ Some (integer z lb)) where
   abbrev items : List ℕ

@@ -37,7 +37,7 @@ use Rattle.memory_model.specs.Effects.Worlds.{World, Why, Stuck, Reply, goes, st
 use Rattle.lower_templates.specs.Worklist.Pieces.{way}
 use Rattle.lower_templates.specs.Views.ProgramViews.{FlowView, EdgeView, flow_view}
 use Rattle.lower_templates.specs.Views.ProgramViews as views
-use Rattle.semantics.specs.CfgMachine.FlowStates.{Standing, values_of, if_some, put_if}
+use Rattle.semantics.specs.CfgMachine.FlowStates.{ProgramState, values_of, if_some, put_if}
 use Rattle.semantics.specs.CfgMachine.FlowEdges.{is_taken, edge_taken, edges_of, at_block, along, on_way}
 use Rattle.semantics.specs.CfgMachine.FlowSteps.{block_of, on_edge, reading_line}
 use Rattle.store_sound.specs.Concretization.ValueMeaning.{Naming}
@@ -54,7 +54,7 @@ use Rattle.library_sound.proofs.calls.Calls.{clean}
 use Rattle.library_sound.specs.Lines.LineEnds.{IsLineEnd}
 use Rattle.library_sound.proofs.lines.LineCalls.{IsLine, GoesOn, no_line, a_line, IsGoodLine, line_good}
 
-module _ {I : Type 0} {l : LatticeOf I} {n : IntegersOf I} {gamma : I → ℤ → Type 0} (o : OrderLaws l) (q : BoundLaws l n gamma) (flow : Flow) (p : HasPremises flow) (naming : Naming) (row : List (Cell I)) (s : Standing) (r : IsReached l n gamma flow naming row s) where
+module _ {I : Type 0} {l : LatticeOf I} {n : IntegersOf I} {gamma : I → ℤ → Type 0} (o : OrderLaws l) (q : BoundLaws l n gamma) (flow : Flow) (p : HasPremises flow) (naming : Naming) (row : List (Cell I)) (s : ProgramState) (r : IsReached l n gamma flow naming row s) where
   abbrev f : FlowView
   f = flow_view flow
 
@@ -84,7 +84,7 @@ module _ {I : Type 0} {l : LatticeOf I} {n : IntegersOf I} {gamma : I → ℤ �
   same_world None v w = refl
   same_world (Some t) v w = refl
 
-  way_goes : (u : Standing) (k : EdgeKind) → FitsLead ByLine k → on_way f u (way k) ≡ goes u u.world
+  way_goes : (u : ProgramState) (k : EdgeKind) → FitsLead ByLine k → on_way f u (way k) ≡ goes u u.world
   way_goes u kind.NoLine h = refl
   way_goes u kind.Line h = refl
   way_goes u _ h = absurd h
@@ -113,20 +113,20 @@ module _ {I : Type 0} {l : LatticeOf I} {n : IntegersOf I} {gamma : I → ℤ �
 
     -- ---- an edge is passed
 
-    record PassesLine (reply : Reply Standing) : Type 0 where
-      goes_along : (t : Standing) (w : World) → reply ≡ goes t w → EdgeBehind l n gamma flow row (op.ReadLine to line most stream) s.block (record t { world = w })
+    record PassesLine (reply : Reply ProgramState) : Type 0 where
+      goes_along : (t : ProgramState) (w : World) → reply ≡ goes t w → EdgeBehind l n gamma flow row (op.ReadLine to line most stream) s.block (record t { world = w })
       admits : AreAdmitted plan.violations (world_of reply).violated
 
     stop_passes : (why : Why) (w : World) → AreAdmitted plan.violations w.violated → PassesLine (stops why w)
     stop_passes why w h = record { goes_along = λ t u g. cc; admits = h }
 
-    module _ (v : Scalar) (w : World) (admitted : AreAdmitted plan.violations w.violated) (stays : operate l n flow row (op.ReadLine to line most stream) ≡ Some row) (u : Standing) (at : u.block ≡ s.block) (world : u.world ≡ w)
+    module _ (v : Scalar) (w : World) (admitted : AreAdmitted plan.violations w.violated) (stays : operate l n flow row (op.ReadLine to line most stream) ≡ Some row) (u : ProgramState) (at : u.block ≡ s.block) (world : u.world ≡ w)
         (behind_edge : (e : EdgeView) (x : IsTakenEdge flow s.block v e ByLine) → InGammaAfter l n gamma flow (follow l n flow row x.it.from x.it.kind) (record u { world = w })) where
       along_good : (e : EdgeView) (x : IsTakenEdge flow s.block v e ByLine) → PassesLine (along f u (Some e))
       unfolding edge
       along_good e x =
           let sb = behind_edge e x in
-          let now : Standing = record (at_block x.it.to u) { world = w } in
+          let now : ProgramState = record (at_block x.it.to u) { world = w } in
           let eb : EdgeBehind l n gamma flow row (op.ReadLine to line most stream) s.block now = record {
             stays = stays;
             number = x.number;

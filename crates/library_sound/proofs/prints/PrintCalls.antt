@@ -46,7 +46,7 @@ use Rattle.memory_model.specs.Effects.LibraryCalls.{and_reach, strings_in, all_s
 use Rattle.memory_model.specs.Effects.LibraryChecks as machine
 use Rattle.memory_model.specs.Effects.StringCalls.{plain}
 use Rattle.memory_model.specs.Effects.Worlds.{World, Reply, goes, behind, drawn, Stuck, OutOfDraws}
-use Rattle.semantics.specs.CfgMachine.FlowStates.{Standing, and_value, values_of}
+use Rattle.semantics.specs.CfgMachine.FlowStates.{ProgramState, and_value, values_of}
 use Rattle.store_sound.specs.Concretization.ValueMeaning.{Naming}
 use Rattle.store_sound.specs.Programs.Premises.{HasPremises}
 use Rattle.store_sound.proofs.programs.Sizes.{same_bytes}
@@ -82,7 +82,7 @@ near_int false z h k = record { from = omega (arith, ints); to = omega (arith, i
 most_is : (m : Model) → is_model m ≡ true → most_int m ≡ greatest_of (kind_of m Int true)
 most_is m e = ap (λ b. pos (2 ^ (8 * b - 1) - 1)) (same_bytes m Int e)
 
-module _ {I : Type 0} {l : LatticeOf I} {n : IntegersOf I} {gamma : I → ℤ → Type 0} (o : OrderLaws l) (q : BoundLaws l n gamma) (flow : Flow) (p : HasPremises flow) (naming : Naming) (row : List (Cell I)) (s : Standing) (r : IsReached l n gamma flow naming row s) (to : Option ℕ) (has : has_result (names_of flow) to ≡ true) (newest : Option ℕ) (items : List ℕ) (wanted : Option ℕ) (vs : List Scalar) (e : values_of s.temps items ≡ Some vs) where
+module _ {I : Type 0} {l : LatticeOf I} {n : IntegersOf I} {gamma : I → ℤ → Type 0} (o : OrderLaws l) (q : BoundLaws l n gamma) (flow : Flow) (p : HasPremises flow) (naming : Naming) (row : List (Cell I)) (s : ProgramState) (r : IsReached l n gamma flow naming row s) (to : Option ℕ) (has : has_result (names_of flow) to ≡ true) (newest : Option ℕ) (items : List ℕ) (wanted : Option ℕ) (vs : List Scalar) (e : values_of s.temps items ≡ Some vs) where
   abbrev Good : Plan I → Reply (Option Scalar) → Type 0
   Good plan reply = GoodPlan q flow p naming row s r to has newest plan reply
 
@@ -269,7 +269,7 @@ module _ {I : Type 0} {l : LatticeOf I} {n : IntegersOf I} {gamma : I → ℤ �
           (λ rl h. told_by_pointers (length rest) 0 many rl (told_here (trail_of no_violations) (given_at 0).violations (not (bases_empty (given_at 0).rest.bases)) rl refl h))
           (λ _ w. with_result (pointers_reply rest w)) format_good)
 
-module _ {I : Type 0} {l : LatticeOf I} {n : IntegersOf I} {gamma : I → ℤ → Type 0} (o : OrderLaws l) (q : BoundLaws l n gamma) (flow : Flow) (p : HasPremises flow) (naming : Naming) (row : List (Cell I)) (s : Standing) (r : IsReached l n gamma flow naming row s) (to : Option ℕ) (has : has_result (names_of flow) to ≡ true) (newest : Option ℕ) (items : List ℕ) (wanted : Option ℕ) where
+module _ {I : Type 0} {l : LatticeOf I} {n : IntegersOf I} {gamma : I → ℤ → Type 0} (o : OrderLaws l) (q : BoundLaws l n gamma) (flow : Flow) (p : HasPremises flow) (naming : Naming) (row : List (Cell I)) (s : ProgramState) (r : IsReached l n gamma flow naming row s) (to : Option ℕ) (has : has_result (names_of flow) to ≡ true) (newest : Option ℕ) (items : List ℕ) (wanted : Option ℕ) where
   by_values : (vs : List Scalar) → values_of s.temps items ≡ Some vs → GoodPlan q flow p naming row s r to has newest (plan_call l n f.Printf (call_of flow items wanted) row) (library flow.model wanted f.Printf vs s.world)
   unfolding plan_call plan_printf
   by_values [] e = plan_stops q flow p naming row s r to has newest _ Stuck s.world (clean q flow p naming row s r _)
@@ -282,7 +282,7 @@ module _ {I : Type 0} {l : LatticeOf I} {n : IntegersOf I} {gamma : I → ℤ �
   by_name f.Printf h vs e = by_values vs e
   by_name _ h vs e = absurd h
 
-module _ {I : Type 0} {l : LatticeOf I} {n : IntegersOf I} {gamma : I → ℤ → Type 0} (o : OrderLaws l) (q : BoundLaws l n gamma) (flow : Flow) (p : HasPremises flow) (naming : Naming) (row : List (Cell I)) (s : Standing) (r : IsReached l n gamma flow naming row s) where
+module _ {I : Type 0} {l : LatticeOf I} {n : IntegersOf I} {gamma : I → ℤ → Type 0} (o : OrderLaws l) (q : BoundLaws l n gamma) (flow : Flow) (p : HasPremises flow) (naming : Naming) (row : List (Cell I)) (s : ProgramState) (r : IsReached l n gamma flow naming row s) where
   pub print_call_sound : (to : Option ℕ) (name : LibFn) (arguments : _) (newest size : Option ℕ) → Prints name → fits_operation (names_of flow) (op.Library to name arguments newest size) ≡ true → StepIsSound l n gamma flow row (op.Library to name arguments newest size) s
   unfolding operate call_step operation_violations
   print_call_sound to name arguments newest size is fits =

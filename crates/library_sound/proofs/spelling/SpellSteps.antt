@@ -31,7 +31,7 @@ use Rattle.memory_model.specs.Effects.ObjectEffects.{spelled}
 use Rattle.memory_model.specs.Effects.ScalarBytes.{refilled}
 use Rattle.memory_model.specs.Effects.Touches.{set_bytes}
 use Rattle.memory_model.specs.Effects.Worlds.{World}
-use Rattle.semantics.specs.CfgMachine.FlowStates.{Standing}
+use Rattle.semantics.specs.CfgMachine.FlowStates.{ProgramState}
 use Rattle.store_sound.specs.Concretization.SoundMemory.{IsMemoryOf}
 use Rattle.store_sound.specs.Concretization.ValueMeaning.{Naming}
 use Rattle.store_sound.specs.Concretization.RowMeaning.{IsLiveOf, InGamma}
@@ -57,7 +57,7 @@ use Rattle.library_sound.proofs.spelling.SpelledRows.{IsSpelled, spelled_stands}
 live_ended : live ≡ ended → ⊥
 live_ended e = cc
 
-module _ {I : Type 0} {l : LatticeOf I} {n : IntegersOf I} {gamma : I → ℤ → Type 0} (o : OrderLaws l) (q : BoundLaws l n gamma) (flow : Flow) (p : HasPremises flow) (limits : Limits) (good : is_well_formed limits flow ≡ true) (naming : Naming) (row : List (Cell I)) (s : Standing) (r : IsReached l n gamma flow naming row s) where
+module _ {I : Type 0} {l : LatticeOf I} {n : IntegersOf I} {gamma : I → ℤ → Type 0} (o : OrderLaws l) (q : BoundLaws l n gamma) (flow : Flow) (p : HasPremises flow) (limits : Limits) (good : is_well_formed limits flow ≡ true) (naming : Naming) (row : List (Cell I)) (s : ProgramState) (r : IsReached l n gamma flow naming row s) where
   module _ (b i offset room : ℕ) (text : List ℕ) (info : BaseInfo) (at : slice_get flow.bases.items b ≡ Some info) (entered : s.bases b ≡ Some i) (declared : info.shape.heap ≡ false) (kind : info.kind ≡ Older → ⊥) (fits : has_room offset room (Some info) ≡ true) (h : SpellsBytes flow b offset room text) where
     abbrev old : Memory
     old = s.world.memory
@@ -156,7 +156,7 @@ module _ {I : Type 0} {l : LatticeOf I} {n : IntegersOf I} {gamma : I → ℤ �
         if_some_good l n gamma flow _ no_violations s r.begun (s.bases b) _ (λ i e. record {
           goes_on = λ t u f.
               let w : World = spelled i offset room text s.world in
-              let now : Standing = record s { at = suc s.at; world = w } in
+              let now : ProgramState = record s { at = suc s.at; world = w } in
               let a : now ≡ t = cc in
               let c : w ≡ u = cc in
               let here : InGammaAfter l n gamma flow (Some (after (slice_get flow.bases.items b))) (record now { world = w }) = record {

@@ -51,7 +51,7 @@ use Rattle.store_sound.proofs.operations.Rereading.{halves}
 use Rattle.memory_model.specs.Effects.LibraryChecks as machine
 use Rattle.memory_model.specs.Effects.StringCalls.{plain, compare_strings, order_in}
 use Rattle.memory_model.specs.Effects.Worlds.{World, Why, Reply, goes, stops, behind, stopped_by, Left, Stuck, Violated}
-use Rattle.semantics.specs.CfgMachine.FlowStates.{Standing, and_value, values_of}
+use Rattle.semantics.specs.CfgMachine.FlowStates.{ProgramState, and_value, values_of}
 use Rattle.store_sound.specs.Concretization.SoundMemory.{IsPointerIn, IsWithin}
 use Rattle.store_sound.specs.Concretization.ValueMeaning.{Naming, InGammaPointer, InGammaScalar}
 use Rattle.store_sound.specs.Concretization.Coverage.{state_of}
@@ -106,7 +106,7 @@ order_small [] ds = (omega (arith, ints), omega (arith, ints))
 order_small (c ∷ cs) [] = (omega (arith, ints), omega (arith, ints))
 order_small (c ∷ cs) (d ∷ ds) = order_by _ _ (order_in cs ds) (order_small cs ds)
 
-module _ {I : Type 0} {l : LatticeOf I} {n : IntegersOf I} {gamma : I → ℤ → Type 0} (o : OrderLaws l) (q : BoundLaws l n gamma) (flow : Flow) (p : HasPremises flow) (naming : Naming) (row : List (Cell I)) (s : Standing) (r : IsReached l n gamma flow naming row s) (to : Option ℕ) (has : has_result (names_of flow) to ≡ true) (newest : Option ℕ) where
+module _ {I : Type 0} {l : LatticeOf I} {n : IntegersOf I} {gamma : I → ℤ → Type 0} (o : OrderLaws l) (q : BoundLaws l n gamma) (flow : Flow) (p : HasPremises flow) (naming : Naming) (row : List (Cell I)) (s : ProgramState) (r : IsReached l n gamma flow naming row s) (to : Option ℕ) (has : has_result (names_of flow) to ≡ true) (newest : Option ℕ) where
   abbrev Good : Plan I → Reply (Option Scalar) → Type 0
   Good plan reply = GoodPlan q flow p naming row s r to has newest plan reply
 
@@ -407,7 +407,7 @@ module _ {I : Type 0} {l : LatticeOf I} {n : IntegersOf I} {gamma : I → ℤ �
   by_name f.Strcmp h items wanted (pointer m ∷ (pointer k ∷ [])) e = compare_good items wanted (pointer m ∷ (pointer k ∷ [])) e m k refl refl
   by_name _ h items wanted vs e = absurd h
 
-module _ {I : Type 0} {l : LatticeOf I} {n : IntegersOf I} {gamma : I → ℤ → Type 0} (o : OrderLaws l) (q : BoundLaws l n gamma) (flow : Flow) (p : HasPremises flow) (naming : Naming) (row : List (Cell I)) (s : Standing) (r : IsReached l n gamma flow naming row s) where
+module _ {I : Type 0} {l : LatticeOf I} {n : IntegersOf I} {gamma : I → ℤ → Type 0} (o : OrderLaws l) (q : BoundLaws l n gamma) (flow : Flow) (p : HasPremises flow) (naming : Naming) (row : List (Cell I)) (s : ProgramState) (r : IsReached l n gamma flow naming row s) where
   pub string_call_sound : (to : Option ℕ) (name : LibFn) (arguments : _) (newest size : Option ℕ) → ReadsStrings name → fits_operation (names_of flow) (op.Library to name arguments newest size) ≡ true → StepIsSound l n gamma flow row (op.Library to name arguments newest size) s
   unfolding operate call_step operation_violations
   string_call_sound to name arguments newest size is fits =

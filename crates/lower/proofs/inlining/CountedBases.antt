@@ -16,7 +16,7 @@ use Rattle.lower_tables.specs.Counts.FirstOver.{over, or_else, first_over, pool}
 use Rattle.lower_objects.specs.Counts.PieceCounts.{counts_of}
 use Rattle.lower_objects.specs.Counts.SharedObjects.{all_bases, all_visited, none_visited, shared_bases}
 use Rattle.lower_templates.specs.Views.ProgramViews.{FlowView}
-use Rattle.lower.specs.Inlining.Openings.{whole, program}
+use Rattle.lower.specs.Inlining.Inlinings.{whole, program}
 use Rattle.lower.specs.Inlining.Lowerings.{IsLowering}
 use Rattle.lower.specs.Inlining.AsCounted.{all_mentions, AreRecorded, HasNoMore, HasFew}
 use Rattle.lower.proofs.inlining.PieceExtents.{capped_left, capped_right}

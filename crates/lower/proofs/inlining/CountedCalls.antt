@@ -4,13 +4,13 @@ use Rattle.c_layout.specs.CheckedUnits.{FunctionView, UnitView}
 use Rattle.lower_templates.specs.Worklist.Pieces.{PieceView, Do, DoIfUsed, End, Mark, Call, TemplateView}
 use Rattle.lower_objects.specs.declared.counts.function_counts.FunctionCounts.{FunctionCounts}
 use Rattle.lower_objects.specs.Counts.PieceCounts.{extent, if_used}
-use Rattle.lower_tables.specs.Counts.SettledTemplates.{NamesView, SettlingView, adds_nothing, renamed, renamed_end, is_last, with_renamed, with_if, with_all, nothing_settled, renaming, settled}
-use Rattle.lower_tables.specs.Counts.Preparations.{IsTemplateOf, Calls, Reaches, further, is_there, are_counted, counts_from, counts, IsSettled, IsPrepared}
-use Rattle.lower_tables.proofs.counts.OneCount.{one_count, one_settled}
+use Rattle.lower_tables.specs.Counts.NormalizedTemplates.{NamesView, SettlingView, adds_nothing, renamed, renamed_end, is_last, with_renamed, with_if, with_all, nothing_normalized, renaming, normalized}
+use Rattle.lower_tables.specs.Counts.Preparations.{IsTemplateOf, Calls, Reaches, further, is_there, are_counted, counts_from, counts, IsNormalized, IsPrepared}
+use Rattle.lower_tables.proofs.counts.OneCount.{one_count, one_normalized}
 use Rattle.lower.specs.TemplateLaws.PieceOrder.{AreFollowed}
 use Rattle.lower.proofs.template_laws.TemplateOrder.{template_followed}
-use Rattle.lower.proofs.template_laws.SettledOrder.{settled_followed}
-use Rattle.lower.specs.Inlining.Openings.{joined, template_at}
+use Rattle.lower.proofs.template_laws.NormalizedOrder.{normalized_followed}
+use Rattle.lower.specs.Inlining.Inlinings.{joined, template_at}
 use Rattle.lower.proofs.inlining.PieceExtents.{CountsOf}
 
 -- what holds of each function that pieces call
@@ -63,8 +63,8 @@ called_all P table n [] g each all = all
 called_all P table n (p ∷ ps) g (one, each) all = called_all P table n ps (with_if table n p g) each (called_if P table n p g one all)
 
 -- pieces that are settled call what was called
-settled_calls : (P : ℕ → Type 0) (table : List (Option FunctionCounts)) (t : TemplateView) → AllCalled P t.pieces → AllCalled P (settled table t).pieces
-settled_calls P table t each = called_all P table (renaming table t.pieces t.labels) t.pieces nothing_settled each tt
+normalized_calls : (P : ℕ → Type 0) (table : List (Option FunctionCounts)) (t : TemplateView) → AllCalled P t.pieces → AllCalled P (normalized table t).pieces
+normalized_calls P table t each = called_all P table (renaming table t.pieces t.labels) t.pieces nothing_normalized each tt
 
 are_there : (table : List (Option FunctionCounts)) (ps : List PieceView) → AllCalled (λ m. is_there (slice_get table m) ≡ true) ps → are_counted table ps ≡ true
 are_there table [] each = refl
@@ -80,7 +80,7 @@ pub record IsKnown (u : UnitView) (templates : List (Option TemplateView)) (tabl
   pub plain : TemplateView
   pub template : TemplateView
   pub is_template : IsTemplateOf u n function plain
-  pub settles : template ≡ settled table plain
+  pub settles : template ≡ normalized table plain
   pub is_there : template_at templates n ≡ Some template
   pub calls : AllCalled (Reaches u) template.pieces
   pub followed : AreFollowed template.pieces
@@ -89,8 +89,8 @@ pub record IsKnown (u : UnitView) (templates : List (Option TemplateView)) (tabl
   pub made : counts ≡ counts_from u n function plain table
   pub counted : CountsOf table template.pieces counts
 
-counts_of_settled : (u : UnitView) (n : ℕ) (f : FunctionView) (t s : TemplateView) (table : List (Option FunctionCounts)) (c : FunctionCounts) → c ≡ counts_from u n f t table → s ≡ settled table t → CountsOf table s.pieces c
-counts_of_settled u n f t s table c is same = record {
+counts_of_normalized : (u : UnitView) (n : ℕ) (f : FunctionView) (t s : TemplateView) (table : List (Option FunctionCounts)) (c : FunctionCounts) → c ≡ counts_from u n f t table → s ≡ normalized table t → CountsOf table s.pieces c
+counts_of_normalized u n f t s table c is same = record {
   from_empty = ap (λ k. k.from_empty) is ∙ ap (λ r. extent table r.pieces true) (sym same);
   from_begun = ap (λ k. k.from_begun) is ∙ ap (λ r. extent table r.pieces false) (sym same);
   if_used = ap (λ k. k.if_used) is ∙ ap (λ r. if_used r.pieces 0) (sym same);
@@ -99,12 +99,12 @@ counts_of_settled u n f t s table c is same = record {
 pub known : (u : UnitView) (templates : List (Option TemplateView)) (table : List (Option FunctionCounts)) (n : ℕ) → IsPrepared u templates table → Reaches u n → IsKnown u templates table n
 known u templates table n prepared reached =
     let (s, c, there, is) = prepared.all n reached in
-    let x = prepared.are_settled n s there in
+    let x = prepared.are_normalized n s there in
     let reaches : (m : ℕ) → Calls x.template.pieces m → Reaches u m = λ m calls. further n m x.function x.template reached x.is_template calls in
     let each = all_called (Reaches u) x.template.pieces reaches in
     let all_there = are_there table x.template.pieces (all_called (λ m. is_there (slice_get table m) ≡ true) x.template.pieces (λ m calls. counted_at (reaches m calls))) in
-    let here : IsSettled u n (settled table x.template) = record { function = x.function; template = x.template; table = table; is_template = x.is_template; few = x.few; reached = reached; all_counted = all_there; are_counts = prepared.are_counts; settles = refl } in
-    let same = one_settled u n s (settled table x.template) x here in
+    let here : IsNormalized u n (normalized table x.template) = record { function = x.function; template = x.template; table = table; is_template = x.is_template; few = x.few; reached = reached; all_counted = all_there; are_counts = prepared.are_counts; settles = refl } in
+    let same = one_normalized u n s (normalized table x.template) x here in
     let made = one_count u n c (counts_from u n x.function x.template table) (prepared.are_counts n c is) (counts n x.function x.template table x.is_template all_there prepared.are_counts) in
     record {
       function = x.function;
@@ -113,12 +113,12 @@ known u templates table n prepared reached =
       is_template = x.is_template;
       settles = same;
       is_there = ap joined there;
-      calls = subst (λ r. AllCalled (Reaches u) r.pieces) (sym same) (settled_calls (Reaches u) table x.template each);
-      followed = subst (λ r. AreFollowed r.pieces) (sym same) (settled_followed table x.template (template_followed u.structs u.model.pointer u.model.int x.function (n == u.entry) x.template x.is_template.is_template));
+      calls = subst (λ r. AllCalled (Reaches u) r.pieces) (sym same) (normalized_calls (Reaches u) table x.template each);
+      followed = subst (λ r. AreFollowed r.pieces) (sym same) (normalized_followed table x.template (template_followed u.structs u.model.pointer u.model.int x.function (n == u.entry) x.template x.is_template.is_template));
       counts = c;
       is_counted = is;
       made = made;
-      counted = counts_of_settled u n x.function x.template s table c made same;
+      counted = counts_of_normalized u n x.function x.template s table c made same;
     }
   where
     counted_at : {m : ℕ} → Reaches u m → is_there (slice_get table m) ≡ true

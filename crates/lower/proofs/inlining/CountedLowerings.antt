@@ -20,9 +20,9 @@ use Rattle.lower_objects.specs.Counts.PieceCounts.{nothing, counts_of, extent}
 use Rattle.lower_tables.specs.Counts.Preparations.{begun, IsPrepared}
 use Rattle.lower.specs.TemplateLaws.PieceOrder.{ends_block}
 use Rattle.lower.proofs.template_laws.TemplateOrder.{entry_ends}
-use Rattle.lower.proofs.template_laws.SettledOrder.{settled_ends}
+use Rattle.lower.proofs.template_laws.NormalizedOrder.{normalized_ends}
 use Rattle.lower_templates.specs.Views.ProgramViews.{BlockView, EdgeView, FlowView}
-use Rattle.lower.specs.Inlining.Openings.{Made, Opened, is_none, nothing_made, whole, unfinished, head_set, head_if, with_heads, resolved, program}
+use Rattle.lower.specs.Inlining.Inlinings.{Made, Inlined, is_none, nothing_made, whole, unfinished, head_set, head_if, with_heads, resolved, program}
 use Rattle.lower.specs.Inlining.Lowerings.{IsLowering}
 use Rattle.lower.specs.Inlining.AsCounted.{all_instructions, IsAsCounted, IsWithin}
 use Rattle.lower.proofs.inlining.WellMadeHeads.{length_heads}
@@ -59,10 +59,10 @@ entry_empty u ts table k =
     let is_entry : (u.entry == u.entry) ≡ true = eq-eqb u.entry u.entry refl in
     let is = subst (λ b. IsTemplate u.structs u.model.pointer u.model.int k.function b k.plain) is_entry k.is_template.is_template in
     let plain = entry_ends u.structs u.model.pointer u.model.int k.function k.plain is in
-    let last = ap (λ t. ends_block t.pieces) k.settles ∙ settled_ends table k.plain plain in
+    let last = ap (λ t. ends_block t.pieces) k.settles ∙ normalized_ends table k.plain plain in
     ends_empty table false k.template.pieces (nothing true) (λ e. refl) last
 
-finished : (table : List (Option FunctionCounts)) (x : Opened) → x.stack ≡ [] → extent_of x.program ≡ all_at_end table x
+finished : (table : List (Option FunctionCounts)) (x : Inlined) → x.stack ≡ [] → extent_of x.program ≡ all_at_end table x
 finished table x ends = ap (λ stack. at_end table stack (extent_of x.program)) (sym ends)
 
 whole_counts : (u : UnitView) (ts : List (Option TemplateView)) (table : List (Option FunctionCounts)) (f : FunctionCounts) (at : Place) → IsPrepared u ts table → slice_get table u.entry ≡ Some (Some f) → unfinished u ts at ≡ [] → Whole u f (whole u ts at).program

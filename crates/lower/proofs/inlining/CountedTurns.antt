@@ -15,8 +15,8 @@ use Rattle.lower_objects.specs.Counts.PieceCounts.{counts_of, counted}
 use Rattle.lower_tables.specs.Counts.Preparations.{Reaches, IsPrepared}
 use Rattle.lower_templates.specs.Views.ProgramViews.{BlockView}
 use Rattle.lower.specs.Inlining.MovedActs.{own_base}
-use Rattle.lower.specs.Inlining.Openings as o
-use Rattle.lower.specs.Inlining.Openings.{Made, CopyView, Placed, Opened, placed, opened, is_none}
+use Rattle.lower.specs.Inlining.Inlinings as o
+use Rattle.lower.specs.Inlining.Inlinings.{Made, CopyView, Placed, Inlined, placed, inlined, is_none}
 use Rattle.lower.specs.Inlining.AsCounted.{all_instructions}
 use Rattle.lower.proofs.inlining.PieceExtents.{same_extent, capped_left, IsCapped, at_cond, done_piece, done_pieces, done_call}
 use Rattle.lower.proofs.inlining.CountedCalls.{CalledIs, AllCalled, IsKnown, known}
@@ -167,7 +167,7 @@ abbrev pub at_end : List (Option FunctionCounts) → List CopyView → BlockExte
 at_end table [] e = e
 at_end table (c ∷ cs) e = at_end table cs (done_pieces table c.used c.rest e)
 
-abbrev pub all_at_end : List (Option FunctionCounts) → Opened → BlockExtent
+abbrev pub all_at_end : List (Option FunctionCounts) → Inlined → BlockExtent
 all_at_end table x = at_end table x.stack (extent_of x.program)
 
 back : (table : List (Option FunctionCounts)) (q : PieceView) (stack : List CopyView) (p r : Placed) → Adds table q p r → all_at_end table (o.back_in stack r) ≡ at_end table stack (done_pieces table p.within.used p.within.rest (done_piece table p.within.used q (extent_of p.program)))
@@ -178,7 +178,7 @@ abbrev pub AllReached : UnitView → List CopyView → Type 0
 AllReached u [] = Unit {0}
 AllReached u (c ∷ cs) = AllCalled (Reaches u) c.rest × AllReached u cs
 
-pub record Turned (u : UnitView) (table : List (Option FunctionCounts)) (e : BlockExtent) (x : Opened) : Type 0 where
+pub record Turned (u : UnitView) (table : List (Option FunctionCounts)) (e : BlockExtent) (x : Inlined) : Type 0 where
   pub counted : all_at_end table x ≡ e
   pub reached : AllReached u x.stack
 
@@ -189,7 +189,7 @@ turned_back u table q stack p r a calls reached = record {
 }
 
 -- a call of a function that is known
-entered : (u : UnitView) (ts : List (Option TemplateView)) (table : List (Option FunctionCounts)) (c : OwnCall) (stack : List CopyView) (m : Made) (k : IsKnown u ts table c.function) → o.with_call u ts c stack m ≡ opened (o.copied c (length m.labels) k.function k.template ∷ stack) (o.with_labels k.template.labels m)
+entered : (u : UnitView) (ts : List (Option TemplateView)) (table : List (Option FunctionCounts)) (c : OwnCall) (stack : List CopyView) (m : Made) (k : IsKnown u ts table c.function) → o.with_call u ts c stack m ≡ inlined (o.copied c (length m.labels) k.function k.template ∷ stack) (o.with_labels k.template.labels m)
 entered u ts table c stack m k = λ i. o.entered c stack m (k.is_template.stands i) (k.is_there i)
 
 turned_call : (u : UnitView) (ts : List (Option TemplateView)) (table : List (Option FunctionCounts)) (c : OwnCall) (stack : List CopyView) (m : Made) → IsKnown u ts table c.function → AllReached u stack → Turned u table (at_end table stack (with_call (extent_of m) (counted table c.function) c.used)) (o.with_call u ts c stack m)

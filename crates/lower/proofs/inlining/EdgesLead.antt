@@ -16,11 +16,11 @@ use Rattle.lower_tables.specs.Counts.Preparations.{begun, IsPrepared}
 use Rattle.lower_functions.specs.Functions.Functions.{IsTemplate}
 use Rattle.lower.specs.TemplateLaws.PieceOrder.{is_end, last_ends, ends_block}
 use Rattle.lower.proofs.template_laws.TemplateOrder.{entry_ends}
-use Rattle.lower.proofs.template_laws.SettledOrder.{settled_ends}
+use Rattle.lower.proofs.template_laws.NormalizedOrder.{normalized_ends}
 use Rattle.lower_templates.specs.Views.ProgramViews.{EdgeView, FlowView}
 use Rattle.lower.specs.Inlining.MovedActs.{own_base}
-use Rattle.lower.specs.Inlining.Openings as o
-use Rattle.lower.specs.Inlining.Openings.{Made, CopyView, Placed, Opened, placed, is_none}
+use Rattle.lower.specs.Inlining.Inlinings as o
+use Rattle.lower.specs.Inlining.Inlinings.{Made, CopyView, Placed, Inlined, placed, is_none}
 use Rattle.lower.specs.Inlining.Lowerings.{IsLowering}
 use Rattle.lower.specs.Inlining.WellMade.{AllLead}
 use Rattle.lower.proofs.inlining.WellMadeEdges.{cond_keeps}
@@ -145,7 +145,7 @@ rest_any false rest cs g = g
 rest_any true rest cs g = at_rest rest cs (λ h. good_more cs h) g
 
 -- what every turn leaves
-record Going (x : Opened) : Type 0 where
+record Going (x : Inlined) : Type 0 where
   is_ended : Bool
   led : Led x.program
   leads : is_ended ≡ true → Leads x.program
@@ -215,7 +215,7 @@ entry_last : (u : UnitView) (ts : List (Option TemplateView)) (table : List (Opt
 entry_last u ts table k =
     let is_entry : (u.entry == u.entry) ≡ true = eq-eqb u.entry u.entry refl in
     let is = subst (λ b. IsTemplate u.structs u.model.pointer u.model.int k.function b k.plain) is_entry k.is_template.is_template in
-    ap (λ t. ends_block t.pieces) k.settles ∙ settled_ends table k.plain (entry_ends u.structs u.model.pointer u.model.int k.function k.plain is)
+    ap (λ t. ends_block t.pieces) k.settles ∙ normalized_ends table k.plain (entry_ends u.structs u.model.pointer u.model.int k.function k.plain is)
 
 going_whole : (u : UnitView) (ts : List (Option TemplateView)) (table : List (Option FunctionCounts)) (at : Place) → IsPrepared u ts table → Going (o.whole u ts at)
 going_whole u ts table at prepared =
@@ -230,7 +230,7 @@ going_whole u ts table at prepared =
     let good = subst (λ rest. last_ends false rest ≡ true) (sym same.rest) (entry_last u ts table k) in
     subst Going (sym is) (going_run u ts (2 ^ 64 - 1) false (p.within ∷ []) p.program led (λ e. not_ended e) good)
 
-whole_leads : (x : Opened) → Going x → x.stack ≡ [] → Leads x.program
+whole_leads : (x : Inlined) → Going x → x.stack ≡ [] → Leads x.program
 whole_leads x g ends = g.leads (subst (Good g.is_ended) ends g.good)
 
 lead_resolved : (count : ℕ) (labels : List ℕ) (es : List EdgeView) → 0 < count → AllUnder count labels → AllLead count (o.resolved labels es)

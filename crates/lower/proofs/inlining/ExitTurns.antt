@@ -3,7 +3,7 @@ use Rattle.std.proofs.Common.{◌≡◌, ◌<◌, ◌+◌, ℕ, zero, suc, List,
 use Rattle.c_layout.specs.CheckedUnits.{UnitView}
 use Rattle.lower_templates.specs.Worklist.Pieces.{exit_view}
 use Rattle.lower_templates.specs.declared.worklist.template_pieces.Exit.{Exit}
-use Rattle.lower.specs.Inlining.Openings.{Placed, with_exit, with_exits}
+use Rattle.lower.specs.Inlining.Inlinings.{Placed, with_exit, with_exits}
 
 rest_suc : {A B : Type 0} (view : A → B) (xs : List A) (n : ℕ) (x : A) → n < length xs → x ≡ get_or xs n x → map view (drop n xs) ≡ view x ∷ map view (drop (suc n) xs)
 rest_suc view [] n x less is = absurd (omega arith)

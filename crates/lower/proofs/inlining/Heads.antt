@@ -2,7 +2,7 @@
 use Rattle.std.proofs.Common.{◌≡◌, ℕ, zero, suc, ◌≤◌, true, List, [], ◌∷◌, Some, length, map, refl, arith, ap}
 use Rattle.std.specs.List.{slice_get, slice_set}
 use Rattle.cfg.specs.declared.basic_blocks.BasicBlock.{BasicBlock}
-use Rattle.lower.specs.Inlining.Openings.{head_set}
+use Rattle.lower.specs.Inlining.Inlinings.{head_set}
 use Rattle.lower_templates.specs.Views.ProgramViews.{block}
 
 abbrev pub noted : BasicBlock → BasicBlock

@@ -8,7 +8,7 @@ use Rattle.lower_templates.specs.Worklist.Pieces.{TemplateView}
 use Rattle.lower_tables.specs.declared.counts.count_limits.UnitCounts.{UnitCounts}
 use Rattle.lower_tables.specs.Counts.FirstOver.{over, or_else, first_over, pool}
 use Rattle.lower_templates.specs.Views.ProgramViews.{FlowView}
-use Rattle.lower.specs.Inlining.Openings.{ProgramView, program, unfinished}
+use Rattle.lower.specs.Inlining.Inlinings.{ProgramView, program, unfinished}
 use Rattle.lower.specs.Inlining.Lowerings.{inputs, input, lowered, refusal_of, IsCounted, IsLowering}
 
 pub next_input : (f : FunctionView) (n : ℕ) → inputs f (n + 1) ≡ inputs f n ++ input f n ∷ []

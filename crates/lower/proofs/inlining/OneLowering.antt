@@ -11,8 +11,8 @@ use Rattle.lower_objects.specs.declared.counts.function_counts.FunctionCounts.{F
 use Rattle.lower_tables.specs.Counts.FirstOver.{unit_counts}
 use Rattle.lower_objects.specs.Counts.SharedObjects.{shared_bases}
 use Rattle.lower_tables.specs.Counts.Preparations.{IsPrepared}
-use Rattle.lower_tables.proofs.counts.OneCount.{one_count, one_settled}
-use Rattle.lower.specs.Inlining.Openings.{program}
+use Rattle.lower_tables.proofs.counts.OneCount.{one_count, one_normalized}
+use Rattle.lower.specs.Inlining.Inlinings.{program}
 use Rattle.lower_templates.specs.Views.ProgramViews.{FlowView}
 use Rattle.lower.specs.Inlining.AsCounted.{HasJust}
 use Rattle.lower.specs.Inlining.Lowerings.{lowered, refusal_of, IsCounted, IsLowering, IsRefusal}
@@ -38,9 +38,9 @@ same_lists (x ∷ xs) (y ∷ ys) same a b =
 
 covers : (u : UnitView) (ts ss : List (Option TemplateView)) (a b : List (Option FunctionCounts)) → IsPrepared u ts a → IsPrepared u ss b → Covers ts ss
 covers u ts ss a b p q n t is =
-    let settled = p.are_settled n t is in
-    let (s, c, there, counted) = q.all n settled.reached in
-    subst (λ r. slice_get ss n ≡ Some (Some r)) (one_settled u n s t (q.are_settled n s there) settled) there
+    let normalized = p.are_normalized n t is in
+    let (s, c, there, counted) = q.all n normalized.reached in
+    subst (λ r. slice_get ss n ≡ Some (Some r)) (one_normalized u n s t (q.are_normalized n s there) normalized) there
 
 one_preparation : (u : UnitView) (ts ss : List (Option TemplateView)) (a b : List (Option FunctionCounts)) → IsPrepared u ts a → IsPrepared u ss b → ts ≡ ss
 one_preparation u ts ss a b p q = same_lists ts ss (p.numbered ∙ sym q.numbered) (covers u ts ss a b p q) (covers u ss ts b a q p)

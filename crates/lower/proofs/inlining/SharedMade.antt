@@ -18,8 +18,8 @@ use Rattle.lower_objects.specs.Counts.SharedObjects.{literal_type, Sharing, base
 use Rattle.lower.specs.Inlining.MovedActs.{own_base}
 use Rattle.lower_tables.specs.Bases.BaseTables as bases
 use Rattle.lower_tables.specs.Bases.BaseTables.{TableView, info, added, found_in, known, local_or, literal_made, literal_or, object_made, object_or, with_shared, brought, with_all, base}
-use Rattle.lower.specs.Inlining.Openings as o
-use Rattle.lower.specs.Inlining.Openings.{Made, CopyView, Placed, Opened, placed, is_none, name_at, joined, template_at}
+use Rattle.lower.specs.Inlining.Inlinings as o
+use Rattle.lower.specs.Inlining.Inlinings.{Made, CopyView, Placed, Inlined, placed, is_none, name_at, joined, template_at}
 use Rattle.lower.proofs.inlining.WellMadeEdges.{cond_keeps}
 use Rattle.lower.proofs.inlining.NotedSlots.{Within, set_within, slots_weight, new_weight, within_weight}
 use Rattle.lower.proofs.inlining.WeighedBases.{Weights, is_own, shared_weight, shared_more, noted, first_of, new_at, noted_set}
@@ -221,29 +221,29 @@ module _ (u : UnitView) (w : Weights u) (ts : List (Option TemplateView)) (s : S
   AllFine [] = Unit {0}
   AllFine (c ∷ cs) = AllAllowed s c.names × AllFine cs
 
-  abbrev FineOpened : Opened → Type 0
-  FineOpened x = Counted x.program.bases × AllFine x.stack
+  abbrev FineInlined : Inlined → Type 0
+  FineInlined x = Counted x.program.bases × AllFine x.stack
 
-  fine_entered : (c : OwnCall) (stack : List CopyView) (m : Made) (f : Option FunctionView) (t : Option TemplateView) → template_at ts c.function ≡ t → Counted m.bases → AllFine stack → FineOpened (o.entered c stack m f t)
+  fine_entered : (c : OwnCall) (stack : List CopyView) (m : Made) (f : Option FunctionView) (t : Option TemplateView) → template_at ts c.function ≡ t → Counted m.bases → AllFine stack → FineInlined (o.entered c stack m f t)
   fine_entered c stack m None t is k all = (k, all)
   fine_entered c stack m (Some f) None is k all = (k, all)
   fine_entered c stack m (Some f) (Some t) is k all = (k, (template_allowed s ts c.function t v.roots is, all))
 
-  fine_call : (c : OwnCall) (stack : List CopyView) (m : Made) → Counted m.bases → AllFine stack → FineOpened (o.with_call u ts c stack m)
+  fine_call : (c : OwnCall) (stack : List CopyView) (m : Made) → Counted m.bases → AllFine stack → FineInlined (o.with_call u ts c stack m)
   fine_call c stack m k all = fine_entered c stack m (slice_get u.functions c.function) (template_at ts c.function) refl k all
 
-  fine_turn : (q : PieceView) (c : CopyView) (stack : List CopyView) (m : Made) → Counted m.bases → AllAllowed s c.names → AllFine stack → FineOpened (o.turn u ts q c stack m)
+  fine_turn : (q : PieceView) (c : CopyView) (stack : List CopyView) (m : Made) → Counted m.bases → AllAllowed s c.names → AllFine stack → FineInlined (o.turn u ts q c stack m)
   fine_turn (Do t) c stack m k own all = let f = fine_piece (Do t) (placed m c) (k, own) in (f.0, (f.1, all))
   fine_turn (DoIfUsed t) c stack m k own all = let f = fine_piece (DoIfUsed t) (placed m c) (k, own) in (f.0, (f.1, all))
   fine_turn (End t exits) c stack m k own all = let f = fine_piece (End t exits) (placed m c) (k, own) in (f.0, (f.1, all))
   fine_turn (Mark label) c stack m k own all = let f = fine_piece (Mark label) (placed m c) (k, own) in (f.0, (f.1, all))
   fine_turn (Call call) c stack m k own all = fine_call (o.inner call c) (c ∷ stack) m k (own, all)
 
-  fine_next : (qs : List PieceView) (c : CopyView) (stack : List CopyView) (m : Made) → Counted m.bases → AllAllowed s c.names → AllFine stack → FineOpened (o.next_piece u ts qs c stack m)
+  fine_next : (qs : List PieceView) (c : CopyView) (stack : List CopyView) (m : Made) → Counted m.bases → AllAllowed s c.names → AllFine stack → FineInlined (o.next_piece u ts qs c stack m)
   fine_next [] c stack m k own all = (k, all)
   fine_next (q ∷ qs) c stack m k own all = fine_turn q (o.with_rest qs c) stack m k own all
 
-  fine_run : (n : ℕ) (stack : List CopyView) (m : Made) → Counted m.bases → AllFine stack → FineOpened (o.run u ts n stack m)
+  fine_run : (n : ℕ) (stack : List CopyView) (m : Made) → Counted m.bases → AllFine stack → FineInlined (o.run u ts n stack m)
   fine_run zero stack m k all = (k, all)
   fine_run (suc n) [] m k all = (k, all)
   fine_run (suc n) (c ∷ stack) m k (own, all) =
@@ -256,7 +256,7 @@ module _ (u : UnitView) (w : Weights u) (ts : List (Option TemplateView)) (s : S
       let before = fine_parameters n p f in
       (counted_base q.within.function (Local n) q.within.locals q.program.bases tt before.0, before.1)
 
-  fine_entry : (stack : List CopyView) (m : Made) → Counted m.bases → AllFine stack → FineOpened (o.entry_run u ts stack m)
+  fine_entry : (stack : List CopyView) (m : Made) → Counted m.bases → AllFine stack → FineInlined (o.entry_run u ts stack m)
   fine_entry [] m k all = (k, all)
   fine_entry (c ∷ stack) m k (own, all) =
       let p = o.with_parameters u c.function.parameters (placed m c) in

@@ -17,9 +17,9 @@ use Rattle.lower_tables.specs.Counts.Preparations.{named_parameters, Reaches, be
 use Rattle.lower.specs.TemplateLaws.NamedBases.{named_in, named_in_all, AllBelow, site_weight, all_sites, sites_named, AreNamed}
 use Rattle.lower.proofs.template_laws.NamedLists.{below_append, below_left, below_right, sites_append, named_append}
 use Rattle.lower.proofs.template_laws.TemplateNames.{template_named}
-use Rattle.lower.proofs.template_laws.SettledNames.{settled_named}
-use Rattle.lower.specs.Inlining.Openings as o
-use Rattle.lower.specs.Inlining.Openings.{Made, CopyView, Placed, Opened, placed, opened, name_at}
+use Rattle.lower.proofs.template_laws.NormalizedNames.{normalized_named}
+use Rattle.lower.specs.Inlining.Inlinings as o
+use Rattle.lower.specs.Inlining.Inlinings.{Made, CopyView, Placed, Inlined, placed, inlined, name_at}
 use Rattle.lower.proofs.inlining.PieceExtents.{capped_left, capped_right}
 use Rattle.lower.proofs.inlining.CountedCalls.{AllCalled, IsKnown, known}
 use Rattle.lower.proofs.inlining.CountedTurns.{AllReached, turned_next}
@@ -225,7 +225,7 @@ module _ (u : UnitView) (w : Weights u) where
 
   known_named : (ts : List (Option TemplateView)) (table : List (Option FunctionCounts)) (n : ℕ) (k : IsKnown u ts table n) → AreNamed k.template
   known_named ts table n k =
-      subst AreNamed (sym k.settles) (settled_named table k.plain (template_named u.structs u.model.pointer u.model.int k.function (n == u.entry) k.plain k.is_template.is_template))
+      subst AreNamed (sym k.settles) (normalized_named table k.plain (template_named u.structs u.model.pointer u.model.int k.function (n == u.entry) k.plain k.is_template.is_template))
 
   -- names that are done, behind some of the parameters, weigh no more than was counted
   done_within : (f : FunctionView) (t : TemplateView) (used : Bool) (front : List NameView) (n : ℕ) → AreNamed t → AllHad (first_locals n ++ t.names) front → all_sites w.site front ≡ 0
@@ -255,7 +255,7 @@ module _ (u : UnitView) (w : Weights u) where
       sum : (a b d k : ℕ) → a ≡ b → b ≤ d → a + k ≤ d + k
       sum a b d k p q = omega arith
 
-  entered : (ts : List (Option TemplateView)) (table : List (Option FunctionCounts)) (c : OwnCall) (stack : List CopyView) (m : Made) (k : IsKnown u ts table c.function) → o.with_call u ts c stack m ≡ opened (o.copied c (length m.labels) k.function k.template ∷ stack) (o.with_labels k.template.labels m)
+  entered : (ts : List (Option TemplateView)) (table : List (Option FunctionCounts)) (c : OwnCall) (stack : List CopyView) (m : Made) (k : IsKnown u ts table c.function) → o.with_call u ts c stack m ≡ inlined (o.copied c (length m.labels) k.function k.template ∷ stack) (o.with_labels k.template.labels m)
   entered ts table c stack m k = λ i. o.entered c stack m (k.is_template.stands i) (k.is_there i)
 
   -- a call makes no more than was counted
@@ -301,7 +301,7 @@ module _ (u : UnitView) (w : Weights u) where
 
   -- so many turns
   run_weight : (ts : List (Option TemplateView)) (table : List (Option FunctionCounts)) (n : ℕ) (stack : List CopyView) (m : Made) → IsPrepared u ts table → AllReached u stack
-      → capped (whole_weight u w table (o.run u ts n stack m)) ≤ capped (whole_weight u w table (opened stack m))
+      → capped (whole_weight u w table (o.run u ts n stack m)) ≤ capped (whole_weight u w table (inlined stack m))
   run_weight ts table zero stack m prepared reached = at_most _ _ (self _)
     where
       self : (a : ℕ) → a ≤ a

@@ -14,8 +14,8 @@ use Rattle.lower_objects.specs.Counts.BaseCounts.{bases_of}
 use Rattle.lower.specs.TemplateLaws.NamedBases.{maybe, named_by, named_in_side, named_in_test, named_on_way, named_on_exits}
 use Rattle.lower.specs.Inlining.MovedActs.{own_base}
 use Rattle.lower_tables.specs.Bases.BaseTables.{base}
-use Rattle.lower.specs.Inlining.Openings as o
-use Rattle.lower.specs.Inlining.Openings.{Made, CopyView, Placed, Opened, placed, opened, name_at, is_none}
+use Rattle.lower.specs.Inlining.Inlinings as o
+use Rattle.lower.specs.Inlining.Inlinings.{Made, CopyView, Placed, Inlined, placed, inlined, name_at, is_none}
 use Rattle.lower.proofs.inlining.CountedCalls.{CalledIs}
 use Rattle.lower.proofs.inlining.NotedSlots.{adds_all, after_all, adds_append, after_append}
 use Rattle.lower.proofs.inlining.WeighedBases.{Weights, own_weight, noted, object_of, names_base}
@@ -217,7 +217,7 @@ module _ (u : UnitView) (w : Weights u) where
   copies_weight table (c ∷ cs) = copy_weight table c + copies_weight table cs
 
   -- what is made and what copies still make
-  abbrev pub whole_weight : List (Option FunctionCounts) → Opened → ℕ
+  abbrev pub whole_weight : List (Option FunctionCounts) → Inlined → ℕ
   whole_weight table x = own_weight w.info x.program.bases.bases + copies_weight table x.stack
 
   pub copy_after : (table : List (Option FunctionCounts)) (f : FunctionView) (names xs : List NameView) (p q : Placed) → Naming f names xs p q → copy_weight table q.within ≡ rest_weight table f names p.within.used p.within.rest (after_all (length f.locals) xs (noted p.within.locals))

@@ -3,7 +3,7 @@ use Rattle.std.proofs.Common.{◌≡◌, ℕ, zero, suc, ◌+◌, ◌-◌, Bool,
 use Rattle.std.proofs.lemmas.List.{map-append, length-map}
 use Rattle.lower_templates.specs.Worklist.Acts.{Step}
 use Rattle.lower_templates.specs.Views.ProgramViews.{BlockView, EdgeView}
-use Rattle.lower.specs.Inlining.Openings.{ended_block, resolved_edge, resolved, head_set, head_if, with_heads}
+use Rattle.lower.specs.Inlining.Inlinings.{ended_block, resolved_edge, resolved, head_set, head_if, with_heads}
 use Rattle.lower.specs.Inlining.WellMade.{AllFrom, Leave, head_at}
 
 append_none : {A : Type 0} (xs : List A) → xs ++ [] ≡ xs

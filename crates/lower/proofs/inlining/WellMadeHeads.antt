@@ -3,7 +3,7 @@ use Rattle.std.proofs.Common.{◌≡◌, ◌≢◌, ◌<◌, ◌≤◌, ◌==◌
 use Rattle.std.specs.List.{list_any}
 use Rattle.std.proofs.lemmas.Bool.Decides.{eqb_tells, leb_tells}
 use Rattle.lower_templates.specs.Views.ProgramViews.{BlockView, EdgeView}
-use Rattle.lower.specs.Inlining.Openings.{head_set, head_if, with_heads}
+use Rattle.lower.specs.Inlining.Inlinings.{head_set, head_if, with_heads}
 use Rattle.lower.specs.Inlining.WellMade.{goes_back, head_at}
 
 length_head : (bs : List BlockView) (n : ℕ) → length (head_set bs n) ≡ length bs

@@ -11,8 +11,8 @@ use Rattle.lower_templates.specs.Worklist.Acts.{Act, Jump, Step}
 use Rattle.lower_templates.specs.Worklist.Pieces.{Local, Way, Always, When, Case, Other, NoLine, Line, ExitView, PieceView, Do, DoIfUsed, End, Mark, Call, TemplateView}
 use Rattle.lower_templates.specs.declared.worklist.template_pieces.OwnCall.{OwnCall}
 use Rattle.lower.specs.Inlining.MovedActs.{own_base}
-use Rattle.lower.specs.Inlining.Openings as o
-use Rattle.lower.specs.Inlining.Openings.{Made, CopyView, Placed, Opened, is_none, placed, name_at}
+use Rattle.lower.specs.Inlining.Inlinings as o
+use Rattle.lower.specs.Inlining.Inlinings.{Made, CopyView, Placed, Inlined, is_none, placed, name_at}
 use Rattle.lower_templates.specs.Views.ProgramViews.{FlowView}
 use Rattle.lower.specs.Inlining.Lowerings.{lowered, IsLowering}
 use Rattle.lower.specs.Inlining.WellMade.{goes_back, IsWellMade}

@@ -154,7 +154,7 @@ bal_statement_works s (tree.IfElse e body other) around p bal = search works dep
 bal_statement_works s (tree.While e body) around p bal = search works depth 30
 bal_statement_works s (tree.Do body e) around p bal = search works depth 30
 bal_statement_works {w = w} {start = start} s (tree.For xs first test step body) around p bal =
-    let opened : Balanced w start (with_scope p) = search works in bal_for s (with_scope p).labels xs first test step body (in_scope around p.scopes) (with_scope p) opened
+    let inlined : Balanced w start (with_scope p) = search works in bal_for s (with_scope p).labels xs first test step body (in_scope around p.scopes) (with_scope p) inlined
 bal_statement_works s (tree.Switch at e labels has_default enumerators body) around p bal = bal_switch s at e labels body around p bal
 bal_statement_works s (tree.Case n body) around p bal = search works depth 30
 bal_statement_works s (tree.Default body) around p bal = search works depth 30

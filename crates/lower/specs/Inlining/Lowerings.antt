@@ -20,7 +20,7 @@ use Rattle.lower_objects.specs.Counts.SharedObjects.{shared_bases}
 use Rattle.lower_objects.specs.declared.counts.function_counts.FunctionCounts.{FunctionCounts}
 use Rattle.lower_templates.specs.Views.ProgramViews.{FlowView}
 use Rattle.lower_tables.specs.Bases.InitialBytes.{initial_objects}
-use Rattle.lower.specs.Inlining.Openings.{ProgramView, program, unfinished}
+use Rattle.lower.specs.Inlining.Inlinings.{ProgramView, program, unfinished}
 
 -- the type of an entry's parameter, which is an integer
 abbrev pub input_type : Ty → IntType

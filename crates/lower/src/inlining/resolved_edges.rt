@@ -1,7 +1,7 @@
 //! Where edges lead, and the heads that they make.
 ghost use Rattle.std.specs.Prelude.{◌≡◌, cond, get_or, nat_le, IfOk, map};
 ghost use Rattle.lower_templates.specs.Views.ProgramViews.{block, edge};
-ghost use Rattle.lower.specs.Inlining.Openings as spec;
+ghost use Rattle.lower.specs.Inlining.Inlinings as spec;
 
 use cfg::{BasicBlock, Edge};
 use std::alloc::{AllocError, Global};

@@ -10,13 +10,13 @@ ghost use Rattle.lower_tables.specs.Counts.SizeRefusals.{IsTooLarge};
 ghost use Rattle.lower_preconditions.specs.Objects.PlainObjects.{has_plain_objects};
 ghost use Rattle.lower_preconditions.specs.Units.RegularUnits.{is_regular_unit};
 ghost use Rattle.lower_templates.specs.Views.ProgramViews.{flow_view};
-ghost use Rattle.lower.specs.Inlining.Openings.{program_view};
+ghost use Rattle.lower.specs.Inlining.Inlinings.{program_view};
 ghost use Rattle.lower.specs.Inlining.Lowerings as spec;
 ghost use Rattle.lower.specs.Inlining.Lowerings.{AreUnitCounts, IsLowering, Refuses};
 ghost use Rattle.lower.specs.Inlining.AsCounted.{HasJust};
 
 use crate::inlining::counted_bases::with_counted_bases;
-use crate::inlining::opened_program::{OpenedProgram, opened};
+use crate::inlining::inlined_program::{InlinedProgram, inlined};
 use c_layout::{CType, Checked, Function};
 use cc_base::{Count, IntType, Limits, Stop};
 use cfg::{Flow, ParameterInput};
@@ -82,7 +82,7 @@ fn looked_at_entry(alloc: Global, unit: &Checked) -> Result<&Function, AllocErro
 }
 
 /// How many values a row has.
-fn row_width(made: &OpenedProgram, temps: u64) -> Result<u32, AllocError>
+fn row_width(made: &InlinedProgram, temps: u64) -> Result<u32, AllocError>
     ensures { IfOk result (λ n. n ≡ (program_view made.now).bases.width + temps) }
 {
     let temps = u32::try_from(temps).ok().ok_or(AllocError)?;
@@ -93,7 +93,7 @@ fn flow(
     alloc: Global,
     unit: &Checked,
     entry: &Function,
-    made: OpenedProgram,
+    made: InlinedProgram,
     counts: UnitCounts,
 ) -> Result<Flow, AllocError>
     ensures model { IfOk result (λ f. f.model ≡ unit.now.model) }
@@ -103,7 +103,7 @@ fn flow(
 {
     let width = row_width(&made, counts.temps)?;
     let initial = initial_objects(alloc, unit, &made.bases)?;
-    let OpenedProgram {
+    let InlinedProgram {
         blocks,
         edges,
         bases,
@@ -153,7 +153,7 @@ pub fn lower(alloc: Global, unit: &Checked, limits: &Limits) -> Result<Flow, Sto
     let found = prepared(alloc, unit)?;
     let counts = counted(alloc, unit, &found)?;
     all_within(entry.place, counts, limits)?;
-    let made = opened(alloc, unit, found.templates.as_slice(), entry.place)?;
+    let made = inlined(alloc, unit, found.templates.as_slice(), entry.place)?;
     let width = row_width(&made, counts.temps)?;
     let values = pool_values(counts.blocks, width as u64);
     within(entry.place, Count::Pool, values, limits)?;

@@ -13,9 +13,9 @@ use Rattle.lower_objects.specs.Counts.PieceCounts as pieces
 use Rattle.lower_objects.specs.Counts.PieceCounts.{counts_of, counted, called_temps}
 use Rattle.lower_objects.specs.Counts.BaseCounts as bases
 use Rattle.lower_tables.specs.Counts.FunctionTotals.{is_nothing, function_counts}
-use Rattle.lower_tables.specs.Counts.SettledTemplates as settling
-use Rattle.lower_tables.specs.Counts.SettledTemplates.{NamesView, SettlingView, settled}
-use Rattle.lower_tables.specs.Counts.Preparations.{called, is_counted, are_counted, counts_from, named_parameters, Counts, counts, IsSettled}
+use Rattle.lower_tables.specs.Counts.NormalizedTemplates as settling
+use Rattle.lower_tables.specs.Counts.NormalizedTemplates.{NamesView, SettlingView, normalized}
+use Rattle.lower_tables.specs.Counts.Preparations.{called, is_counted, are_counted, counts_from, named_parameters, Counts, counts, IsNormalized}
 use Rattle.lower_tables.proofs.counts.Preparing.{one_function, one_template, both_true, there_is}
 
 abbrev SameCalled : List (Option FunctionCounts) → List (Option FunctionCounts) → Option ℕ → Type 0
@@ -106,10 +106,10 @@ all_same a b n (p ∷ ps) g (one, same) = all_same a b n ps (settling.with_if a 
 abbrev built : SettlingView → NamesView → TemplateView → TemplateView
 built g n t = record { pieces = g.pieces; names = t.names; labels = n.count }
 
-settled_same : (a b : List (Option FunctionCounts)) (t : TemplateView) → Agree a b t.pieces → settled a t ≡ settled b t
-settled_same a b t same =
-    ap (λ n. built (settling.with_all a n t.pieces settling.nothing_settled) n t) (names_same a b t.pieces (settling.no_names t.labels) same)
-    ∙ ap (λ g. built g (settling.renaming b t.pieces t.labels) t) (all_same a b (settling.renaming b t.pieces t.labels) t.pieces settling.nothing_settled same)
+normalized_same : (a b : List (Option FunctionCounts)) (t : TemplateView) → Agree a b t.pieces → normalized a t ≡ normalized b t
+normalized_same a b t same =
+    ap (λ n. built (settling.with_all a n t.pieces settling.nothing_normalized) n t) (names_same a b t.pieces (settling.no_names t.labels) same)
+    ∙ ap (λ g. built g (settling.renaming b t.pieces t.labels) t) (all_same a b (settling.renaming b t.pieces t.labels) t.pieces settling.nothing_normalized same)
 
 agree_more : (a b : List (Option FunctionCounts)) (ps : List PieceView) (p : PieceView) → Agree a b ps → SameCalled a b (called p) → Agree a b (ps ++ p ∷ [])
 agree_more a b [] p same one = (one, tt)
@@ -137,8 +137,8 @@ agree_all a b table n (p ∷ ps) g (one, same) all = agree_all a b table n ps (s
 -- what depends on the functions that are called depends on nothing else of a table
 counts_same : (u : UnitView) (n : ℕ) (f : FunctionView) (t : TemplateView) (a b : List (Option FunctionCounts)) → Agree a b t.pieces → counts_from u n f t a ≡ counts_from u n f t b
 counts_same u n f t a b same =
-    function_same u.structs u.model.pointer (named_parameters u n f) f (settled a t) a b (agree_all a b a (settling.renaming a t.pieces t.labels) t.pieces settling.nothing_settled same tt)
-    ∙ ap (λ s. function_counts u.structs u.model.pointer f (named_parameters u n f) s b) (settled_same a b t same)
+    function_same u.structs u.model.pointer (named_parameters u n f) f (normalized a t) a b (agree_all a b a (settling.renaming a t.pieces t.labels) t.pieces settling.nothing_normalized same tt)
+    ∙ ap (λ s. function_counts u.structs u.model.pointer f (named_parameters u n f) s b) (normalized_same a b t same)
 
 -- two tables that have counts of all that pieces call agree where no function has two
 agree : (u : UnitView) (a b : List (Option FunctionCounts)) (ps : List PieceView) → are_counted a ps ≡ true → are_counted b ps ≡ true → ((m : ℕ) (c d : FunctionCounts) → slice_get a m ≡ Some (Some c) → slice_get b m ≡ Some (Some d) → c ≡ d) → Agree a b ps
@@ -164,9 +164,9 @@ one_count u n c d (counts _ f t a is all each) (counts _ g s b has every other) 
     let agreed = agree u a b t.pieces all every_t (λ m x y p q. one_count u m x y (each m x p) (other m y q)) in
     counts_same u n f t a b agreed ∙ ap (λ r. counts_from u n f r b) same_t ∙ ap (λ h. counts_from u n h s b) same_f
 
-pub one_settled : (u : UnitView) (n : ℕ) (s t : TemplateView) → IsSettled u n s → IsSettled u n t → s ≡ t
-one_settled u n s t a b =
+pub one_normalized : (u : UnitView) (n : ℕ) (s t : TemplateView) → IsNormalized u n s → IsNormalized u n t → s ≡ t
+one_normalized u n s t a b =
     let same = one_template u n a.function b.function a.template b.template a.is_template b.is_template in
     let all_b = subst (λ r. are_counted b.table r.pieces ≡ true) (sym same) b.all_counted in
     let agreed = agree u a.table b.table a.template.pieces a.all_counted all_b (λ m x y p q. one_count u m x y (a.are_counts m x p) (b.are_counts m y q)) in
-    a.settles ∙ settled_same a.table b.table a.template agreed ∙ ap (λ r. settled b.table r) same ∙ sym b.settles
+    a.settles ∙ normalized_same a.table b.table a.template agreed ∙ ap (λ r. normalized b.table r) same ∙ sym b.settles

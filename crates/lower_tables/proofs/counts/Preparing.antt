@@ -7,8 +7,8 @@ use Rattle.lower_templates.specs.Worklist.Pieces.{PieceView, TemplateView}
 use Rattle.lower_functions.proofs.functions.OneTemplate.{one_finish}
 use Rattle.lower_functions.specs.Functions.Functions.{setting_of, function, no_plan}
 use Rattle.lower_objects.specs.declared.counts.function_counts.FunctionCounts.{FunctionCounts}
-use Rattle.lower_tables.specs.Counts.Preparations.{IsTemplateOf, called, Calls, Reaches, begun, further, is_there, is_counted, are_counted, Counts, counts, AreCounts, IsSettled, IsPrepared}
-use Rattle.lower_tables.specs.Counts.PreparingSteps.{CallsOf, IsMade, IsReached, AreMade, Progress, IsSettling, AreSettled}
+use Rattle.lower_tables.specs.Counts.Preparations.{IsTemplateOf, called, Calls, Reaches, begun, further, is_there, is_counted, are_counted, Counts, counts, AreCounts, IsNormalized, IsPrepared}
+use Rattle.lower_tables.specs.Counts.PreparingSteps.{CallsOf, IsMade, IsReached, AreMade, Progress, IsSettling, AreNormalized}
 use Rattle.lower_tables.proofs.counts.Tables.{set_here, set_cases, set_filled, all_empty}
 
 some_same : {A : Type 0} (x y : A) → Some x ≡ Some y → x ≡ y
@@ -68,10 +68,10 @@ are_counted_more table n c (p ∷ ps) all =
     ap (λ b. cond b (are_counted (slice_set table n (Some c)) ps) false) first ∙ are_counted_more table n c ps (both_true (is_counted table (called p)) (are_counted table ps) all).1
 
 -- nothing is settled at first
-pub none_settled : (u : UnitView) (ts : List (Option TemplateView)) (table : List (Option FunctionCounts)) (count : ℕ) → count ≡ length u.functions → ts ≡ replicate count None → table ≡ replicate count None → AreSettled u ts table
-none_settled u ts table count all none_t none_c = record {
+pub none_normalized : (u : UnitView) (ts : List (Option TemplateView)) (table : List (Option FunctionCounts)) (count : ℕ) → count ≡ length u.functions → ts ≡ replicate count None → table ≡ replicate count None → AreNormalized u ts table
+none_normalized u ts table count all none_t none_c = record {
   numbered = ap length none_t ∙ length-replicate count None ∙ all;
-  are_settled = λ n s is. absurd (all_empty ts count n s none_t is);
+  are_normalized = λ n s is. absurd (all_empty ts count n s none_t is);
   are_counts = λ n c is. absurd (all_empty table count n c none_c is);
   both = λ n c is. absurd (all_empty table count n c none_c is);
   closed = λ n s is. absurd (all_empty ts count n s none_t is);
@@ -81,9 +81,9 @@ counts_at : (u : UnitView) (n m : ℕ) (c d : FunctionCounts) (table : List (Opt
 counts_at u n m c d table new old (inl p) = subst (λ k. Counts u k d) (sym p.0) (subst (λ v. Counts u n v) (sym (some_same d c p.1)) new)
 counts_at u n m c d table new old (inr was) = old m d was
 
-settled_at : (u : UnitView) (n m : ℕ) (s r : TemplateView) (ts : List (Option TemplateView)) → IsSettled u n s → ((k : ℕ) (v : TemplateView) → slice_get ts k ≡ Some (Some v) → IsSettled u k v) → ((m ≡ n) × (Some r ≡ Some s)) ⊎ (slice_get ts m ≡ Some (Some r)) → IsSettled u m r
-settled_at u n m s r ts new old (inl p) = subst (λ k. IsSettled u k r) (sym p.0) (subst (λ v. IsSettled u n v) (sym (some_same r s p.1)) new)
-settled_at u n m s r ts new old (inr was) = old m r was
+normalized_at : (u : UnitView) (n m : ℕ) (s r : TemplateView) (ts : List (Option TemplateView)) → IsNormalized u n s → ((k : ℕ) (v : TemplateView) → slice_get ts k ≡ Some (Some v) → IsNormalized u k v) → ((m ≡ n) × (Some r ≡ Some s)) ⊎ (slice_get ts m ≡ Some (Some r)) → IsNormalized u m r
+normalized_at u n m s r ts new old (inl p) = subst (λ k. IsNormalized u k r) (sym p.0) (subst (λ v. IsNormalized u n v) (sym (some_same r s p.1)) new)
+normalized_at u n m s r ts new old (inr was) = old m r was
 
 abbrev Closed : UnitView → List (Option FunctionCounts) → ℕ → Type 0
 Closed u table n = (f : FunctionView) × (t : TemplateView) × IsTemplateOf u n f t × (are_counted table t.pieces ≡ true)
@@ -101,11 +101,11 @@ both_at n m s c d ts table within old (inl p) = (s, ap (λ k. slice_get (slice_s
 both_at n m s c d ts table within old (inr was) = let (r, is) = old m d was in set_filled ts n m s r is
 
 -- one more function is settled, of what is seen as lists
-one_settled : (u : UnitView) (n : ℕ) (f : FunctionView) (t s : TemplateView) (c : FunctionCounts) (ts : List (Option TemplateView)) (table : List (Option FunctionCounts)) → n < length ts → IsSettled u n s → Closed u table n → Counts u n c → AreSettled u ts table
-    → AreSettled u (slice_set ts n (Some s)) (slice_set table n (Some c))
-one_settled u n f t s c ts table within settles closes count old = record {
+one_normalized : (u : UnitView) (n : ℕ) (f : FunctionView) (t s : TemplateView) (c : FunctionCounts) (ts : List (Option TemplateView)) (table : List (Option FunctionCounts)) → n < length ts → IsNormalized u n s → Closed u table n → Counts u n c → AreNormalized u ts table
+    → AreNormalized u (slice_set ts n (Some s)) (slice_set table n (Some c))
+one_normalized u n f t s c ts table within settles closes count old = record {
   numbered = length-set ts n (Some s) ∙ old.numbered;
-  are_settled = λ m r is. settled_at u n m s r ts settles old.are_settled (set_cases ts n m (Some s) (Some r) is);
+  are_normalized = λ m r is. normalized_at u n m s r ts settles old.are_normalized (set_cases ts n m (Some s) (Some r) is);
   are_counts = λ m d is. counts_at u n m c d table count old.are_counts (set_cases table n m (Some c) (Some d) is);
   both = λ m d is. both_at n m s c d ts table within old.both (set_cases table n m (Some c) (Some d) is);
   closed = λ m r is. closed_more u n m c table (closed_at u n m s r ts table closes old.closed (set_cases ts n m (Some s) (Some r) is));
@@ -114,7 +114,7 @@ one_settled u n f t s c ts table within settles closes count old = record {
 -- both templates that are still to be settled and those that are
 pub record Holds (u : UnitView) (p : Progress) : Type 0 where
   pub made : AreMade u p.plain
-  pub settled : AreSettled u p.templates p.table
+  pub normalized : AreNormalized u p.templates p.table
 
 same_function : (f g : FunctionView) (o : Option FunctionView) → o ≡ Some f → o ≡ Some g → f ≡ g
 same_function f g o a b = cc
@@ -137,12 +137,12 @@ still_holds u n old new is h =
     let k = is.counting in
     let r = h.made n is.template is.was in
     let named = template_of u n k.function is.template k.stands r in
-    let settles : IsSettled u n is.settles = record { function = k.function; template = is.template; table = old.table; is_template = named; few = r.few; reached = r.reached; all_counted = k.all_counted; are_counts = h.settled.are_counts; settles = k.settles } in
-    let count : Counts u n is.counts = subst (λ c. Counts u n c) (sym k.counts) (counts n k.function is.template old.table named k.all_counted h.settled.are_counts) in
-    let all = one_settled u n k.function is.template is.settles is.counts old.templates old.table is.within settles (k.function, is.template, named, k.all_counted) count h.settled in
+    let settles : IsNormalized u n is.settles = record { function = k.function; template = is.template; table = old.table; is_template = named; few = r.few; reached = r.reached; all_counted = k.all_counted; are_counts = h.normalized.are_counts; settles = k.settles } in
+    let count : Counts u n is.counts = subst (λ c. Counts u n c) (sym k.counts) (counts n k.function is.template old.table named k.all_counted h.normalized.are_counts) in
+    let all = one_normalized u n k.function is.template is.settles is.counts old.templates old.table is.within settles (k.function, is.template, named, k.all_counted) count h.normalized in
     record {
       made = subst (λ ts. AreMade u ts) (sym is.plain) (still_plain u n old.plain h.made);
-      settled = subst (λ ts. AreSettled u ts new.table) (sym is.templates) (subst (λ table. AreSettled u (slice_set old.templates n (Some is.settles)) table) (sym is.table) all);
+      normalized = subst (λ ts. AreNormalized u ts new.table) (sym is.templates) (subst (λ table. AreNormalized u (slice_set old.templates n (Some is.settles)) table) (sym is.table) all);
     }
 
 pub one_function : (u : UnitView) (n : ℕ) (f g : FunctionView) (s t : TemplateView) → IsTemplateOf u n f s → IsTemplateOf u n g t → f ≡ g
@@ -157,19 +157,19 @@ one_template u n f g s t a b =
 abbrev IsThere : List (Option TemplateView) → List (Option FunctionCounts) → ℕ → Type 0
 IsThere ts table n = (s : TemplateView) × (c : FunctionCounts) × (slice_get ts n ≡ Some (Some s)) × (slice_get table n ≡ Some (Some c))
 
-there_both : (u : UnitView) (ts : List (Option TemplateView)) (table : List (Option FunctionCounts)) (n : ℕ) → AreSettled u ts table → (c : FunctionCounts) × (slice_get table n ≡ Some (Some c)) → IsThere ts table n
+there_both : (u : UnitView) (ts : List (Option TemplateView)) (table : List (Option FunctionCounts)) (n : ℕ) → AreNormalized u ts table → (c : FunctionCounts) × (slice_get table n ≡ Some (Some c)) → IsThere ts table n
 there_both u ts table n h (c, is) = let (s, there) = h.both n c is in (s, c, there, is)
 
 -- a function that is called by one that is there is there
-further_there : (u : UnitView) (ts : List (Option TemplateView)) (table : List (Option FunctionCounts)) (n m : ℕ) (f : FunctionView) (t : TemplateView) → AreSettled u ts table → IsTemplateOf u n f t → Calls t.pieces m → IsThere ts table n → IsThere ts table m
+further_there : (u : UnitView) (ts : List (Option TemplateView)) (table : List (Option FunctionCounts)) (n m : ℕ) (f : FunctionView) (t : TemplateView) → AreNormalized u ts table → IsTemplateOf u n f t → Calls t.pieces m → IsThere ts table n → IsThere ts table m
 further_there u ts table n m f t h is calls (s, c, there, counted) =
     let (g, r, named, all) = h.closed n s there in
     let same = one_template u n g f r t named is in
     there_both u ts table m h (called_there table t.pieces m (subst (λ v. are_counted table v.pieces ≡ true) same all) calls)
 
-all_there : (u : UnitView) (ts : List (Option TemplateView)) (table : List (Option FunctionCounts)) (c : FunctionCounts) → AreSettled u ts table → slice_get table u.entry ≡ Some (Some c) → (n : ℕ) → Reaches u n → IsThere ts table n
+all_there : (u : UnitView) (ts : List (Option TemplateView)) (table : List (Option FunctionCounts)) (c : FunctionCounts) → AreNormalized u ts table → slice_get table u.entry ≡ Some (Some c) → (n : ℕ) → Reaches u n → IsThere ts table n
 all_there u ts table c h entry n begun = there_both u ts table u.entry h (c, entry)
 all_there u ts table c h entry n (further k m f t reached is calls) = further_there u ts table k m f t h is calls (all_there u ts table c h entry k reached)
 
-pub all_prepared : (u : UnitView) (ts : List (Option TemplateView)) (table : List (Option FunctionCounts)) (c : FunctionCounts) → AreSettled u ts table → slice_get table u.entry ≡ Some (Some c) → IsPrepared u ts table
-all_prepared u ts table c h entry = record { numbered = h.numbered; are_settled = h.are_settled; are_counts = h.are_counts; all = all_there u ts table c h entry }
+pub all_prepared : (u : UnitView) (ts : List (Option TemplateView)) (table : List (Option FunctionCounts)) (c : FunctionCounts) → AreNormalized u ts table → slice_get table u.entry ≡ Some (Some c) → IsPrepared u ts table
+all_prepared u ts table c h entry = record { numbered = h.numbered; are_normalized = h.are_normalized; are_counts = h.are_counts; all = all_there u ts table c h entry }

@@ -8,7 +8,7 @@ use Rattle.lower_templates.specs.declared.worklist.template_pieces.Template.{Tem
 use Rattle.lower_functions.specs.Functions.Functions.{IsTemplate}
 use Rattle.lower_objects.specs.declared.counts.function_counts.FunctionCounts.{FunctionCounts}
 use Rattle.lower_tables.specs.Counts.FunctionTotals.{function_counts}
-use Rattle.lower_tables.specs.Counts.SettledTemplates.{settled}
+use Rattle.lower_tables.specs.Counts.NormalizedTemplates.{normalized}
 
 abbrev pub templates_view : List (Option Template) → List (Option TemplateView)
 templates_view ts = map (option_map template_view) ts
@@ -55,7 +55,7 @@ named_parameters u n f = cond (n == u.entry) f.parameters 0
 
 -- the counts of a function from a table that has those of the functions that it calls
 abbrev pub counts_from : UnitView → ℕ → FunctionView → TemplateView → List (Option FunctionCounts) → FunctionCounts
-counts_from u n f t table = function_counts u.structs u.model.pointer f (named_parameters u n f) (settled table t) table
+counts_from u n f t table = function_counts u.structs u.model.pointer f (named_parameters u n f) (normalized table t) table
 
 -- the counts of a function, by its number: those of the functions that it calls are known before
 pub data Counts (u : UnitView) : ℕ → FunctionCounts → Type 0 where
@@ -67,7 +67,7 @@ abbrev pub AreCounts : UnitView → List (Option FunctionCounts) → Type 0
 AreCounts u table = (m : ℕ) (c : FunctionCounts) → slice_get table m ≡ Some (Some c) → Counts u m c
 
 -- the settled template of a function that is reached; as they are made, templates have labels of 32 bits
-pub record IsSettled (u : UnitView) (n : ℕ) (s : TemplateView) : Type 0 where
+pub record IsNormalized (u : UnitView) (n : ℕ) (s : TemplateView) : Type 0 where
   pub function : FunctionView
   pub template : TemplateView
   pub table : List (Option FunctionCounts)
@@ -76,11 +76,11 @@ pub record IsSettled (u : UnitView) (n : ℕ) (s : TemplateView) : Type 0 where
   pub reached : Reaches u n
   pub all_counted : are_counted table template.pieces ≡ true
   pub are_counts : AreCounts u table
-  pub settles : s ≡ settled table template
+  pub settles : s ≡ normalized table template
 
 -- all functions that the entry reaches have their settled templates and their counts
 pub record IsPrepared (u : UnitView) (templates : List (Option TemplateView)) (table : List (Option FunctionCounts)) : Type 0 where
   pub numbered : length templates ≡ length u.functions
-  pub are_settled : (n : ℕ) (s : TemplateView) → slice_get templates n ≡ Some (Some s) → IsSettled u n s
+  pub are_normalized : (n : ℕ) (s : TemplateView) → slice_get templates n ≡ Some (Some s) → IsNormalized u n s
   pub are_counts : AreCounts u table
   pub all : (n : ℕ) → Reaches u n → (s : TemplateView) × (c : FunctionCounts) × (slice_get templates n ≡ Some (Some s)) × (slice_get table n ≡ Some (Some c))

@@ -5,8 +5,8 @@ use Rattle.lower_templates.specs.Worklist.Pieces.{TemplateView}
 use Rattle.lower_templates.specs.declared.worklist.template_pieces.Template.{Template}
 use Rattle.lower_objects.specs.declared.counts.function_counts.FunctionCounts.{FunctionCounts}
 use Rattle.lower_tables.specs.declared.counts.prepared_functions.PreparedUnit.{PreparedUnit}
-use Rattle.lower_tables.specs.Counts.SettledTemplates.{settled}
-use Rattle.lower_tables.specs.Counts.Preparations.{templates_view, IsTemplateOf, Calls, Reaches, are_counted, counts_from, AreCounts, IsSettled}
+use Rattle.lower_tables.specs.Counts.NormalizedTemplates.{normalized}
+use Rattle.lower_tables.specs.Counts.Preparations.{templates_view, IsTemplateOf, Calls, Reaches, are_counted, counts_from, AreCounts, IsNormalized}
 
 -- the template of one function has a call of another
 abbrev pub CallsOf : List (Option TemplateView) → ℕ → ℕ → Type 0
@@ -35,7 +35,7 @@ pub record IsCounting (u : UnitView) (n : ℕ) (t : TemplateView) (table : List 
   pub function : FunctionView
   pub stands : slice_get u.functions n ≡ Some function
   pub all_counted : are_counted table t.pieces ≡ true
-  pub settles : s ≡ settled table t
+  pub settles : s ≡ normalized table t
   pub counts : c ≡ counts_from u n function t table
 
 -- templates that are still to be settled, settled ones, and counts
@@ -60,9 +60,9 @@ pub record IsSettling (u : UnitView) (n : ℕ) (old new : Progress) : Type 0 whe
   pub table : new.table ≡ slice_set old.table n (Some counts)
 
 -- each function with counts has its settled template, and all that it calls has counts
-pub record AreSettled (u : UnitView) (templates : List (Option TemplateView)) (table : List (Option FunctionCounts)) : Type 0 where
+pub record AreNormalized (u : UnitView) (templates : List (Option TemplateView)) (table : List (Option FunctionCounts)) : Type 0 where
   pub numbered : length templates ≡ length u.functions
-  pub are_settled : (n : ℕ) (s : TemplateView) → slice_get templates n ≡ Some (Some s) → IsSettled u n s
+  pub are_normalized : (n : ℕ) (s : TemplateView) → slice_get templates n ≡ Some (Some s) → IsNormalized u n s
   pub are_counts : AreCounts u table
   pub both : (n : ℕ) (c : FunctionCounts) → slice_get table n ≡ Some (Some c) → (s : TemplateView) × (slice_get templates n ≡ Some (Some s))
   pub closed : (n : ℕ) (s : TemplateView) → slice_get templates n ≡ Some (Some s) → (f : FunctionView) × (t : TemplateView) × IsTemplateOf u n f t × (are_counted table t.pieces ≡ true)

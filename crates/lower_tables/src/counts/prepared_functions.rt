@@ -7,9 +7,9 @@ ghost use Rattle.lower_objects.specs.declared.counts.function_counts.FunctionCou
 ghost use Rattle.lower_tables.specs.Counts.FunctionTotals.{is_nothing, function_counts};
 ghost use Rattle.lower_tables.specs.Counts.Preparations as spec;
 ghost use Rattle.lower_tables.specs.Counts.Preparations.{templates_view, IsPrepared};
-ghost use Rattle.lower_tables.specs.Counts.PreparingSteps.{progress, CallsOf, IsMade, AreMade, IsCounting, IsSettling, AreSettled};
+ghost use Rattle.lower_tables.specs.Counts.PreparingSteps.{progress, CallsOf, IsMade, AreMade, IsCounting, IsSettling, AreNormalized};
 
-use crate::counts::settled_templates::settled;
+use crate::counts::normalized_templates::normalized;
 use c_layout::{Checked, Function};
 use lower_functions::functions::{Piece, Template, template};
 use lower_objects::counts::{
@@ -290,7 +290,7 @@ fn check_calls(pieces: &[Piece], table: &[Option<FunctionCounts>]) -> Result<(),
 }
 
 /// The settled template of a function and its counts.
-fn settled_and_counted<'a>(
+fn normalized_and_counted<'a>(
     alloc: Global,
     unit: &Checked,
     number: u32,
@@ -301,7 +301,7 @@ fn settled_and_counted<'a>(
 {
     check_calls(plain.pieces.as_slice(), table)?;
     let function = function_at(unit, number)?;
-    let made = settled(alloc, plain, table)?;
+    let made = normalized(alloc, plain, table)?;
     let parameters = named_parameters(unit, number, function);
     let counts = counts_of(alloc, unit, function, parameters, &made, table)?;
     Ok((made, counts))
@@ -318,7 +318,7 @@ fn settle<'a>(
     ensures { IfOk result (λ _. IsSettling (unit_view unit.now) number (progress plain.old.items prepared.old) (progress plain.new.items prepared.new)) }
 {
     let made = take(plain, number)?;
-    let (made, counts) = settled_and_counted(
+    let (made, counts) = normalized_and_counted(
         alloc,
         unit,
         number,
@@ -336,7 +336,7 @@ fn settle_all<'a>(
     mut plain: Vec<Option<Template<'a>>>,
     order: Vec<u32>,
 ) -> Result<PreparedUnit<'a>, AllocError>
-    ensures { IfOk result (λ p. AreMade (unit_view unit.now) (templates_view plain.entry.items) → AreSettled (unit_view unit.now) (templates_view p.templates.items) p.counts.items) }
+    ensures { IfOk result (λ p. AreMade (unit_view unit.now) (templates_view plain.entry.items) → AreNormalized (unit_view unit.now) (templates_view p.templates.items) p.counts.items) }
 {
     let count = unit.functions.len();
     let mut found = PreparedUnit {

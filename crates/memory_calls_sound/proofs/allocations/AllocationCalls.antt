@@ -46,7 +46,7 @@ use Rattle.memory_model.specs.Effects.LibraryChecks.{size_of, with_size, most_si
 use Rattle.memory_model.specs.Effects.NumberedTables.{put_at}
 use Rattle.memory_model.specs.Effects.ObjectEffects as objects
 use Rattle.memory_model.specs.Effects.Worlds.{World, Reply, goes, behind, drawn, OutOfDraws, Stuck}
-use Rattle.semantics.specs.CfgMachine.FlowStates.{Standing, values_of}
+use Rattle.semantics.specs.CfgMachine.FlowStates.{ProgramState, values_of}
 use Rattle.semantics.specs.CfgMachine.FlowActs.{calling}
 use Rattle.store_sound.specs.Concretization.SeenLabels.{as_set}
 use Rattle.store_sound.specs.Concretization.ValueMeaning.{Naming, InGammaScalar}
@@ -94,7 +94,7 @@ most_is m h = elim (pointer_sized m h) [
 pub labels_told : (t : Labels) (labels : sets.Labels) → labels_leq (as_set t) labels ≡ true → not (is_unlabelled t) ≡ true → not (set.is_unlabelled labels) ≡ true
 labels_told t labels h e = grind arith
 
-module _ {I : Type 0} {l : LatticeOf I} {n : IntegersOf I} {gamma : I → ℤ → Type 0} (o : OrderLaws l) (q : BoundLaws l n gamma) (flow : Flow) (limits : Limits) (good : is_well_formed limits flow ≡ true) (p : HasPremises flow) (naming : Naming) (row : List (Cell I)) (s : Standing) (r : IsReached l n gamma flow naming row s) (to : Option ℕ) (has : has_result (names_of flow) to ≡ true)
+module _ {I : Type 0} {l : LatticeOf I} {n : IntegersOf I} {gamma : I → ℤ → Type 0} (o : OrderLaws l) (q : BoundLaws l n gamma) (flow : Flow) (limits : Limits) (good : is_well_formed limits flow ≡ true) (p : HasPremises flow) (naming : Naming) (row : List (Cell I)) (s : ProgramState) (r : IsReached l n gamma flow naming row s) (to : Option ℕ) (has : has_result (names_of flow) to ≡ true)
     (newest : ℕ) (at_site : is_site flow.bases.items (Some newest) ≡ true) where
   t : IsSiteOf flow newest (newest + 1)
   t = site_is limits flow good p newest at_site
@@ -113,7 +113,7 @@ module _ {I : Type 0} {l : LatticeOf I} {n : IntegersOf I} {gamma : I → ℤ �
     by_result None h = stop_good l n gamma flow _ plan.violations Stuck s.world (clean q flow p naming row s r plan.violations)
     by_result (Some a) h = record {
       goes_on = λ u w e.
-          let now : Standing = record s { at = suc s.at; temps = put_at s.temps a v; world = world_after } in
+          let now : ProgramState = record s { at = suc s.at; temps = put_at s.temps a v; world = world_after } in
           let b : now ≡ u = cc in
           let c : world_after ≡ w = cc in
           let here : InGammaAfter l n gamma flow (Some (put_result flow (Some a) x behind_row)) (record now { world = world_after }) = record {

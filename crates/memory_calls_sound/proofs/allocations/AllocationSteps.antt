@@ -21,7 +21,7 @@ use Rattle.transfer_instructions.specs.Instructions.Steps.{operate}
 use Rattle.memory_model.specs.Memory.Scalars.{Scalar, integer, pointer}
 use Rattle.memory_model.specs.Effects.LibraryCalls.{library}
 use Rattle.memory_model.specs.Effects.Worlds.{stops, Stuck}
-use Rattle.semantics.specs.CfgMachine.FlowStates.{Standing, values_of}
+use Rattle.semantics.specs.CfgMachine.FlowStates.{ProgramState, values_of}
 use Rattle.store_sound.specs.Concretization.ValueMeaning.{Naming}
 use Rattle.store_sound.specs.Programs.Premises.{HasPremises}
 use Rattle.library_sound.specs.SoundSteps.{IsReached, StepIsSound}
@@ -42,7 +42,7 @@ sized_at temps items vs e sized at z la h =
     let a = argument_there temps items vs e at (integer z la) h in
     sizes_at items temps sized at a.temp a.there z la a.has
 
-module _ {I : Type 0} {l : LatticeOf I} {n : IntegersOf I} {gamma : I → ℤ → Type 0} (o : OrderLaws l) (q : BoundLaws l n gamma) (flow : Flow) (limits : Limits) (good : is_well_formed limits flow ≡ true) (p : HasPremises flow) (naming : Naming) (row : List (Cell I)) (s : Standing) (r : IsReached l n gamma flow naming row s) (to : Option ℕ) (has : has_result (names_of flow) to ≡ true) (newest : ℕ) (at_site : is_site flow.bases.items (Some newest) ≡ true) where
+module _ {I : Type 0} {l : LatticeOf I} {n : IntegersOf I} {gamma : I → ℤ → Type 0} (o : OrderLaws l) (q : BoundLaws l n gamma) (flow : Flow) (limits : Limits) (good : is_well_formed limits flow ≡ true) (p : HasPremises flow) (naming : Naming) (row : List (Cell I)) (s : ProgramState) (r : IsReached l n gamma flow naming row s) (to : Option ℕ) (has : has_result (names_of flow) to ≡ true) (newest : ℕ) (at_site : is_site flow.bases.items (Some newest) ≡ true) where
   stuck_here : (plan : _) → Good o q flow p naming row s r to has (Some newest) plan (stops Stuck s.world)
   stuck_here plan = plain_stop o q flow p naming row s r to has (Some newest) plan s.world.violated (clean q flow p naming row s r plan.violations) Stuck
 
@@ -62,7 +62,7 @@ module _ {I : Type 0} {l : LatticeOf I} {n : IntegersOf I} {gamma : I → ℤ �
       calloc_good o q flow limits good p naming row s r to has newest at_site items wanted both e k z la lb refl refl (sized_at s.temps items both e sized 0 k la refl) (sized_at s.temps items both e sized 1 z lb refl)
   by_name _ h items wanted vs e sized = absurd h
 
-module _ {I : Type 0} {l : LatticeOf I} {n : IntegersOf I} {gamma : I → ℤ → Type 0} (o : OrderLaws l) (q : BoundLaws l n gamma) (flow : Flow) (limits : Limits) (good : is_well_formed limits flow ≡ true) (p : HasPremises flow) (naming : Naming) (row : List (Cell I)) (s : Standing) (r : IsReached l n gamma flow naming row s) where
+module _ {I : Type 0} {l : LatticeOf I} {n : IntegersOf I} {gamma : I → ℤ → Type 0} (o : OrderLaws l) (q : BoundLaws l n gamma) (flow : Flow) (limits : Limits) (good : is_well_formed limits flow ≡ true) (p : HasPremises flow) (naming : Naming) (row : List (Cell I)) (s : ProgramState) (r : IsReached l n gamma flow naming row s) where
   pub allocation_call_sound : (to : Option ℕ) (name : LibFn) (arguments : _) (newest : ℕ) (size : Option ℕ) → Allocates name → fits_operation (names_of flow) (op.Library to name arguments (Some newest) size) ≡ true → HasSizes arguments.items s.temps → StepIsSound l n gamma flow row (op.Library to name arguments (Some newest) size) s
   unfolding operate call_step operation_violations
   allocation_call_sound to name arguments newest size is fits sized =

@@ -42,7 +42,7 @@ use Rattle.memory_model.specs.Effects.ObjectEffects.{set_life}
 use Rattle.memory_model.specs.Effects.Touches.{is_allocated, storage_of, storage_at}
 use Rattle.memory_model.specs.Effects.Worlds.{World, Reply, goes, behind, done, with_memory, stopped_by, unless, Stuck, Violated}
 use Rattle.semantics.specs.CfgMachine.FlowActs.{calling}
-use Rattle.semantics.specs.CfgMachine.FlowStates.{Standing, values_of}
+use Rattle.semantics.specs.CfgMachine.FlowStates.{ProgramState, values_of}
 use Rattle.store_sound.specs.Concretization.ValueMeaning.{Naming, InGammaInto, InGammaByLife, InGammaPointer, InGammaScalar}
 use Rattle.store_sound.specs.Concretization.SoundMemory.{IsPointerIn}
 use Rattle.store_sound.proofs.operations.Freed.{into_freed}
@@ -77,7 +77,7 @@ live_ended e = cc
 freed_ended : freed ≡ ended → ⊥
 freed_ended e = cc
 
-module _ {I : Type 0} {l : LatticeOf I} {n : IntegersOf I} {gamma : I → ℤ → Type 0} (o : OrderLaws l) (q : BoundLaws l n gamma) (flow : Flow) (p : HasPremises flow) (naming : Naming) (row : List (Cell I)) (s : Standing) (r : IsReached l n gamma flow naming row s) (to : Option ℕ) (has : has_result (names_of flow) to ≡ true) (newest : Option ℕ) (items : List ℕ) (wanted : Option ℕ) where
+module _ {I : Type 0} {l : LatticeOf I} {n : IntegersOf I} {gamma : I → ℤ → Type 0} (o : OrderLaws l) (q : BoundLaws l n gamma) (flow : Flow) (p : HasPremises flow) (naming : Naming) (row : List (Cell I)) (s : ProgramState) (r : IsReached l n gamma flow naming row s) (to : Option ℕ) (has : has_result (names_of flow) to ≡ true) (newest : Option ℕ) (items : List ℕ) (wanted : Option ℕ) where
   abbrev given : Pointers I
   given = (argument_value l n (call_of flow items wanted) row 0).pointer
 
@@ -117,7 +117,7 @@ module _ {I : Type 0} {l : LatticeOf I} {n : IntegersOf I} {gamma : I → ℤ �
   goes_to (Some t) fit new change any w e = plan_stops q flow p naming row s r (Some t) fit newest the_plan Stuck s.world (clean q flow p naming row s r the_plan.violations)
   goes_to None fit new change any w e = subst (λ z. IsStoodFor l n gamma flow (apply l n flow None newest the_plan.effect row) the_plan.violations (calling s None (goes None z))) (sym e) (record {
     goes_on = λ t u k.
-        let now : Standing = record s { at = suc s.at; world = with_memory s.world new } in
+        let now : ProgramState = record s { at = suc s.at; world = with_memory s.world new } in
         let a : now ≡ t = cc in
         let c : with_memory s.world new ≡ u = cc in
         let here : InGammaAfter l n gamma flow (apply l n flow None newest the_plan.effect row) (record now { world = with_memory s.world new }) = record {
@@ -244,7 +244,7 @@ module _ {I : Type 0} {l : LatticeOf I} {n : IntegersOf I} {gamma : I → ℤ �
   by_name f.Free h vs e = arguments_good vs e
   by_name _ h vs e = absurd h
 
-module _ {I : Type 0} {l : LatticeOf I} {n : IntegersOf I} {gamma : I → ℤ → Type 0} (o : OrderLaws l) (q : BoundLaws l n gamma) (flow : Flow) (p : HasPremises flow) (naming : Naming) (row : List (Cell I)) (s : Standing) (r : IsReached l n gamma flow naming row s) where
+module _ {I : Type 0} {l : LatticeOf I} {n : IntegersOf I} {gamma : I → ℤ → Type 0} (o : OrderLaws l) (q : BoundLaws l n gamma) (flow : Flow) (p : HasPremises flow) (naming : Naming) (row : List (Cell I)) (s : ProgramState) (r : IsReached l n gamma flow naming row s) where
   pub free_call_sound : (to : Option ℕ) (name : LibFn) (arguments : _) (newest size : Option ℕ) → Frees name → fits_operation (names_of flow) (op.Library to name arguments newest size) ≡ true → StepIsSound l n gamma flow row (op.Library to name arguments newest size) s
   unfolding operate call_step operation_violations
   free_call_sound to name arguments newest size is fits =

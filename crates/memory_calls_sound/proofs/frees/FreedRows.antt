@@ -26,7 +26,7 @@ use Rattle.store_cells.specs.ScalarTypes.{kind_of}
 use Rattle.transfer_checks.specs.Temporaries.{temp_position, temp_value}
 use Rattle.memory_model.specs.Memory.Instances.{Memory, Life, live, ended, freed, bytes_at, life_at}
 use Rattle.memory_model.specs.Memory.Scalars.{Scalar}
-use Rattle.semantics.specs.CfgMachine.FlowStates.{Standing}
+use Rattle.semantics.specs.CfgMachine.FlowStates.{ProgramState}
 use Rattle.store_sound.specs.Concretization.ValueMeaning.{Naming, InGammaScalar, InGammaZero, InGammaState}
 use Rattle.store_sound.specs.Concretization.RowMeaning.{IsLiveOf, InGammaCell, InGammaLeaf, InGammaClass, InGamma, array_bytes}
 use Rattle.store_sound.proofs.operations.Slices.{get_there}
@@ -48,7 +48,7 @@ pub record IsFreeing (naming : Naming) (old new : Memory) (set : Bases) (surely 
   -- none of them is live still, where they are surely freed
   pub alone : surely ≡ true → (j d : ℕ) → life_at new j ≡ live → naming j ≡ Some d → has_base set d ≡ true → ⊥
 
-module _ {I : Type 0} {l : LatticeOf I} {n : IntegersOf I} {gamma : I → ℤ → Type 0} (q : BoundLaws l n gamma) (flow : Flow) (p : HasPremises flow) (naming : Naming) (row : List (Cell I)) (s : Standing) (r : IsReached l n gamma flow naming row s)
+module _ {I : Type 0} {l : LatticeOf I} {n : IntegersOf I} {gamma : I → ℤ → Type 0} (q : BoundLaws l n gamma) (flow : Flow) (p : HasPremises flow) (naming : Naming) (row : List (Cell I)) (s : ProgramState) (r : IsReached l n gamma flow naming row s)
     (new : Memory) (set : Bases) (surely : Bool) (w : IsFreeing naming s.world.memory new set surely) where
   abbrev old : Memory
   old = s.world.memory

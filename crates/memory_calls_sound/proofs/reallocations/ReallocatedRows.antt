@@ -38,7 +38,7 @@ use Rattle.memory_model.specs.Memory.Instances.{Memory, allocated, live, bytes_a
 use Rattle.memory_model.specs.Memory.Numbers.{Labelled, number_of}
 use Rattle.memory_model.specs.Memory.Scalars.{pointer}
 use Rattle.memory_model.specs.Effects.ObjectEffects as objects
-use Rattle.semantics.specs.CfgMachine.FlowStates.{Standing}
+use Rattle.semantics.specs.CfgMachine.FlowStates.{ProgramState}
 use Rattle.store_sound.specs.Concretization.FirstZeroBytes.{first_zero, zero_offset}
 use Rattle.store_sound.specs.Concretization.Matching.{Matched, number_in, Holds}
 use Rattle.store_sound.specs.Concretization.SoundMemory.{storage_for, IsContentIn, IsContentNamed}
@@ -78,7 +78,7 @@ pub data Origin (flow : Flow) (naming : Naming) (memory : Memory) (set : Bases) 
   of_nothing : ((x : ℕ) (y : Byte) → slice_get bytes x ≡ Some y → y ≡ blank_byte) → Origin flow naming memory set bytes
   of_instance : (i b : ℕ) (base : BaseInfo) → IsOldInstance flow naming memory set i b base → ((x : ℕ) (y : Byte) → slice_get bytes x ≡ Some y → (byte_at memory i x ≡ Some y) ⊎ (y ≡ blank_byte)) → Origin flow naming memory set bytes
 
-module _ {I : Type 0} {l : LatticeOf I} {n : IntegersOf I} {gamma : I → ℤ → Type 0} (o : OrderLaws l) (q : BoundLaws l n gamma) (c : SoundLaws l n gamma) (ranges : RangeLaws l n) (flow : Flow) (p : HasPremises flow) (naming : Naming) (row : List (Cell I)) (s : Standing) (r : IsReached l n gamma flow naming row s) (newest : ℕ) (t : IsSiteOf flow newest (newest + 1)) (size : I) (old : Pointers I) where
+module _ {I : Type 0} {l : LatticeOf I} {n : IntegersOf I} {gamma : I → ℤ → Type 0} (o : OrderLaws l) (q : BoundLaws l n gamma) (c : SoundLaws l n gamma) (ranges : RangeLaws l n) (flow : Flow) (p : HasPremises flow) (naming : Naming) (row : List (Cell I)) (s : ProgramState) (r : IsReached l n gamma flow naming row s) (newest : ℕ) (t : IsSiteOf flow newest (newest + 1)) (size : I) (old : Pointers I) where
   abbrev pub set : Bases
   set = (renamed (site_of newest (newest + 1)) old).bases
 

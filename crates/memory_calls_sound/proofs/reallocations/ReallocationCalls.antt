@@ -40,7 +40,7 @@ use Rattle.memory_model.specs.Effects.LibraryCalls.{with_result, library}
 use Rattle.memory_model.specs.Effects.LibraryChecks.{size_of, with_size, most_size}
 use Rattle.memory_model.specs.Effects.ObjectEffects as objects
 use Rattle.memory_model.specs.Effects.Worlds.{stops, World, Reply, goes, behind, drawn, OutOfDraws, Stuck, done, stopped_by, unless, Violated}
-use Rattle.semantics.specs.CfgMachine.FlowStates.{Standing, values_of}
+use Rattle.semantics.specs.CfgMachine.FlowStates.{ProgramState, values_of}
 use Rattle.store_sound.specs.Concretization.ValueMeaning.{Naming, InGammaScalar, InGammaInto, InGammaByLife, InGammaPointer}
 use Rattle.store_cells.specs.AccessWindows.{last_offset}
 use Rattle.store_sound.proofs.operations.TouchedRest.{near_stands}
@@ -118,7 +118,7 @@ freed_long l n set_of bases row = walk_long (free_base l n set_of false) (λ bas
 no_old_byte : (size x : ℕ) (y : Byte) → slice_get (resized [] size) x ≡ Some y → y ≡ blank_byte
 no_old_byte size x y e = elim (resized_byte [] size x y e) [ inl f ↦ cc | inr f ↦ f ]
 
-module _ {I : Type 0} {l : LatticeOf I} {n : IntegersOf I} {gamma : I → ℤ → Type 0} (o : OrderLaws l) (q : BoundLaws l n gamma) (c : SoundLaws l n gamma) (ranges : RangeLaws l n) (flow : Flow) (limits : Limits) (good : is_well_formed limits flow ≡ true) (p : HasPremises flow) (naming : Naming) (row : List (Cell I)) (s : Standing) (r : IsReached l n gamma flow naming row s) (to : Option ℕ) (has : has_result (names_of flow) to ≡ true)
+module _ {I : Type 0} {l : LatticeOf I} {n : IntegersOf I} {gamma : I → ℤ → Type 0} (o : OrderLaws l) (q : BoundLaws l n gamma) (c : SoundLaws l n gamma) (ranges : RangeLaws l n) (flow : Flow) (limits : Limits) (good : is_well_formed limits flow ≡ true) (p : HasPremises flow) (naming : Naming) (row : List (Cell I)) (s : ProgramState) (r : IsReached l n gamma flow naming row s) (to : Option ℕ) (has : has_result (names_of flow) to ≡ true)
     (newest : ℕ) (at_site : is_site flow.bases.items (Some newest) ≡ true) (items : List ℕ) (wanted : Option ℕ) (vs : List Scalar) (e : values_of s.temps items ≡ Some vs) (ptr : MachinePointer) (z : ℤ) (la : Labels) (first : slice_get vs 0 ≡ Some (pointer ptr)) (second : slice_get vs 1 ≡ Some (integer z la)) (from : pos 0 ≤ℤ z) where
   t : IsSiteOf flow newest (newest + 1)
   t = site_is limits flow good p newest at_site
@@ -405,7 +405,7 @@ module _ {I : Type 0} {l : LatticeOf I} {n : IntegersOf I} {gamma : I → ℤ �
 
 -- ---- the call
 
-module _ {I : Type 0} {l : LatticeOf I} {n : IntegersOf I} {gamma : I → ℤ → Type 0} (o : OrderLaws l) (q : BoundLaws l n gamma) (c : SoundLaws l n gamma) (ranges : RangeLaws l n) (flow : Flow) (limits : Limits) (good : is_well_formed limits flow ≡ true) (p : HasPremises flow) (naming : Naming) (row : List (Cell I)) (s : Standing) (r : IsReached l n gamma flow naming row s) where
+module _ {I : Type 0} {l : LatticeOf I} {n : IntegersOf I} {gamma : I → ℤ → Type 0} (o : OrderLaws l) (q : BoundLaws l n gamma) (c : SoundLaws l n gamma) (ranges : RangeLaws l n) (flow : Flow) (limits : Limits) (good : is_well_formed limits flow ≡ true) (p : HasPremises flow) (naming : Naming) (row : List (Cell I)) (s : ProgramState) (r : IsReached l n gamma flow naming row s) where
   module _ (to : Option ℕ) (has : has_result (names_of flow) to ≡ true) (newest : ℕ) (at_site : is_site flow.bases.items (Some newest) ≡ true) where
     stuck_here : (plan : _) → GoodPlan q flow p naming row s r to has (Some newest) plan (stops Stuck s.world)
     stuck_here plan = plan_stops q flow p naming row s r to has (Some newest) plan Stuck s.world (clean q flow p naming row s r plan.violations)

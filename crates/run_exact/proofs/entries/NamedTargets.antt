@@ -13,7 +13,7 @@ use Rattle.memory_model.specs.Effects.NumberedTables.{empty_table}
 use Rattle.memory_model.specs.Effects.UnitStarts.{base_instance, start_world}
 use Rattle.memory_model.specs.Effects.Worlds.{Reply, goes, stops}
 use Rattle.lower_templates.specs.Views.ProgramViews.{FlowView, initial, flow_view}
-use Rattle.semantics.specs.CfgMachine.FlowStates.{Standing, running}
+use Rattle.semantics.specs.CfgMachine.FlowStates.{ProgramState, running}
 use Rattle.semantics.specs.CfgMachine.FlowStarts.{name_objects, name_parameters, start_names, first_standing, begun_by, flow_begin}
 use Rattle.store_sound.proofs.operations.Slices.{get_map}
 use Rattle.entry_sound.proofs.memory.FirstNames.{objects_there}
@@ -62,7 +62,7 @@ map_at f (y ∷ ys) (suc k) x e = map_at f ys k x e
 
 -- ---- the names at the start of a run
 
-names_are : (u : UnitView) (f : FlowView) (r : Reply (Unit {0})) (s : Standing) → begun_by u f r ≡ running s [] → start_names u f ≡ s.bases
+names_are : (u : UnitView) (f : FlowView) (r : Reply (Unit {0})) (s : ProgramState) → begun_by u f r ≡ running s [] → start_names u f ≡ s.bases
 names_are u f (goes x w) s e = let h : first_standing u f w ≡ s = cc in ap (λ z. z.bases) h
 names_are u f (stops why w) s e = absurd (cc)
 
@@ -84,5 +84,5 @@ module _ (u : UnitView) (flow : Flow) (own : (j k b : ℕ) (o p : InitialObject)
       let object_is : v.object ≡ object = sym (ap (λ z. z.object) r.2) ∙ (sym (ap (λ z. z.object) same) ∙ h.is) in
       ap (base_instance u) object_is)
 
-  pub targets_named : flow.parameters.items ≡ [] → (draws : List ℤ) (s : Standing) → flow_begin u (flow_view flow) draws ≡ running s [] → NamesTargets u flow.initial.items s.bases
+  pub targets_named : flow.parameters.items ≡ [] → (draws : List ℤ) (s : ProgramState) → flow_begin u (flow_view flow) draws ≡ running s [] → NamesTargets u flow.initial.items s.bases
   targets_named none draws s run = subst (NamesTargets u flow.initial.items) (sym (ap (λ ps. name_parameters u 0 ps (name_objects u (map initial flow.initial.items) empty_table)) none) ∙ names_are u (flow_view flow) (start_world u draws) s run) objects_name

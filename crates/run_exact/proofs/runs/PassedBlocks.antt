@@ -29,7 +29,7 @@ use Rattle.transfer_system.specs.System.FlowMachines.{edge_at, start_of, through
 use Rattle.diagnose.specs.Diagnostics.AdmittedRules.{instructions_of, row_behind}
 use Rattle.memory_model.specs.Effects.NumberedTables.{put_at, empty_table}
 use Rattle.memory_model.specs.Effects.Worlds.{Violation}
-use Rattle.semantics.specs.CfgMachine.FlowStates.{Standing}
+use Rattle.semantics.specs.CfgMachine.FlowStates.{ProgramState}
 use Rattle.store_sound.specs.Concretization.Coverage.{state_of}
 use Rattle.store_sound.specs.Concretization.RowMeaning.{InGamma}
 use Rattle.store_sound.specs.Concretization.ValueMeaning.{Naming}
@@ -108,7 +108,7 @@ module _ {I : Type 0} (l : LatticeOf I) (n : IntegersOf I) (flow : Flow) where
 
   module _ (gamma : I → ℤ → Type 0) where
     -- the row behind stands for the state behind and tells it
-    pub record IsBoth (after : Option (List (Cell I))) (s : Standing) : Type 0 where
+    pub record IsBoth (after : Option (List (Cell I))) (s : ProgramState) : Type 0 where
       pub row : List (Cell I)
       pub is : after ≡ Some row
       pub long : length row ≡ flow.width
@@ -117,7 +117,7 @@ module _ {I : Type 0} (l : LatticeOf I) (n : IntegersOf I) (flow : Flow) where
       pub short : AreShort flow.model s.world.memory
       pub tells : ExactState l n flow row (state_of s)
 
-    pub both : (after : Option (List (Cell I))) (s : Standing) → InGammaAfter l n gamma flow after s → ExactAfter l n flow after s → IsBoth after s
+    pub both : (after : Option (List (Cell I))) (s : ProgramState) → InGammaAfter l n gamma flow after s → ExactAfter l n flow after s → IsBoth after s
     both after s a b =
         let same : b.row ≡ a.row = same_Some b.row a.row (sym b.is ∙ a.is) in
         record { row = a.row; is = a.is; long = a.long; naming = a.naming; stands_for = a.stands_for; short = a.short; tells = subst (λ z. ExactState l n flow z (state_of s)) same b.tells }
@@ -138,7 +138,7 @@ module _ {I : Type 0} (l : LatticeOf I) (n : IntegersOf I) (flow : Flow) where
         pub all : (b k : ℕ) → IsFoundAt rows found b k
 
       -- where the run stands at an instruction of a block, behind which there are no rows yet
-      pub record IsPassed (rows : Table I) (b at : ℕ) (s : Standing) (found : List Violation) : Type 0 where
+      pub record IsPassed (rows : Table I) (b at : ℕ) (s : ProgramState) (found : List Violation) : Type 0 where
         pub start : List (Cell I)
         pub here : rows b ≡ Some start
         pub own : (c : ℕ) → IsOwn machine (rows c)
@@ -154,7 +154,7 @@ module _ {I : Type 0} (l : LatticeOf I) (n : IntegersOf I) (flow : Flow) where
       pub first_at : (start : List (Cell I)) (c : ℕ) → (c ≡ 0 → ⊥) → put_at (empty_table {A = List (Cell I)}) 0 start c ≡ None
       first_at start c ne = put_else empty_table 0 start c ne
 
-      pub begun_passed : (o : OrderLaws l) → is_own_row l n list flow.bases.items flow.width machine.start ≡ true → (s : Standing) → IsBoth (Some machine.start) s → IsPassed (put_at empty_table 0 machine.start) 0 0 s []
+      pub begun_passed : (o : OrderLaws l) → is_own_row l n list flow.bases.items flow.width machine.start ≡ true → (s : ProgramState) → IsBoth (Some machine.start) s → IsPassed (put_at empty_table 0 machine.start) 0 0 s []
       begun_passed o own s h =
           let rows : Table I = put_at empty_table 0 machine.start in
           let here : rows 0 ≡ Some machine.start = put_here empty_table 0 machine.start in
@@ -175,7 +175,7 @@ module _ {I : Type 0} (l : LatticeOf I) (n : IntegersOf I) (flow : Flow) where
 
       -- ---- one instruction
 
-      module _ (rows : Table I) (b at : ℕ) (s : Standing) (found : List Violation) (p : IsPassed rows b at s found) (i : Instruction) (is : slice_get (instructions_of flow b) at ≡ Some i) (more : List Violation) (told : IsFoundHere more p.before.row i) where
+      module _ (rows : Table I) (b at : ℕ) (s : ProgramState) (found : List Violation) (p : IsPassed rows b at s found) (i : Instruction) (is : slice_get (instructions_of flow b) at ≡ Some i) (more : List Violation) (told : IsFoundHere more p.before.row i) where
         here_found : IsFoundAt rows (found ++ more) b at
         here_found = found_here rows found more b at i p.before.row is p.before.is told
 
@@ -192,7 +192,7 @@ module _ {I : Type 0} (l : LatticeOf I) (n : IntegersOf I) (flow : Flow) where
         behind = one_behind (rows b) (instructions_of flow b) at i p.before.row is p.before.is
 
         -- the run goes on in its block
-        pub on_passed : (t : Standing) → IsBoth (operate l n flow p.before.row i.operation) t → IsPassed rows b (suc at) t (found ++ more)
+        pub on_passed : (t : ProgramState) → IsBoth (operate l n flow p.before.row i.operation) t → IsPassed rows b (suc at) t (found ++ more)
         on_passed t h = record {
           start = p.start;
           here = p.here;
@@ -245,7 +245,7 @@ module _ {I : Type 0} (l : LatticeOf I) (n : IntegersOf I) (flow : Flow) where
           -- ---- the run goes on in another block
 
           module _ (o : OrderLaws l) (last : suc at ≡ length (instructions_of flow b)) (stays : operate l n flow p.before.row i.operation ≡ Some p.before.row)
-              (number : ℕ) (e : Edge) (edge_is : slice_get flow.edges.items number ≡ Some e) (from : e.from ≡ b) (forward : e.from < e.to) (t : Standing) (h : IsBoth (edge l n flow p.before.row number) t)
+              (number : ℕ) (e : Edge) (edge_is : slice_get flow.edges.items number ≡ Some e) (from : e.from ≡ b) (forward : e.from < e.to) (t : ProgramState) (h : IsBoth (edge l n flow p.before.row number) t)
               (apart : (other : ℕ) (d : Edge) → slice_get flow.edges.items other ≡ Some d → d.from ≡ b → (other ≡ number → ⊥) → edge l n flow p.before.row other ≡ None)
               (owns : (block number : ℕ) (row x : List (Cell I)) → is_own_row l n list flow.bases.items flow.width row ≡ true → edge_end l n flow block number row ≡ Some x → is_own_row l n list flow.bases.items flow.width x ≡ true) where
             ahead : b < e.to

@@ -37,7 +37,7 @@ use Rattle.memory_model.specs.Effects.UnitStarts.{start_world}
 use Rattle.memory_model.specs.Effects.NumberedTables.{put_at, empty_table}
 use Rattle.lower_templates.specs.Worklist.Acts.{act, Step}
 use Rattle.lower_templates.specs.Views.ProgramViews.{FlowView, flow_view}
-use Rattle.semantics.specs.CfgMachine.FlowStates.{Standing, FlowRun, running, stopped, found_in}
+use Rattle.semantics.specs.CfgMachine.FlowStates.{ProgramState, FlowRun, running, stopped, found_in}
 use Rattle.semantics.specs.CfgMachine.FlowSteps.{block_of, begun, act_step, violations_at, run_by, instruction_step, flow_step, flow_steps}
 use Rattle.semantics.specs.CfgMachine.FlowStarts.{first_standing, begun_by, flow_begin}
 use Rattle.store_sound.specs.Concretization.Coverage.{state_of}
@@ -119,7 +119,7 @@ module _ {I : Type 0} {l : LatticeOf I} {n : IntegersOf I} {gamma : I → ℤ �
     rows : Table I
     b : ℕ
     at : ℕ
-    s : Standing
+    s : ProgramState
     found : List Violation
     is : r ≡ running s found
     block : s.block ≡ b
@@ -143,7 +143,7 @@ module _ {I : Type 0} {l : LatticeOf I} {n : IntegersOf I} {gamma : I → ℤ �
       abbrev it : Instruction
       it = k.instruction
 
-      abbrev reply : Reply Standing
+      abbrev reply : Reply ProgramState
       reply = act_step f (act it.operation) (begun g.s)
 
       stepped : run (suc count) ≡ run_by g.found it.place reply
@@ -193,16 +193,16 @@ module _ {I : Type 0} {l : LatticeOf I} {n : IntegersOf I} {gamma : I → ℤ �
           below (y ∷ ys) zero x e = omega arith
           below (y ∷ ys) (suc j) x e = let r = below ys j x e in omega (arith, r)
 
-      abbrev Outcome : Reply Standing → Type 0
+      abbrev Outcome : Reply ProgramState → Type 0
       Outcome y = GoesOn (run_by g.found it.place y) left ⊎ HasStopped (run_by g.found it.place y)
 
-      goes_out : (on : leads it.operation ≡ On) (y : Reply Standing) → reply ≡ y → Outcome y
+      goes_out : (on : leads it.operation ≡ On) (y : Reply ProgramState) → reply ≡ y → Outcome y
       goes_out on y e =
           let told = step_told l n gamma flow limits laws p objects structs texts single.plain g.passed.before.naming row g.s reached g.passed.before.tells it.operation on done (single.calls it.operation done) is_typed fits operands has_right defined in
           let sound = steps_sound g.passed.before.naming row (begun g.s) it.operation (on, done) fits operands reached in
           by_reply y e (λ t w d. both l n flow gamma (operate l n flow row it.operation) (record t { world = w }) (sound.goes_on t w d) (told.goes_on t w d)) told.ends (λ r c. subst (λ z. Contains (world_of z).violated r) e (told.violated r c))
         where
-          by_reply : (y : Reply Standing) → reply ≡ y → ((t : Standing) (w : World) → reply ≡ goes t w → IsBoth l n flow gamma (operate l n flow row it.operation) (record t { world = w })) → ((why : Why) (w : World) → reply ≡ stops why w → operate l n flow row it.operation ≡ None) → ((r : Rule) → violates (operation_violations l n flow row it.operation) r ≡ true → Contains (world_of y).violated r) → Outcome y
+          by_reply : (y : Reply ProgramState) → reply ≡ y → ((t : ProgramState) (w : World) → reply ≡ goes t w → IsBoth l n flow gamma (operate l n flow row it.operation) (record t { world = w })) → ((why : Why) (w : World) → reply ≡ stops why w → operate l n flow row it.operation ≡ None) → ((r : Rule) → violates (operation_violations l n flow row it.operation) r ≡ true → Contains (world_of y).violated r) → Outcome y
           by_reply (goes t w) e goes_on ends violated =
               let x = go_on f it.operation (begun g.s) t w on e in
               let few = g.few in
@@ -248,7 +248,7 @@ module _ {I : Type 0} {l : LatticeOf I} {n : IntegersOf I} {gamma : I → ℤ �
             none : operate l n flow row it.operation ≡ None
             none = ap (operate l n flow row) e
 
-            by_reply : (y : Reply Standing) → reply ≡ y → Outcome y
+            by_reply : (y : Reply ProgramState) → reply ≡ y → Outcome y
             by_reply (goes t w) r = let z : act_step f (act op.Stop) (begun g.s) ≡ goes t w = sym (ap (λ x. act_step f (act x) (begun g.s)) e) ∙ r in cc
             by_reply (stops why w) r = inr (record {
               rows = g.rows;
@@ -260,7 +260,7 @@ module _ {I : Type 0} {l : LatticeOf I} {n : IntegersOf I} {gamma : I → ℤ �
         way_out : IsWay it.operation → Outcome reply
         way_out is = by_reply reply refl
           where
-            by_reply : (y : Reply Standing) → reply ≡ y → Outcome y
+            by_reply : (y : Reply ProgramState) → reply ≡ y → Outcome y
             by_reply (stops why w) r = absurd (defined w (r ∙ ap (λ z. stops z w) (way_stuck f (begun g.s) it.operation is why w r)))
             by_reply (goes t w) r =
                 let told = (laws.ways p (ways_apart flow limits good switches) tests_sound tests_told good g.passed.before.naming row (begun g.s) it last_here is reached g.passed.before.tells defined).goes_on t w r in
@@ -343,15 +343,15 @@ module _ {I : Type 0} {l : LatticeOf I} {n : IntegersOf I} {gamma : I → ℤ �
           below (y ∷ ys) (suc j) x e = let r = below ys j x e in omega (arith, r)
   to_end (suc left) count g = elim (one_step count left g) [ inl on ↦ to_end left (suc count) on | inr h ↦ record { count = suc count; ended = h } ]
 
-  record IsFirst (s : Standing) : Type 0 where
+  record IsFirst (s : ProgramState) : Type 0 where
     block : s.block ≡ 0
     at : s.at ≡ 0
 
-  first_is : (reply : Reply (Unit {0})) (s : Standing) → begun_by u f reply ≡ running s [] → IsFirst s
+  first_is : (reply : Reply (Unit {0})) (s : ProgramState) → begun_by u f reply ≡ running s [] → IsFirst s
   first_is (goes v w) s e = let a : first_standing u f w ≡ s = cc in record { block = ap (λ z. z.block) (sym a); at = ap (λ z. z.at) (sym a) }
   first_is (stops why w) s e = cc
 
-  module _ (begin : Standing) (begins : flow_begin u f [] ≡ running begin []) (start : IsBoth l n flow gamma (Some (start_of l n flow list)) begin) where
+  module _ (begin : ProgramState) (begins : flow_begin u f [] ≡ running begin []) (start : IsBoth l n flow gamma (Some (start_of l n flow list)) begin) where
     first : GoesOn (run 0) (left_from flow.blocks.items 0)
     first =
         let a = first_is (start_world u []) begin begins in

@@ -11,7 +11,7 @@ use Rattle.cfg.specs.declared.programs.Flow.{Flow}
 use Rattle.value_domain.specs.declared.values.row_cells.Cell.{Cell}
 use Rattle.lower_templates.specs.Worklist.Acts.{act}
 use Rattle.lower_templates.specs.Views.ProgramViews.{flow_view}
-use Rattle.semantics.specs.CfgMachine.FlowStates.{Standing}
+use Rattle.semantics.specs.CfgMachine.FlowStates.{ProgramState}
 use Rattle.semantics.specs.CfgMachine.FlowSteps.{begun, act_step}
 use Rattle.store_sound.specs.Concretization.Coverage.{state_of}
 use Rattle.store_sound.specs.Concretization.ValueMeaning.{Naming}
@@ -28,7 +28,7 @@ use Rattle.transfer_exact.specs.Accesses.TypedAccesses.{HasObjects}
 use Rattle.transfer_exact.specs.Edges.WayLaws.{IsWay}
 use Rattle.run_exact.specs.Runs.SingleRuns.{IsPlainOperation, IsTypedStep, SingleLaws}
 
-module _ {I : Type 0} (l : LatticeOf I) (n : IntegersOf I) (gamma : I → ℤ → Type 0) (flow : Flow) (limits : Limits) (laws : SingleLaws l n gamma flow limits) (p : HasPremises flow) (objects : HasObjects flow) (structs : HasStructs flow) (texts : SpellsOverCharacters flow) (plain : IsPlainProgram flow) (naming : Naming) (row : List (Cell I)) (s : Standing) (r : IsReached l n gamma flow naming row (begun s)) (t : ExactState l n flow row (state_of s)) where
+module _ {I : Type 0} (l : LatticeOf I) (n : IntegersOf I) (gamma : I → ℤ → Type 0) (flow : Flow) (limits : Limits) (laws : SingleLaws l n gamma flow limits) (p : HasPremises flow) (objects : HasObjects flow) (structs : HasStructs flow) (texts : SpellsOverCharacters flow) (plain : IsPlainProgram flow) (naming : Naming) (row : List (Cell I)) (s : ProgramState) (r : IsReached l n gamma flow naming row (begun s)) (t : ExactState l n flow row (state_of s)) where
   abbrev IsExactHere : Operation → Type 0
   IsExactHere o = leads o ≡ On → IsDoneIn flow o → IsPlainOperation o → IsTypedStep flow o s → fits_operation (names_of flow) o ≡ true → HasOperands o s.temps → HasRight o s.temps → IsDefined (act_step (flow_view flow) (act o) (begun s)) → StepIsExact l n flow row o (begun s)
 

@@ -23,7 +23,7 @@ use Rattle.memory_model.specs.Effects.Tests.{TestedSide, object, constant, nothi
 use Rattle.lower_templates.specs.Worklist.Acts.{act}
 use Rattle.lower_templates.specs.Worklist.Pieces.{Way, Always, When, Case, Other, NoLine, Line}
 use Rattle.lower_templates.specs.Views.ProgramViews.{FlowView, EdgeView}
-use Rattle.semantics.specs.CfgMachine.FlowStates.{Standing, if_some}
+use Rattle.semantics.specs.CfgMachine.FlowStates.{ProgramState, if_some}
 use Rattle.semantics.specs.CfgMachine.FlowEdges.{edge_taken, edges_of, with_side, in_world, testing, matching, on_way, along}
 use Rattle.semantics.specs.CfgMachine.FlowSteps.{block_of, on_edge, switching, act_step}
 use Rattle.transfer_sound.proofs.edges.TakenEdges.{FitsLead}
@@ -66,11 +66,11 @@ behind_stuck : {A B : Type 0} (reply : Reply A) (use_it : A → World → Reply 
 behind_stuck (goes x u) use_it h k why w e = k x u why w e
 behind_stuck (stops y u) use_it h k why w e = let a : y ≡ why = cc in sym a ∙ h y u refl
 
-some_stuck : {A B : Type 0} (s : Standing) (o : Option A) (use_it : A → Reply B) → ((x : A) → StopsStuck (use_it x)) → StopsStuck (if_some s o use_it)
+some_stuck : {A B : Type 0} (s : ProgramState) (o : Option A) (use_it : A → Reply B) → ((x : A) → StopsStuck (use_it x)) → StopsStuck (if_some s o use_it)
 some_stuck s None use_it h = stuck_here s.world
 some_stuck s (Some x) use_it h = h x
 
-side_stuck : (s : Standing) (x : Side) (use_it : TestedSide → Reply Standing) → ((y : TestedSide) → StopsStuck (use_it y)) → StopsStuck (with_side s x use_it)
+side_stuck : (s : ProgramState) (x : Side) (use_it : TestedSide → Reply ProgramState) → ((y : TestedSide) → StopsStuck (use_it y)) → StopsStuck (with_side s x use_it)
 side_stuck s (side.Object base kind) use_it h = some_stuck s (s.bases base) (λ i. use_it (object i kind)) (λ i. h (object i kind))
 side_stuck s (side.Number z) use_it h = h (constant z)
 side_stuck s side.Null use_it h = h nothing
@@ -79,7 +79,7 @@ passing_stuck : (b : Bool) (w : World) → StopsStuck (passing b w)
 passing_stuck true w = goes_here tt w
 passing_stuck false w = stuck_here w
 
-module _ (f : FlowView) (s : Standing) where
+module _ (f : FlowView) (s : ProgramState) where
   testing_stuck : (test : Option Test) → StopsStuck (testing f s test)
   testing_stuck None = goes_here s s.world
   testing_stuck (Some t) = side_stuck s t.left _ (λ left. side_stuck s t.right _ (λ right. behind_stuck _ _ (passing_stuck _ _) (λ x w. goes_here _ w)))

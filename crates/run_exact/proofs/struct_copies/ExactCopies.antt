@@ -45,7 +45,7 @@ use Rattle.memory_model.specs.Effects.Touches.{Spot, touched, is_allocated, stor
 use Rattle.memory_model.specs.Effects.Worlds.{World, Reply, Violated, Left, goes, stops, behind, violating, stopped_by}
 use Rattle.lower_templates.specs.Worklist.Acts.{act}
 use Rattle.semantics.specs.CfgMachine.FlowActs.{giving}
-use Rattle.semantics.specs.CfgMachine.FlowStates.{Standing}
+use Rattle.semantics.specs.CfgMachine.FlowStates.{ProgramState}
 use Rattle.semantics.specs.CfgMachine.FlowSteps.{act_step}
 use Rattle.lower_templates.specs.Views.ProgramViews.{flow_view}
 use Rattle.store_sound.specs.Concretization.Coverage.{state_of}
@@ -87,7 +87,7 @@ map_get f [] k x e = cc
 map_get f (y ∷ ys) zero x e = let same : y ≡ x = same_Some y x e in ap (λ z. Some (f z)) same
 map_get f (y ∷ ys) (suc k) x e = map_get f ys k x e
 
-module _ {I : Type 0} {l : LatticeOf I} {n : IntegersOf I} {gamma : I → ℤ → Type 0} (order : OrderLaws l) (q : BoundLaws l n gamma) (ranges : RangeLaws l n) (exact : ExactLaws n) (flow : Flow) (p : HasPremises flow) (objects : HasObjects flow) (plain : IsPlainProgram flow) (has : HasStructs flow) (naming : Naming) (row : List (Cell I)) (s : Standing) (r : IsReached l n gamma flow naming row s) (t : ExactState l n flow row (state_of s)) where
+module _ {I : Type 0} {l : LatticeOf I} {n : IntegersOf I} {gamma : I → ℤ → Type 0} (order : OrderLaws l) (q : BoundLaws l n gamma) (ranges : RangeLaws l n) (exact : ExactLaws n) (flow : Flow) (p : HasPremises flow) (objects : HasObjects flow) (plain : IsPlainProgram flow) (has : HasStructs flow) (naming : Naming) (row : List (Cell I)) (s : ProgramState) (r : IsReached l n gamma flow naming row s) (t : ExactState l n flow row (state_of s)) where
   abbrev memory : Memory
   memory = s.world.memory
 
@@ -153,7 +153,7 @@ module _ {I : Type 0} {l : LatticeOf I} {n : IntegersOf I} {gamma : I → ℤ �
 
     module _ (d m : MachinePointer) (tells_d : ExactPointer n s.bases s.world.memory x d) (tells_m : ExactPointer n s.bases s.world.memory y m) (inside_d : IsPointerIn s.world.memory d) (inside_m : IsPointerIn s.world.memory m)
         (typed_d : PointsToStruct flow s.bases index d) (typed_m : PointsToStruct flow s.bases index m) (places : AreOneOrApart flow index d m) where
-      abbrev Told : Reply Standing → Type 0
+      abbrev Told : Reply ProgramState → Type 0
       Told reply = IsExact l n flow after told reply
 
       abbrev reply : Reply Scalar
@@ -307,7 +307,7 @@ module _ {I : Type 0} {l : LatticeOf I} {n : IntegersOf I} {gamma : I → ℤ �
           clean = same_violated told (violations_union source.violations target.violations) u.violated both
               (union_violated source.violations target.violations u.violated (same_violated source.violations no_violations u.violated b.touches.violations (none_violated u.violated)) (same_violated target.violations no_violations u.violated a.touches.violations (none_violated u.violated)))
 
-          abbrev now : Standing
+          abbrev now : ProgramState
           now = record s { at = suc s.at; temps = put_at s.temps to (pointer d); world = u }
 
           gone : Told (giving s to (goes (pointer d) u))
@@ -354,11 +354,11 @@ module _ {I : Type 0} {l : LatticeOf I} {n : IntegersOf I} {gamma : I → ℤ �
     abbrev y : Pointers I
     y = (temp_value l n flow row from).pointer
 
-    abbrev ExactAt : ℕ → Reply Standing → Type 0
+    abbrev ExactAt : ℕ → Reply ProgramState → Type 0
     ExactAt k reply = IsExact l n flow (kept_target l flow to (touch l n flow.bases.items row x 0 k true).rest (structs.copy_struct l n flow.model flow.bases.items (structs_view flow.structs) index (touch l n flow.bases.items row x 0 k true).rest (touch l n flow.bases.items row y 0 k false).rest row))
         (both_touched (touch l n flow.bases.items row y 0 k false) (touch l n flow.bases.items row x 0 k true)) reply
 
-    abbrev reply_of : ℕ → Scalar → Scalar → Reply Standing
+    abbrev reply_of : ℕ → Scalar → Scalar → Reply ProgramState
     reply_of k a b = giving s to (effect.copy_struct flow.model (leaves_of (structs_view flow.structs) flow.model.pointer (Struct index)) k a b s.world)
 
     scalars_told : (a b : Scalar) → s.temps to ≡ Some a → s.temps from ≡ Some b → IsTypedCopy flow (op.Copy to from index) s → IsDefined (reply_of (size_of_type (structs_view flow.structs) flow.model.pointer (Struct index)) a b) → ExactAt (struct_size flow index) (reply_of (size_of_type (structs_view flow.structs) flow.model.pointer (Struct index)) a b)

@@ -20,7 +20,7 @@ use Rattle.memory_model.specs.Memory.Bytes.{MachinePointer, null, into}
 use Rattle.memory_model.specs.Memory.Instances.{Life, live, ended, freed, life_at}
 use Rattle.memory_model.specs.Effects.Touches.{touched, touched_by, is_literal, storage_of, storage_at}
 use Rattle.memory_model.specs.Effects.Worlds.{goes, stopped_by}
-use Rattle.semantics.specs.CfgMachine.FlowStates.{Standing}
+use Rattle.semantics.specs.CfgMachine.FlowStates.{ProgramState}
 use Rattle.store_sound.specs.Concretization.SoundMemory.{IsPointerIn, IsWithin, IsInstanceOf, storage_for}
 use Rattle.store_sound.specs.Concretization.ValueMeaning.{Naming}
 use Rattle.store_sound.proofs.operations.LoadSound.{base_there, instance_there}
@@ -41,7 +41,7 @@ literal_kind Older = refl
 past_end : (a b c d : ℕ) → (nat_le a b && nat_le c d) ≡ false → a ≤ b → d < c
 past_end a b c d h k = grind (arith, nat_tests)
 
-module _ {I : Type 0} {l : LatticeOf I} {n : IntegersOf I} {gamma : I → ℤ → Type 0} (q : BoundLaws l n gamma) (flow : Flow) (plain : IsPlainProgram flow) (naming : Naming) (row : List (Cell I)) (s : Standing) (r : IsReached l n gamma flow naming row s) (x : Pointers I) (at : MachinePointer) (size : ℕ) (write : Bool) where
+module _ {I : Type 0} {l : LatticeOf I} {n : IntegersOf I} {gamma : I → ℤ → Type 0} (q : BoundLaws l n gamma) (flow : Flow) (plain : IsPlainProgram flow) (naming : Naming) (row : List (Cell I)) (s : ProgramState) (r : IsReached l n gamma flow naming row s) (x : Pointers I) (at : MachinePointer) (size : ℕ) (write : Bool) where
   abbrev Nothing : Violations → Type 0
   Nothing told = TouchesNothing q flow.bases.items plain.no_heap row x size write told
 

@@ -23,7 +23,7 @@ use Rattle.transfer_edges.specs.Edges.{has_label}
 use Rattle.diagnose.specs.Diagnostics.AdmittedRules.{instructions_of}
 use Rattle.memory_model.specs.Effects.Worlds.{World, Stuck, Violation}
 use Rattle.lower_templates.specs.Views.ProgramViews.{flow_view}
-use Rattle.semantics.specs.CfgMachine.FlowStates.{Standing, running, stopped, found_in}
+use Rattle.semantics.specs.CfgMachine.FlowStates.{ProgramState, running, stopped, found_in}
 use Rattle.semantics.specs.CfgMachine.FlowSteps.{flow_steps}
 use Rattle.semantics.specs.CfgMachine.FlowStarts.{flow_begin}
 use Rattle.transfer_system.specs.BoundedRows.OwnRows.{is_own_row}
@@ -54,7 +54,7 @@ IsPlainOperation (op.ReadLine to text count stream) = ⊥
 IsPlainOperation _ = Unit {0}
 
 -- accesses are of the kind of what lies there
-abbrev pub IsTypedStep : Flow → Operation → Standing → Type 0
+abbrev pub IsTypedStep : Flow → Operation → ProgramState → Type 0
 IsTypedStep flow (op.Load to from kind) s = IsTyped flow s from kind
 IsTypedStep flow (op.Store to from kind kept) s = IsTyped flow s to kind
 IsTypedStep flow (op.Copy to from index) s = IsTypedCopy flow (op.Copy to from index) s
@@ -67,7 +67,7 @@ pub record SwitchesAreApart (flow : Flow) : Type 0 where
 
 -- each access in the run under no numbers of the outside is of the kind of what lies there
 abbrev pub HasTypedAccesses : Flow → UnitView → Type 0
-HasTypedAccesses flow u = (count : ℕ) (s : Standing) (found : List Violation) (i : Instruction) → flow_steps (flow_view flow) count (flow_begin u (flow_view flow) []) ≡ running s found → slice_get (instructions_of flow s.block) s.at ≡ Some i → IsTypedStep flow i.operation s
+HasTypedAccesses flow u = (count : ℕ) (s : ProgramState) (found : List Violation) (i : Instruction) → flow_steps (flow_view flow) count (flow_begin u (flow_view flow) []) ≡ running s found → slice_get (instructions_of flow s.block) s.at ≡ Some i → IsTypedStep flow i.operation s
 
 -- what the laws suppose of a program, and of its run under no numbers of the outside
 pub record IsSingleProgram (flow : Flow) (u : UnitView) : Type 0 where
@@ -80,7 +80,7 @@ pub record IsSingleProgram (flow : Flow) (u : UnitView) : Type 0 where
 
 -- the run under no numbers of the outside enters no block from that block or a later one
 abbrev pub EntersNoHead : Flow → UnitView → Type 0
-EntersNoHead flow u = (count : ℕ) (s : Standing) (found : List Violation) → flow_steps (flow_view flow) count (flow_begin u (flow_view flow) []) ≡ running s found → is_head_at flow.blocks.items s.block ≡ false
+EntersNoHead flow u = (count : ℕ) (s : ProgramState) (found : List Violation) → flow_steps (flow_view flow) count (flow_begin u (flow_view flow) []) ≡ running s found → is_head_at flow.blocks.items s.block ≡ false
 
 -- the same of a program that may have ways back, none of which the run takes
 pub record IsSingleRun (flow : Flow) (u : UnitView) : Type 0 where
@@ -92,7 +92,7 @@ pub record IsSingleRun (flow : Flow) (u : UnitView) : Type 0 where
 
 -- right operands are of the operators' types in this run
 abbrev pub HasRightOperands : Flow → UnitView → Type 0
-HasRightOperands flow u = (count : ℕ) (s : Standing) (found : List Violation) (i : Instruction) → flow_steps (flow_view flow) count (flow_begin u (flow_view flow) []) ≡ running s found → slice_get (instructions_of flow s.block) s.at ≡ Some i → HasRight i.operation s.temps
+HasRightOperands flow u = (count : ℕ) (s : ProgramState) (found : List Violation) (i : Instruction) → flow_steps (flow_view flow) count (flow_begin u (flow_view flow) []) ≡ running s found → slice_get (instructions_of flow s.block) s.at ≡ Some i → HasRight i.operation s.temps
 
 -- each step of the run is defined
 abbrev pub IsNeverStuckAlone : Flow → UnitView → Type 0
@@ -150,5 +150,5 @@ module _ {I : Type 0} (l : LatticeOf I) (n : IntegersOf I) (gamma : I → ℤ �
 
   -- where the row of the entry stands for the state in which the run begins and tells it, and operands are of their types
   abbrev pub MapsAdmitOnlyRun : Type 0
-  MapsAdmitOnlyRun = HasLaws → SwitchesAreApart flow → (u : UnitView) → HasTypedRuns flow u → HasRightOperands flow u → IsNeverStuckAlone flow u → IsSingleRun flow u → (first : Standing) → flow_begin u (flow_view flow) [] ≡ running first []
+  MapsAdmitOnlyRun = HasLaws → SwitchesAreApart flow → (u : UnitView) → HasTypedRuns flow u → HasRightOperands flow u → IsNeverStuckAlone flow u → IsSingleRun flow u → (first : ProgramState) → flow_begin u (flow_view flow) [] ≡ running first []
       → InGammaAfter l n gamma flow (Some (start_of l n flow list)) first → ExactState l n flow (start_of l n flow list) (state_of first) → AdmitOnlyRun l n flow list u

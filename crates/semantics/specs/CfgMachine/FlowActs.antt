@@ -21,63 +21,63 @@ use Rattle.memory_model.specs.Effects.LibraryCalls.{library}
 use Rattle.lower_templates.specs.Worklist.Acts as act
 use Rattle.lower_templates.specs.Worklist.Acts.{Act}
 use Rattle.lower_templates.specs.Views.ProgramViews.{FlowView}
-use Rattle.semantics.specs.CfgMachine.FlowStates.{Standing, stuck_at, with_temp, with_temps, with_instance, put, next, base_size}
+use Rattle.semantics.specs.CfgMachine.FlowStates.{ProgramState, stuck_at, with_temp, with_temps, with_instance, put, next, base_size}
 
 -- ---- results
 
-abbrev pub giving : Standing → ℕ → Reply Scalar → Reply Standing
+abbrev pub giving : ProgramState → ℕ → Reply Scalar → Reply ProgramState
 giving s to reply = behind reply (λ v w. next (put s to v w))
 
-abbrev pub making : Standing → World → Reply Standing
+abbrev pub making : ProgramState → World → Reply ProgramState
 making s w = next (record s { world = w })
 
 -- the value that was stored may be kept in another temporary
-abbrev pub keeping : Standing → Option (ℕ × ℕ) → Reply Standing
+abbrev pub keeping : ProgramState → Option (ℕ × ℕ) → Reply ProgramState
 keeping s None = next s
 keeping s (Some kept) = with_temp s kept.1 (λ v. next (put s kept.0 v s.world))
 
-abbrev pub storing : Standing → Option (ℕ × ℕ) → Reply Scalar → Reply Standing
+abbrev pub storing : ProgramState → Option (ℕ × ℕ) → Reply Scalar → Reply ProgramState
 storing s kept reply = behind reply (λ v w. keeping (record s { world = w }) kept)
 
-abbrev pub put_result : Standing → Option ℕ → Option Scalar → World → Reply Standing
+abbrev pub put_result : ProgramState → Option ℕ → Option Scalar → World → Reply ProgramState
 put_result s (Some to) (Some v) w = next (put s to v w)
 put_result s None None w = making s w
 put_result s to v w = stuck_at s
 
-abbrev pub calling : Standing → Option ℕ → Reply (Option Scalar) → Reply Standing
+abbrev pub calling : ProgramState → Option ℕ → Reply (Option Scalar) → Reply ProgramState
 calling s to reply = behind reply (put_result s to)
 
 -- ---- operands
 
-abbrev pub with_amount : Standing → Amount → (Scalar → Reply Standing) → Reply Standing
+abbrev pub with_amount : ProgramState → Amount → (Scalar → Reply ProgramState) → Reply ProgramState
 with_amount s (amount.Temp t) use_it = with_temp s t use_it
 with_amount s amount.One use_it = use_it plain_one
 
-abbrev pub on_one : Standing → ℕ → ℕ → (Scalar → World → Reply Scalar) → Reply Standing
+abbrev pub on_one : ProgramState → ℕ → ℕ → (Scalar → World → Reply Scalar) → Reply ProgramState
 on_one s to from effect = with_temp s from (λ v. giving s to (effect v s.world))
 
-abbrev pub on_two : Standing → ℕ → ℕ → ℕ → (Scalar → Scalar → World → Reply Scalar) → Reply Standing
+abbrev pub on_two : ProgramState → ℕ → ℕ → ℕ → (Scalar → Scalar → World → Reply Scalar) → Reply ProgramState
 on_two s to left right effect = with_temp s left (λ a. with_temp s right (λ b. giving s to (effect a b s.world)))
 
 -- ---- objects
 
 -- a pointer to a byte of an object, into the whole of it
-abbrev pub addressing : FlowView → Standing → ℕ → ℕ → ℕ → Reply Standing
+abbrev pub addressing : FlowView → ProgramState → ℕ → ℕ → ℕ → Reply ProgramState
 addressing f s to base offset = with_instance s base (λ i. giving s to (goes (pointer (into i offset 0 (base_size f base))) s.world))
 
-abbrev pub enter : FlowView → Standing → ℕ → Option BaseInfo → Reply Standing
+abbrev pub enter : FlowView → ProgramState → ℕ → Option BaseInfo → Reply ProgramState
 enter f s base None = stuck_at s
 enter f s base (Some b) = making (record s { bases = put_at s.bases base (next_instance s.world) }) (entered f.model b.shape.cells b.size s.world)
 
 -- an object that is not there gets a fresh instance, which its base names from now on
-abbrev pub entering : FlowView → Standing → ℕ → Option ℕ → Reply Standing
+abbrev pub entering : FlowView → ProgramState → ℕ → Option ℕ → Reply ProgramState
 entering f s base None = enter f s base (slice_get f.bases base)
 entering f s base (Some i) = stuck_at s
 
-abbrev pub leaving : Standing → ℕ → Reply Standing
+abbrev pub leaving : ProgramState → ℕ → Reply ProgramState
 leaving s base = with_instance s base (λ i. making (record s { bases = clear_at s.bases base }) (left i s.world))
 
-abbrev pub changing : Standing → ℕ → (ℕ → World → World) → Reply Standing
+abbrev pub changing : ProgramState → ℕ → (ℕ → World → World) → Reply ProgramState
 changing s base change = with_instance s base (λ i. making s (change i s.world))
 
 -- ---- structs
@@ -90,7 +90,7 @@ struct_size f n = size_of_type f.structs f.model.pointer (Struct n)
 
 -- ---- instructions
 
-abbrev pub perform : FlowView → Act → Standing → Reply Standing
+abbrev pub perform : FlowView → Act → ProgramState → Reply ProgramState
 perform f (act.Constant to value kind) s = giving s to (goes (integer value no_labels) s.world)
 perform f (act.Address to base offset) s = addressing f s to base offset
 perform f (act.Load to from kind) s = on_one s to from (load f.model kind)

@@ -13,7 +13,7 @@ use Rattle.memory_model.specs.Effects.Worlds.{Reply, goes, behind}
 use Rattle.memory_model.specs.Effects.Tests.{TestedSide, object, constant, nothing, pass_test, pass_case}
 use Rattle.lower_templates.specs.Worklist.Pieces.{Way, Always, When, Case, Other, NoLine, Line}
 use Rattle.lower_templates.specs.Views.ProgramViews.{BlockView, EdgeView, FlowView}
-use Rattle.semantics.specs.CfgMachine.FlowStates.{Standing, stuck_at, if_some, with_instance, put}
+use Rattle.semantics.specs.CfgMachine.FlowStates.{ProgramState, stuck_at, if_some, with_instance, put}
 
 -- ---- which edge is taken
 
@@ -47,16 +47,16 @@ edges_of f b = take b.edges (drop b.first_edge f.edges)
 
 -- ---- tests
 
-abbrev pub with_side : Standing → Side → (TestedSide → Reply Standing) → Reply Standing
+abbrev pub with_side : ProgramState → Side → (TestedSide → Reply ProgramState) → Reply ProgramState
 with_side s (side.Object base kind) use_it = with_instance s base (λ i. use_it (object i kind))
 with_side s (side.Number n) use_it = use_it (constant n)
 with_side s side.Null use_it = use_it nothing
 
-abbrev pub in_world : Standing → Reply (Unit {0}) → Reply Standing
+abbrev pub in_world : ProgramState → Reply (Unit {0}) → Reply ProgramState
 in_world s reply = behind reply (λ _ w. goes (record s { world = w }) w)
 
 -- the run goes on where the test of an edge agrees with memory
-abbrev pub testing : FlowView → Standing → Option Test → Reply Standing
+abbrev pub testing : FlowView → ProgramState → Option Test → Reply ProgramState
 testing f s None = goes s s.world
 testing f s (Some t) = with_side s t.left (λ left. with_side s t.right (λ right. in_world s (pass_test f.model (record { left = left; rel = t.rel; right = right; common = t.common }) s.world)))
 
@@ -71,25 +71,25 @@ abbrev pub integer_in : BaseInfo → IntType
 integer_in b = record { bytes = b.size; signed = first_signed b.shape.cells; rank = 0 }
 
 -- the run goes on where the object that is switched on has the label's value
-abbrev pub matching : FlowView → Standing → ℤ → Option ℕ → Reply Standing
+abbrev pub matching : FlowView → ProgramState → ℤ → Option ℕ → Reply ProgramState
 matching f s value None = goes s s.world
 matching f s value (Some base) = if_some s (slice_get f.bases base) (λ b. with_instance s base (λ i. in_world s (pass_case f.model i (integer_in b) value s.world)))
 
 -- ---- what an edge does
 
-abbrev pub with_put : Option (ℕ × ℤ) → Standing → Standing
+abbrev pub with_put : Option (ℕ × ℤ) → ProgramState → ProgramState
 with_put None s = s
 with_put (Some p) s = put s p.0 (integer p.1 no_labels) s.world
 
-abbrev pub on_way : FlowView → Standing → Way → Reply Standing
+abbrev pub on_way : FlowView → ProgramState → Way → Reply ProgramState
 on_way f s (When truth test puts) = behind (testing f s test) (λ s w. goes (with_put puts s) w)
 on_way f s (Case test) = matching f s test.value test.object
 on_way f s other = goes s s.world
 
 -- the run goes on at the start of the block that the edge enters
-abbrev pub at_block : ℕ → Standing → Standing
+abbrev pub at_block : ℕ → ProgramState → ProgramState
 at_block to s = record s { block = to; at = 0 }
 
-abbrev pub along : FlowView → Standing → Option EdgeView → Reply Standing
+abbrev pub along : FlowView → ProgramState → Option EdgeView → Reply ProgramState
 along f s None = stuck_at s
 along f s (Some e) = behind (on_way f s e.taken) (λ s w. goes (at_block e.to s) w)

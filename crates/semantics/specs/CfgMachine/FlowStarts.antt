@@ -6,7 +6,7 @@ use Rattle.memory_model.specs.Effects.NumberedTables.{put_at, empty_table}
 use Rattle.memory_model.specs.Effects.Worlds.{World, Reply, goes, stops}
 use Rattle.memory_model.specs.Effects.UnitStarts.{base_instance, parameter_instance, start_world}
 use Rattle.lower_templates.specs.Views.ProgramViews.{InitialView, FlowView}
-use Rattle.semantics.specs.CfgMachine.FlowStates.{Standing, FlowRun, running, stopped}
+use Rattle.semantics.specs.CfgMachine.FlowStates.{ProgramState, FlowRun, running, stopped}
 
 abbrev pub Names : Type 0
 Names = ℕ → Option ℕ
@@ -29,7 +29,7 @@ abbrev pub start_names : UnitView → FlowView → Names
 start_names u f = name_parameters u 0 f.parameters (name_objects u f.initial empty_table)
 
 -- at the start of the first block; no temporary has anything
-abbrev pub first_standing : UnitView → FlowView → World → Standing
+abbrev pub first_standing : UnitView → FlowView → World → ProgramState
 first_standing u f w = record { block = 0; at = 0; temps = empty_table; bases = start_names u f; world = w }
 
 abbrev pub begun_by : UnitView → FlowView → Reply (Unit {0}) → FlowRun

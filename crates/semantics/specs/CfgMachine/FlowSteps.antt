@@ -10,7 +10,7 @@ use Rattle.memory_model.specs.Effects.LibraryCalls.{fgets}
 use Rattle.lower_templates.specs.Worklist.Acts as act
 use Rattle.lower_templates.specs.Worklist.Acts.{Act, Step}
 use Rattle.lower_templates.specs.Views.ProgramViews.{BlockView, FlowView}
-use Rattle.semantics.specs.CfgMachine.FlowStates.{Standing, with_temp, with_temps, put_if, FlowRun, running, stopped}
+use Rattle.semantics.specs.CfgMachine.FlowStates.{ProgramState, with_temp, with_temps, put_if, FlowRun, running, stopped}
 use Rattle.semantics.specs.CfgMachine.FlowActs.{perform}
 use Rattle.semantics.specs.CfgMachine.FlowEdges.{edge_taken, edges_of, along}
 
@@ -26,17 +26,17 @@ block_of f n = block_or (slice_get f.blocks n)
 
 -- ---- one instruction
 
-abbrev pub on_edge : FlowView → Standing → Scalar → Reply Standing
+abbrev pub on_edge : FlowView → ProgramState → Scalar → Reply ProgramState
 on_edge f s v = along f s (edge_taken v (edges_of f (block_of f s.block)))
 
-abbrev pub switching : FlowView → Standing → Scalar → Reply Standing
+abbrev pub switching : FlowView → ProgramState → Scalar → Reply ProgramState
 switching f s v = with_number v s.world (λ n labels w. on_edge f s v)
 
-abbrev pub reading_line : FlowView → Option ℕ → Standing → List Scalar → Reply Standing
+abbrev pub reading_line : FlowView → Option ℕ → ProgramState → List Scalar → Reply ProgramState
 reading_line f to s arguments = behind (fgets f.model arguments s.world) (λ v w. on_edge f (put_if s to v w) v)
 
 -- the last instruction of a block leads to one of its edges
-abbrev pub act_step : FlowView → Act → Standing → Reply Standing
+abbrev pub act_step : FlowView → Act → ProgramState → Reply ProgramState
 act_step f act.Jump s = on_edge f s (integer (pos 0) no_labels)
 act_step f (act.Branch from kind) s = with_temp s from (on_edge f s)
 act_step f (act.Switch from kind) s = with_temp s from (switching f s)
@@ -45,7 +45,7 @@ act_step f act.Stop s = stops Ended s.world
 act_step f other s = perform f other s
 
 -- a step begins with no violation of its own
-abbrev pub begun : Standing → Standing
+abbrev pub begun : ProgramState → ProgramState
 begun s = record s { world = unviolated s.world }
 
 -- ---- runs
@@ -53,11 +53,11 @@ begun s = record s { world = unviolated s.world }
 abbrev pub violations_at : Place → List Rule → List Violation
 violations_at at rules = map (λ r. record { at = at; rule = r }) rules
 
-abbrev pub run_by : List Violation → Place → Reply Standing → FlowRun
+abbrev pub run_by : List Violation → Place → Reply ProgramState → FlowRun
 run_by found at (goes s w) = running (record s { world = w }) (found ++ violations_at at w.violated)
 run_by found at (stops why w) = stopped why w (found ++ violations_at at w.violated)
 
-abbrev pub instruction_step : FlowView → List Violation → Standing → Option Step → FlowRun
+abbrev pub instruction_step : FlowView → List Violation → ProgramState → Option Step → FlowRun
 instruction_step f found s None = stopped Stuck s.world found
 instruction_step f found s (Some i) = run_by found i.at (act_step f i.does (begun s))
 

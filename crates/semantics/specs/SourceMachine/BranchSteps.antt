@@ -14,7 +14,7 @@ use Rattle.memory_model.specs.Effects.LibraryCalls.{fgets}
 use Rattle.memory_model.specs.Effects.Tests.{opposite, TestedSide, object, constant, nothing, pass_test, pass_case}
 use Rattle.semantics.specs.SourceMachine.Items as item
 use Rattle.semantics.specs.SourceMachine.Items.{NamedSide, NamedTest, Item, Items, listed}
-use Rattle.semantics.specs.SourceMachine.Scopes.{leap_in, behind_loop}
+use Rattle.semantics.specs.SourceMachine.Scopes.{leap_in, past_loop}
 use Rattle.semantics.specs.SourceMachine.LabelSearch.{Sought, found, case_of}
 use Rattle.semantics.specs.SourceMachine.LabelSearch as sought
 use Rattle.semantics.specs.SourceMachine.SourceStates.{State, with_world, first_do, stuck_at, if_some, with_object}
@@ -68,7 +68,7 @@ on_case u o l value s = on s
 -- where there is no default label, the value of no label leads behind the body
 abbrev pub landing : Sought → Option (List Item) → List Item → Option (List Item)
 landing l (Some to) control = Some to
-landing sought.other None control = Some (behind_loop control)
+landing sought.other None control = Some (past_loop control)
 landing l None control = None
 
 abbrev pub land : UnitView → StatementTree → Sought → State → Reply State

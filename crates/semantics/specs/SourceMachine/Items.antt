@@ -52,11 +52,11 @@ mutual
     ReadLine : (at : Place) (none some : Items) → Item
     Statement : (statement : StatementTree) → Item
     -- the next turn of a loop, by its condition
-    WhileTurn : (condition : TermTree) (body : StatementTree) → Item
-    DoTurn : (body : StatementTree) (condition : TermTree) → Item
-    ForTurn : (condition step : Option TermTree) (body : StatementTree) → Item
+    WhileIteration : (condition : TermTree) (body : StatementTree) → Item
+    DoIteration : (body : StatementTree) (condition : TermTree) → Item
+    ForIteration : (condition step : Option TermTree) (body : StatementTree) → Item
     -- here `continue` leads, and `break`
-    TurnEnd : Item
+    IterationEnd : Item
     LoopEnd : Item
     -- the newest value selects a label of a switch's body
     Select : (at : Place) (object : Option NamedObject) (labels : List CaseLabel) (body : StatementTree) → Item
@@ -67,7 +67,7 @@ mutual
     Hop : Item
     GoTo : (label : ℕ) → Item
     BreakOut : Item
-    NextTurn : Item
+    NextIteration : Item
     -- the function is left by `return`, or its body ends
     LeaveFunction : Item
     EndBody : Item

@@ -5,7 +5,7 @@ use Rattle.c_layout.specs.CheckedTrees as tree
 use Rattle.c_layout.specs.CheckedTrees.{TermTree, StatementTree, StatementTrees}
 use Rattle.c_layout.specs.CheckedUnits.{UnitView, FunctionView}
 use Rattle.c_layout.specs.declared.checked_tree.checked_statements.CaseLabel.{CaseLabel}
-use Rattle.semantics.specs.SourceMachine.Items.{Item, Statement, WhileTurn, TurnEnd, LoopEnd, Leaves, Hop, EndBody}
+use Rattle.semantics.specs.SourceMachine.Items.{Item, Statement, WhileIteration, IterationEnd, LoopEnd, Leaves, Hop, EndBody}
 use Rattle.semantics.specs.SourceMachine.StatementItems.{statements, list_statements, do_test, for_step}
 
 -- a label of the function, or one of the innermost switch
@@ -52,7 +52,7 @@ unfoldable mutual
   found u l (tree.Block objects items) rest = found_in u l items (Leaves objects ∷ rest)
   found u l (tree.If c body) rest = found u l body rest
   found u l (tree.IfElse c one two) rest = first (found u l one (Hop ∷ rest)) (found u l two rest)
-  found u l (tree.While c body) rest = found u l body (Hop ∷ (TurnEnd ∷ (WhileTurn c body ∷ (LoopEnd ∷ rest))))
+  found u l (tree.While c body) rest = found u l body (Hop ∷ (IterationEnd ∷ (WhileIteration c body ∷ (LoopEnd ∷ rest))))
   found u l (tree.Do body c) rest = found u l body (do_test u body c ++ LoopEnd ∷ rest)
   found u l (tree.For objects start c step body) rest = found u l body (for_step c step body ++ (LoopEnd ∷ (Leaves objects ∷ rest)))
   found u l (tree.Switch at e labels has_default enumerators body) rest = inside_switch l (found u l body (LoopEnd ∷ rest))

@@ -1,6 +1,6 @@
 -- The objects that live where a list of items is come to, scope by scope, the innermost one first.
 use Rattle.std.specs.Prelude.{ℕ, Bool, false, cond, ◌||◌, ◌==◌, List, [], ◌∷◌, ◌++◌}
-use Rattle.semantics.specs.SourceMachine.Items.{Item, Enters, Leaves, Hop, TurnEnd, LoopEnd}
+use Rattle.semantics.specs.SourceMachine.Items.{Item, Enters, Leaves, Hop, IterationEnd, LoopEnd}
 
 abbrev pub with_scope : Item → List (List ℕ) → List (List ℕ)
 with_scope (Leaves objects) scopes = objects ∷ scopes
@@ -48,12 +48,12 @@ abbrev pub leap_in : List Item → List Item → List Item
 leap_in from to = entering_first (entered_between from to) to
 
 -- what follows the end of the innermost loop or switch, and the end of the innermost loop's turn
-abbrev pub behind_loop : List Item → List Item
-behind_loop [] = []
-behind_loop (LoopEnd ∷ items) = items
-behind_loop (item ∷ items) = behind_loop items
+abbrev pub past_loop : List Item → List Item
+past_loop [] = []
+past_loop (LoopEnd ∷ items) = items
+past_loop (item ∷ items) = past_loop items
 
-abbrev pub behind_turn : List Item → List Item
-behind_turn [] = []
-behind_turn (TurnEnd ∷ items) = items
-behind_turn (item ∷ items) = behind_turn items
+abbrev pub past_iteration : List Item → List Item
+past_iteration [] = []
+past_iteration (IterationEnd ∷ items) = items
+past_iteration (item ∷ items) = past_iteration items

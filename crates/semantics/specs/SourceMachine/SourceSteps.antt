@@ -10,8 +10,8 @@ use Rattle.semantics.specs.SourceMachine.Items.{Item}
 use Rattle.semantics.specs.SourceMachine.Operations.{Operation, perform}
 use Rattle.semantics.specs.SourceMachine.TermItems.{address_items}
 use Rattle.semantics.specs.SourceMachine.ConditionItems.{term_items}
-use Rattle.semantics.specs.SourceMachine.StatementItems.{of_statement, while_turn, do_turn, for_turn}
-use Rattle.semantics.specs.SourceMachine.Scopes.{jump, behind_loop, behind_turn}
+use Rattle.semantics.specs.SourceMachine.StatementItems.{of_statement, while_iteration, do_iteration, for_iteration}
+use Rattle.semantics.specs.SourceMachine.Scopes.{jump, past_loop, past_iteration}
 use Rattle.semantics.specs.SourceMachine.LabelSearch.{from_label}
 use Rattle.semantics.specs.SourceMachine.SourceStates.{Frame, State, first_do, pushed, stuck_at, if_some, function_at, with_function}
 use Rattle.semantics.specs.SourceMachine.ObjectSteps.{on, point_to, point_to_literal, point_to_outcome, enter, leave, change}
@@ -90,18 +90,18 @@ act u (item.OnObject at n how) s = step at (change s n how)
 act u (item.Choose at test held failed) s = step at (choose u test held failed s s.values)
 act u (item.ReadLine at none some) s = step at (read_line u none some s s.values)
 act u (item.Statement statement) s = instead (of_statement u (is_entry s.frames) statement) s
-act u (item.WhileTurn c statement) s = instead (while_turn u c statement) s
-act u (item.DoTurn statement c) s = instead (do_turn u statement c) s
-act u (item.ForTurn c clause statement) s = instead (for_turn u c clause statement) s
-act u item.TurnEnd s = quiet (on s)
+act u (item.WhileIteration c statement) s = instead (while_iteration u c statement) s
+act u (item.DoIteration statement c) s = instead (do_iteration u statement c) s
+act u (item.ForIteration c clause statement) s = instead (for_iteration u c clause statement) s
+act u item.IterationEnd s = quiet (on s)
 act u item.LoopEnd s = quiet (on s)
 act u (item.Select at o labels statement) s = step at (select u o labels statement s s.values)
 act u (item.Enters objects) s = enter_all u s objects
 act u (item.Leaves objects) s = leave_all u s objects
 act u item.Hop s = step (own_place u s) (on s)
 act u (item.GoTo n) s = quiet (go_to u s n)
-act u item.BreakOut s = quiet (on (jump_to s (behind_loop s.control)))
-act u item.NextTurn s = quiet (on (jump_to s (behind_turn s.control)))
+act u item.BreakOut s = quiet (on (jump_to s (past_loop s.control)))
+act u item.NextIteration s = quiet (on (jump_to s (past_iteration s.control)))
 act u item.LeaveFunction s = quiet (leave_function u s)
 act u item.EndBody s = quiet (end_body u s)
 act u (item.Invoke at g count used) s = quiet (invoke u s at g count used)

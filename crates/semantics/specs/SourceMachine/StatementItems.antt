@@ -8,7 +8,7 @@ use Rattle.c_layout.specs.declared.checked_tree.checked_terms.ObjectRef.TheVaria
 use Rattle.lower_templates.specs.Worklist.TermKinds.{scalar_of, term_type, lvalue_type}
 use Rattle.lower_conditions.specs.Tests.{named}
 use Rattle.semantics.specs.SourceMachine.Operations as op
-use Rattle.semantics.specs.SourceMachine.Items.{Item, Forget, Clear, Spell, Value, Unused, Address, Do, Drop, Object, Outcome, OnObject, Statement, WhileTurn, DoTurn, ForTurn, TurnEnd, LoopEnd, Select, Enters, Leaves, Hop, GoTo, BreakOut, NextTurn, LeaveFunction, EndBody}
+use Rattle.semantics.specs.SourceMachine.Items.{Item, Forget, Clear, Spell, Value, Unused, Address, Do, Drop, Object, Outcome, OnObject, Statement, WhileIteration, DoIteration, ForIteration, IterationEnd, LoopEnd, Select, Enters, Leaves, Hop, GoTo, BreakOut, NextIteration, LeaveFunction, EndBody}
 use Rattle.semantics.specs.SourceMachine.ConditionItems.{condition}
 
 abbrev pub statements : StatementTrees → List Item
@@ -32,29 +32,29 @@ all_stored at local (x ∷ xs) = stored at local x ++ all_stored at local xs
 -- ---- loops
 
 -- the way back of a loop is a step, unless it is that of its condition
-abbrev pub while_turn : UnitView → TermTree → StatementTree → List Item
-while_turn u c body = condition u true c (Statement body ∷ (Hop ∷ (TurnEnd ∷ (WhileTurn c body ∷ [])))) []
+abbrev pub while_iteration : UnitView → TermTree → StatementTree → List Item
+while_iteration u c body = condition u true c (Statement body ∷ (Hop ∷ (IterationEnd ∷ (WhileIteration c body ∷ [])))) []
 
 abbrev pub do_test : UnitView → StatementTree → TermTree → List Item
-do_test u body c = TurnEnd ∷ condition u true c (DoTurn body c ∷ []) []
+do_test u body c = IterationEnd ∷ condition u true c (DoIteration body c ∷ []) []
 
-abbrev pub do_turn : UnitView → StatementTree → TermTree → List Item
-do_turn u body c = Statement body ∷ do_test u body c
+abbrev pub do_iteration : UnitView → StatementTree → TermTree → List Item
+do_iteration u body c = Statement body ∷ do_test u body c
 
 abbrev pub clause : Option TermTree → List Item
 clause None = []
 clause (Some e) = Unused e ∷ []
 
 abbrev pub for_step : Option TermTree → Option TermTree → StatementTree → List Item
-for_step c step body = TurnEnd ∷ (clause step ++ (Hop ∷ (ForTurn c step body ∷ [])))
+for_step c step body = IterationEnd ∷ (clause step ++ (Hop ∷ (ForIteration c step body ∷ [])))
 
 abbrev pub for_body : Option TermTree → Option TermTree → StatementTree → List Item
 for_body c step body = Statement body ∷ for_step c step body
 
 -- a condition that is left out holds
-abbrev pub for_turn : UnitView → Option TermTree → Option TermTree → StatementTree → List Item
-for_turn u None step body = for_body None step body
-for_turn u (Some c) step body = condition u true c (for_body (Some c) step body) []
+abbrev pub for_iteration : UnitView → Option TermTree → Option TermTree → StatementTree → List Item
+for_iteration u None step body = for_body None step body
+for_iteration u (Some c) step body = condition u true c (for_body (Some c) step body) []
 
 -- ---- returns
 
@@ -79,16 +79,16 @@ of_statement u is_entry (tree.StartList at local stores) = OnObject at local Cle
 of_statement u is_entry (tree.Block objects items) = Enters objects ∷ (statements items ++ Leaves objects ∷ [])
 of_statement u is_entry (tree.If c body) = condition u true c (Statement body ∷ []) []
 of_statement u is_entry (tree.IfElse c first second) = condition u true c (Statement first ∷ (Hop ∷ [])) (Statement second ∷ [])
-of_statement u is_entry (tree.While c body) = WhileTurn c body ∷ (LoopEnd ∷ [])
-of_statement u is_entry (tree.Do body c) = DoTurn body c ∷ (LoopEnd ∷ [])
-of_statement u is_entry (tree.For objects first c step body) = Enters objects ∷ (statements first ++ (ForTurn c step body ∷ (LoopEnd ∷ (Leaves objects ∷ []))))
+of_statement u is_entry (tree.While c body) = WhileIteration c body ∷ (LoopEnd ∷ [])
+of_statement u is_entry (tree.Do body c) = DoIteration body c ∷ (LoopEnd ∷ [])
+of_statement u is_entry (tree.For objects first c step body) = Enters objects ∷ (statements first ++ (ForIteration c step body ∷ (LoopEnd ∷ (Leaves objects ∷ []))))
 of_statement u is_entry (tree.Switch at e labels has_default enumerators body) = Value e ∷ (Select at (named e) labels body ∷ (LoopEnd ∷ []))
 of_statement u is_entry (tree.Case n body) = Statement body ∷ []
 of_statement u is_entry (tree.Default body) = Statement body ∷ []
 of_statement u is_entry (tree.Label n body) = Statement body ∷ []
 of_statement u is_entry (tree.Goto n) = GoTo n ∷ []
 of_statement u is_entry tree.Break = BreakOut ∷ []
-of_statement u is_entry tree.Continue = NextTurn ∷ []
+of_statement u is_entry tree.Continue = NextIteration ∷ []
 of_statement u is_entry (tree.Return at e) = returned is_entry at e ++ LeaveFunction ∷ []
 
 abbrev pub list_statements : List StatementTree → List Item

@@ -24,7 +24,7 @@ pub record Frame : Type 0 where
 
 -- the function that runs, the pieces that are still to be done, what its temporaries have, the instances that
 -- its objects name, the functions that wait, and the world
-pub record Standing : Type 0 where
+pub record TemplateState : Type 0 where
   pub function : ℕ
   pub rest : List PieceView
   pub temps : ℕ → Option Scalar
@@ -39,37 +39,37 @@ pub record Templates : Type 0 where
 
 -- ---- what is there, without which a run is stuck
 
-abbrev pub stuck_at : {A : Type 0} → Standing → Reply A
+abbrev pub stuck_at : {A : Type 0} → TemplateState → Reply A
 stuck_at s = stops Stuck s.world
 
-abbrev pub if_some : {A B : Type 0} → Standing → Option A → (A → Reply B) → Reply B
+abbrev pub if_some : {A B : Type 0} → TemplateState → Option A → (A → Reply B) → Reply B
 if_some s None use_it = stuck_at s
 if_some s (Some x) use_it = use_it x
 
-abbrev pub with_temp : {B : Type 0} → Standing → ℕ → (Scalar → Reply B) → Reply B
+abbrev pub with_temp : {B : Type 0} → TemplateState → ℕ → (Scalar → Reply B) → Reply B
 with_temp s t use_it = if_some s (s.temps t) use_it
 
 -- ---- what a step leaves
 
-abbrev pub on : Standing → Reply Standing
+abbrev pub on : TemplateState → Reply TemplateState
 on s = goes s s.world
 
-abbrev pub put : Standing → ℕ → Scalar → World → Standing
+abbrev pub put : TemplateState → ℕ → Scalar → World → TemplateState
 put s to v w = record s { temps = put_at s.temps to v; world = w }
 
-abbrev pub with_world : Standing → World → Standing
+abbrev pub with_world : TemplateState → World → TemplateState
 with_world s w = record s { world = w }
 
-abbrev pub going_on : Standing → List PieceView → Standing
+abbrev pub going_on : TemplateState → List PieceView → TemplateState
 going_on s rest = record s { rest = rest }
 
 -- ---- objects are those of the function, as in the source
 
-abbrev pub scene : Standing → State
+abbrev pub scene : TemplateState → State
 scene s = record { function = s.function; names = s.names; control = []; values = []; frames = []; world = s.world }
 
 -- the name of a base of the function that runs
-abbrev pub with_name : {B : Type 0} → Templates → Standing → ℕ → (NameView → Reply B) → Reply B
+abbrev pub with_name : {B : Type 0} → Templates → TemplateState → ℕ → (NameView → Reply B) → Reply B
 with_name t s base use_it = if_some s (slice_get (t.of s.function).names base) use_it
 
 abbrev pub outcome_of : Option FunctionView → Option ℕ
@@ -77,7 +77,7 @@ outcome_of None = None
 outcome_of (Some f) = Some (result_object f)
 
 -- the number of a local object, or of the object of the result
-abbrev pub local_of : Templates → Standing → NameView → Option ℕ
+abbrev pub local_of : Templates → TemplateState → NameView → Option ℕ
 local_of t s (Local n) = Some n
 local_of t s Outcome = outcome_of (function_at t.unit s.function)
 local_of t s (Static n) = None
@@ -88,20 +88,20 @@ abbrev pub as_local : Option ℕ → Option ObjectRef
 as_local None = None
 as_local (Some n) = Some (object.Local n)
 
-abbrev pub object_of : Templates → Standing → NameView → Option ObjectRef
+abbrev pub object_of : Templates → TemplateState → NameView → Option ObjectRef
 object_of t s (Static n) = Some (object.Static n)
 object_of t s name = as_local (local_of t s name)
 
-abbrev pub instance_if : Standing → Option ObjectRef → Option ℕ
+abbrev pub instance_if : TemplateState → Option ObjectRef → Option ℕ
 instance_if s None = None
 instance_if s (Some o) = instance_of s.names o
 
 -- the instance that a name stands for
-abbrev pub instance_named : Templates → Standing → NameView → Option ℕ
+abbrev pub instance_named : Templates → TemplateState → NameView → Option ℕ
 instance_named t s (Literal n) = Some (literal_instance t.unit n)
 instance_named t s name = instance_if s (object_of t s name)
 
-abbrev pub with_instance : {B : Type 0} → Templates → Standing → ℕ → (ℕ → Reply B) → Reply B
+abbrev pub with_instance : {B : Type 0} → Templates → TemplateState → ℕ → (ℕ → Reply B) → Reply B
 with_instance t s base use_it = with_name t s base (λ name. if_some s (instance_named t s name) use_it)
 
 -- ---- runs
@@ -109,7 +109,7 @@ with_instance t s base use_it = with_name t s base (λ name. if_some s (instance
 -- a run with what it has violated so far: it goes on where it stands, or has stopped, with the world behind its
 -- last step
 pub data TemplateRun : Type 0 where
-  running : (standing : Standing) (found : List Violation) → TemplateRun
+  running : (standing : TemplateState) (found : List Violation) → TemplateRun
   stopped : (why : Why) (world : World) (found : List Violation) → TemplateRun
 
 abbrev pub world_of : TemplateRun → World

@@ -7,7 +7,7 @@ use Rattle.lower_templates.specs.Views.ProgramViews.{BlockView, EdgeView, FlowVi
 use Rattle.semantics.specs.CfgMachine.FlowEdges.{edges_of}
 use Rattle.semantics.specs.CfgMachine.FlowSteps.{block_of, block_or}
 use Rattle.lower.specs.Inlining.Lowerings.{lowered}
-use Rattle.lower.specs.Inlining.Openings.{Made, as_head, head_set, head_if, with_heads, resolved_edge, resolved, finished}
+use Rattle.lower.specs.Inlining.Inlinings.{Made, as_head, head_set, head_if, with_heads, resolved_edge, resolved, finished}
 use Rattle.simulation_layout.proofs.inlining.ListPlaces.{some_same, none_is_not, at_more}
 use Rattle.simulation_layout.proofs.inlining.MadeParts.{lines, At, EdgesAt}
 

@@ -17,9 +17,9 @@ use Rattle.semantics.specs.CfgMachine.FlowSteps.{block_of}
 use Rattle.lower.specs.Inlining.MovedActs.{own_base}
 use Rattle.lower_tables.specs.Bases.BaseTables.{known}
 use Rattle.lower.specs.Inlining.Lowerings.{lowered}
-use Rattle.lower.specs.Inlining.Openings.{Made, CopyView, Placed, placed, with_locals, with_rest, with_ready, instruction, with_edge, edge_to, ended, is_none, jumped, jumped_if, labelled, marked, with_mark, with_act, with_own, with_exits, block_ended, closed, with_act_if_used, with_piece, with_labels, copied, template_at, inner, resolved, finished}
+use Rattle.lower.specs.Inlining.Inlinings.{Made, CopyView, Placed, placed, with_locals, with_rest, with_ready, instruction, with_edge, edge_to, ended, is_none, jumped, jumped_if, labelled, marked, with_mark, with_act, with_own, with_exits, block_ended, closed, with_act_if_used, with_piece, with_labels, copied, template_at, inner, resolved, finished}
 use Rattle.lower.proofs.inlining.CountedCalls.{CalledIs, AllCalled}
-use Rattle.simulation_layout.specs.InlinedLayout.Copies.{Opened, Copy, IsLocal, IsCopy, Apart, AllApart}
+use Rattle.simulation_layout.specs.InlinedLayout.Copies.{Inlined, Copy, IsLocal, IsCopy, Apart, AllApart}
 use Rattle.simulation_layout.specs.InlinedLayout.Layouts as layouts
 use Rattle.simulation_layout.specs.InlinedLayout.Layouts.{Laid, IsPut, AreLed, edges_at}
 use Rattle.simulation_layout.specs.Copies.LowTemporaries.{HasLowTemps}
@@ -29,8 +29,8 @@ use Rattle.simulation_layout.proofs.inlining.ListPlaces.{some_same, within, one_
 use Rattle.simulation_layout.proofs.inlining.NamedTables.{LocalAt, GoodLocals, More, more_twice, info_kept, bases_longer}
 use Rattle.simulation_layout.proofs.inlining.MadeParts.{At, EdgesAt, Extends, extends_same, extends_twice, extends_labels, extends_label, extends_edge, extends_ended, edges_kept, at_ready, edges_ended}
 use Rattle.simulation_layout.proofs.inlining.NamedPlaces.{Good, only_own}
-use Rattle.simulation_layout.proofs.inlining.OpenedPieces.{Steps, steps_act, steps_exits, steps_program, steps_piece, blocks_exits, jumped_labels, marks, Unmarked}
-use Rattle.simulation_layout.proofs.inlining.OpenedCopies.{Opens, done, piece, call, Leaves, leaves, label_kept, after_piece, copy_of, good_copy, good_caller, is_call}
+use Rattle.simulation_layout.proofs.inlining.InlinedPieces.{Steps, steps_act, steps_exits, steps_program, steps_piece, blocks_exits, jumped_labels, marks, Unmarked}
+use Rattle.simulation_layout.proofs.inlining.InlinedCopies.{Opens, done, piece, call, Leaves, leaves, label_kept, after_piece, copy_of, good_copy, good_caller, is_call}
 use Rattle.simulation_layout.proofs.copies.FinishedPrograms.{stands_in, edges_in}
 use Rattle.simulation_layout.proofs.copies.LaidNames.{whole, copy_at, Toward, toward_back, put, Led, exits_led}
 
@@ -112,7 +112,7 @@ module _ (u : UnitView) (ts : List (Option TemplateView)) (of : ℕ → Template
     pub fit : IsFit u f t
 
   module _ (P : ℕ → Type 0) (fits : (m : ℕ) → P m → (f : FunctionView) (t : TemplateView) → slice_get u.functions m ≡ Some f → template_at ts m ≡ Some t → Fits P m f t) where
-    abbrev pub its : Opened
+    abbrev pub its : Inlined
     its = whole u of entry temps last none_ready low
 
     abbrev pub at_copy : ℕ → ℕ → CopyView → Copy

@@ -25,9 +25,9 @@ use Rattle.semantics.specs.SourceMachine.SourceStates.{function_at, static_type,
 use Rattle.lower.specs.Inlining.MovedActs.{own_base, moved}
 use Rattle.lower_tables.specs.Bases.BaseTables.{known}
 use Rattle.lower.specs.Inlining.Lowerings.{lowered}
-use Rattle.lower.specs.Inlining.Openings.{Made, CopyView, Placed, placed, with_locals, with_rest, name_at, base_number, with_base, own_number, with_own, instruction, with_ready, with_step, with_act, side_moved, with_side, both_moved, test_moved, with_test, object_moved, case_moved, way_moved, with_way, edge_to, with_edge, add_edge, with_exit, with_exits, resolved_edge, resolved, finished}
+use Rattle.lower.specs.Inlining.Inlinings.{Made, CopyView, Placed, placed, with_locals, with_rest, name_at, base_number, with_base, own_number, with_own, instruction, with_ready, with_step, with_act, side_moved, with_side, both_moved, test_moved, with_test, object_moved, case_moved, way_moved, with_way, edge_to, with_edge, add_edge, with_exit, with_exits, resolved_edge, resolved, finished}
 use Rattle.simulation_layout.specs.InlinedLayout.Shifts.{named_base, shifted}
-use Rattle.simulation_layout.specs.InlinedLayout.Copies.{Opened, Copy, StandsFor, StandsForIt, name_of, IsBase, IsOwnBase, IsResult, result_type, type_if, IsSwitched, IsSwitchedObject}
+use Rattle.simulation_layout.specs.InlinedLayout.Copies.{Inlined, Copy, StandsFor, StandsForIt, name_of, IsBase, IsOwnBase, IsResult, result_type, type_if, IsSwitched, IsSwitchedObject}
 use Rattle.simulation_layout.specs.InlinedLayout.Layouts as layouts
 use Rattle.simulation_layout.specs.InlinedLayout.Layouts.{IsAtStart, PointsWell, IsPut, IsSide, IsTest, IsCaseObject, IsWay, AreLed}
 use Rattle.simulation_layout.specs.Copies.LowTemporaries.{IsActLow, IsWayLow, HasLowTemps}
@@ -37,7 +37,7 @@ use Rattle.simulation_layout.proofs.inlining.ListPlaces.{some_same, none_is_not,
 use Rattle.simulation_layout.proofs.inlining.NamedTables.{LocalAt, ObjectAt, More, more_twice, Stands, info_kept}
 use Rattle.simulation_layout.proofs.inlining.MadeParts.{At, Extends, extends_twice, at_ready}
 use Rattle.simulation_layout.proofs.inlining.NamedPlaces.{Good, Only, only_own, only_base, only_side, only_test, only_way, named_stands}
-use Rattle.simulation_layout.proofs.inlining.OpenedPieces.{Steps, steps_only, steps_exit, steps_exits}
+use Rattle.simulation_layout.proofs.inlining.InlinedPieces.{Steps, steps_only, steps_exit, steps_exits}
 use Rattle.simulation_layout.proofs.copies.ShiftedActs.{same_base, low_put, moved_is_shifted}
 use Rattle.simulation_layout.proofs.copies.FinishedPrograms.{in_block, stands_in, edge_in}
 
@@ -51,7 +51,7 @@ integer_signed structs pointer k = ap (λ n. first_signed (folded_leaves n struc
 
 module _ (u : UnitView) (of : ℕ → TemplateView) (entry : FunctionView) (temps : ℕ) (last : Made) (none_ready : last.ready ≡ []) (low : HasLowTemps (lowered u entry (finished last) temps)) where
   -- the unit, its templates and its program
-  abbrev pub whole : Opened
+  abbrev pub whole : Inlined
   whole = record { unit = u; of = of; program = lowered u entry (finished last) temps; objects = known last.bases.objects; literals = known last.bases.literals }
 
   -- a copy that is finished, as it stands in the program

@@ -33,13 +33,13 @@ use Rattle.semantics.specs.CfgMachine.FlowSteps.{act_step}
 use Rattle.semantics.specs.SourceMachine.SourceRuns.{violations}
 use Rattle.semantics.specs.SourceMachine.SourceStates.{function_at, result_object, static_type, local_of}
 use Rattle.semantics.specs.TemplateMachine.TemplateStates as template
-use Rattle.semantics.specs.TemplateMachine.TemplateStates.{Frame, Standing, if_some, with_instance, scene, outcome_of, as_local, instance_named, instance_if}
+use Rattle.semantics.specs.TemplateMachine.TemplateStates.{Frame, TemplateState, if_some, with_instance, scene, outcome_of, as_local, instance_named, instance_if}
 use Rattle.semantics.specs.TemplateMachine.TemplateExits as exits
 use Rattle.semantics.specs.TemplateMachine.TemplateExits.{behind_mark, at_label, exit_taken, on_exit, line_read, end_block}
 use Rattle.semantics.specs.TemplateMachine.TemplateSteps as template_runs
 use Rattle.simulation_layout.specs.InlinedLayout.Shifts as shifts
 use Rattle.simulation_layout.specs.InlinedLayout.Shifts.{put_shifted, shifted}
-use Rattle.simulation_layout.specs.InlinedLayout.Copies.{Opened, Copy, IsObject, IsLiteral, StandsForIt, name_of, IsResult, type_named, type_if, result_type, IsSwitched}
+use Rattle.simulation_layout.specs.InlinedLayout.Copies.{Inlined, Copy, IsObject, IsLiteral, StandsForIt, name_of, IsResult, type_named, type_if, result_type, IsSwitched}
 use Rattle.simulation_layout.specs.InlinedLayout.Layouts as layouts
 use Rattle.simulation_layout.specs.InlinedLayout.Layouts.{IsSide, IsTest, IsCaseObject, IsWay, AreLed, edges_at}
 use Rattle.simulation_layout.specs.InlinedLayout.LaidRuns.{templates}
@@ -56,7 +56,7 @@ abbrev type_by : UnitView → Option FunctionView → ObjectRef → Option Ty
 type_by u f (object.Static n) = static_type (slice_get u.objects n)
 type_by u f (object.Local n) = local_of f n
 
-module _ (o : Opened) (are_objects : (n b : ℕ) → o.objects n ≡ Some b → IsObject o n b) (are_literals : (n b : ℕ) → o.literals n ≡ Some b → IsLiteral o n b) (c : Copy) where
+module _ (o : Inlined) (are_objects : (n b : ℕ) → o.objects n ≡ Some b → IsObject o n b) (are_literals : (n b : ℕ) → o.literals n ≡ Some b → IsLiteral o n b) (c : Copy) where
   -- ---- the edge that is taken
 
   same_taken : (v : Scalar) (a b : Way) → IsWay o c a b → is_taken v a ≡ is_taken v b
@@ -80,10 +80,10 @@ module _ (o : Opened) (are_objects : (n b : ℕ) → o.objects n ≡ Some b → 
       by false rest = rest
 
   module _ (around : List Copy) (names : ℕ → Option ℕ) (frames : List Frame) (block at end last : ℕ) (bases : ℕ → Option ℕ) (rest : List PieceView) where
-    abbrev here : (ℕ → Option Scalar) → World → Standing
+    abbrev here : (ℕ → Option Scalar) → World → TemplateState
     here temps w = std o c.function rest temps names frames w
 
-    abbrev there : (ℕ → Option Scalar) → World → flow.Standing
+    abbrev there : (ℕ → Option Scalar) → World → flow.ProgramState
     there all w = prog o block at all bases w
 
     abbrev Stood : (ℕ → Option Scalar) → (ℕ → Option Scalar) → Type 0
@@ -103,17 +103,17 @@ module _ (o : Opened) (are_objects : (n b : ℕ) → o.objects n ≡ Some b → 
     -- ---- tests
 
     -- both pass, or stop alike
-    data Passed : Reply Standing → Reply flow.Standing → Type 0 where
+    data Passed : Reply TemplateState → Reply flow.ProgramState → Type 0 where
       both_pass : (ts new : ℕ → Option Scalar) (v : World) → Stood ts new → Passed (goes (here ts v) v) (goes (there new v) v)
       both_halt : (why : Why) (v : World) → Passed (stops why v) (stops why v)
-      lost : (v : World) (y : Reply flow.Standing) → Passed (stops Stuck v) y
+      lost : (v : World) (y : Reply flow.ProgramState) → Passed (stops Stuck v) y
 
     module _ (temps all : ℕ → Option Scalar) (is : Stood temps all) (w : World) where
       passed : (x : Reply (Unit {0})) → Passed (exits.in_world (here temps w) x) (edges.in_world (there all w) x)
       passed (goes t v) = both_pass temps all v is
       passed (stops why v) = both_halt why v
 
-      instance_there : (b : ℕ) (i : Option ℕ) (use_it : ℕ → Reply Standing) (use_too : ℕ → Reply flow.Standing) → bases b ≡ i → ((j : ℕ) → i ≡ Some j → Passed (use_it j) (use_too j)) → Passed (if_some (here temps w) i use_it) (flow.with_instance (there all w) b use_too)
+      instance_there : (b : ℕ) (i : Option ℕ) (use_it : ℕ → Reply TemplateState) (use_too : ℕ → Reply flow.ProgramState) → bases b ≡ i → ((j : ℕ) → i ≡ Some j → Passed (use_it j) (use_too j)) → Passed (if_some (here temps w) i use_it) (flow.with_instance (there all w) b use_too)
       instance_there b i use_it use_too e alike = subst (λ x. Passed (if_some (here temps w) i use_it) (flow.if_some (there all w) x use_too)) (sym e) (by i alike)
         where
           by : (i : Option ℕ) → ((j : ℕ) → i ≡ Some j → Passed (use_it j) (use_too j)) → Passed (if_some (here temps w) i use_it) (flow.if_some (there all w) i use_too)
@@ -121,7 +121,7 @@ module _ (o : Opened) (are_objects : (n b : ℕ) → o.objects n ≡ Some b → 
           by (Some j) alike = alike j refl
 
       -- the instance of a name, and what its base names
-      named_instance : (b : ℕ) (name : NameView) (use_it : ℕ → Reply Standing) (use_too : ℕ → Reply flow.Standing) → StandsForIt o c (Some name) b → ((i : ℕ) → Passed (use_it i) (use_too i)) → Passed (if_some (here temps w) (instance_named (templates o) (here temps w) name) use_it) (flow.with_instance (there all w) b use_too)
+      named_instance : (b : ℕ) (name : NameView) (use_it : ℕ → Reply TemplateState) (use_too : ℕ → Reply flow.ProgramState) → StandsForIt o c (Some name) b → ((i : ℕ) → Passed (use_it i) (use_too i)) → Passed (if_some (here temps w) (instance_named (templates o) (here temps w) name) use_it) (flow.with_instance (there all w) b use_too)
       named_instance b (Local n) use_it use_too stands alike = instance_there b (names n) use_it use_too (is.named n b stands) (λ j e. alike j)
       named_instance b Outcome use_it use_too stands alike = by (function_at o.unit c.function) stands
         where
@@ -132,12 +132,12 @@ module _ (o : Opened) (are_objects : (n b : ℕ) → o.objects n ≡ Some b → 
       named_instance b (Literal n) use_it use_too stands alike = instance_there b (Some (literal_instance o.unit n)) use_it use_too (is.tables.literals n b stands) (λ j e. alike j)
       named_instance b (Allocation target) use_it use_too stands alike = lost _ _
 
-      instance_alike : (b : ℕ) (name : Option NameView) (use_it : ℕ → Reply Standing) (use_too : ℕ → Reply flow.Standing) → StandsForIt o c name b → ((i : ℕ) → Passed (use_it i) (use_too i))
+      instance_alike : (b : ℕ) (name : Option NameView) (use_it : ℕ → Reply TemplateState) (use_too : ℕ → Reply flow.ProgramState) → StandsForIt o c name b → ((i : ℕ) → Passed (use_it i) (use_too i))
           → Passed (if_some (here temps w) name (λ x. if_some (here temps w) (instance_named (templates o) (here temps w) x) use_it)) (flow.with_instance (there all w) b use_too)
       instance_alike b None use_it use_too stands alike = lost _ _
       instance_alike b (Some name) use_it use_too stands alike = named_instance b name use_it use_too stands alike
 
-      side_alike : (x y : Side) (use_it : TestedSide → Reply Standing) (use_too : TestedSide → Reply flow.Standing) → IsSide o c x y → ((t : TestedSide) → Passed (use_it t) (use_too t)) → Passed (exits.with_side (templates o) (here temps w) x use_it) (edges.with_side (there all w) y use_too)
+      side_alike : (x y : Side) (use_it : TestedSide → Reply TemplateState) (use_too : TestedSide → Reply flow.ProgramState) → IsSide o c x y → ((t : TestedSide) → Passed (use_it t) (use_too t)) → Passed (exits.with_side (templates o) (here temps w) x use_it) (edges.with_side (there all w) y use_too)
       side_alike _ _ use_it use_too (layouts.object n b k stands) alike = instance_alike b (name_of o c n) _ _ stands (λ i. alike (tests.object i k))
       side_alike _ _ use_it use_too (layouts.number n) alike = alike (tests.constant n)
       side_alike _ _ use_it use_too layouts.nothing alike = alike tests.nothing
@@ -161,10 +161,10 @@ module _ (o : Opened) (are_objects : (n b : ℕ) → o.objects n ≡ Some b → 
           (subst (λ k. Passed y (edges.in_world (there all w) (pass_case o.unit.model i (record { bytes = (integer_type ty).bytes; signed = k; rank = 0 }) value w))) (sym x.is_signed)
           (passed (pass_case o.unit.model i (integer_type ty) value w)))))
 
-      abbrev on_object : ℤ → ℕ → NameView → Reply Standing
+      abbrev on_object : ℤ → ℕ → NameView → Reply TemplateState
       on_object value i name = exits.typed_object (templates o) (here temps w) name (λ kind. exits.in_world (here temps w) (pass_case o.unit.model i kind value w))
 
-      abbrev Matched : ℤ → ℕ → Reply Standing → Type 0
+      abbrev Matched : ℤ → ℕ → Reply TemplateState → Type 0
       Matched value b x = Passed x (edges.matching (program o are_objects are_literals) (there all w) value (Some b))
 
       matched : (value : ℤ) (b : ℕ) (name : NameView) → StandsForIt o c (Some name) b → ((t : Ty) → type_named o c name ≡ Some t → IsSwitched o t b) → Matched value b (if_some (here temps w) (instance_named (templates o) (here temps w) name) (λ i. on_object value i name))
@@ -199,7 +199,7 @@ module _ (o : Opened) (are_objects : (n b : ℕ) → o.objects n ≡ Some b → 
 
     -- ---- ways
 
-    put_alike : (puts : Option (ℕ × ℤ)) (temps all : ℕ → Option Scalar) (is : Stood temps all) (x : Reply Standing) (y : Reply flow.Standing) → Passed x y → Passed (behind x (λ s w. template.on (exits.with_put puts s))) (behind y (λ s w. goes (edges.with_put (put_shifted c.depth puts) s) w))
+    put_alike : (puts : Option (ℕ × ℤ)) (temps all : ℕ → Option Scalar) (is : Stood temps all) (x : Reply TemplateState) (y : Reply flow.ProgramState) → Passed x y → Passed (behind x (λ s w. template.on (exits.with_put puts s))) (behind y (λ s w. goes (edges.with_put (put_shifted c.depth puts) s) w))
     put_alike puts temps all is _ _ (both_halt why v) = both_halt why v
     put_alike puts temps all is _ _ (lost v y) = lost v _
     put_alike None temps all is _ _ (both_pass ts new v stood) = both_pass ts new v stood
@@ -218,7 +218,7 @@ module _ (o : Opened) (are_objects : (n b : ℕ) → o.objects n ≡ Some b → 
     -- ---- the end of a block
 
     module _ (found also : List Violation) (equal : found ≡ also) (place : Place) where
-      abbrev Ran : Reply Standing → Reply flow.Standing → Type 0
+      abbrev Ran : Reply TemplateState → Reply flow.ProgramState → Type 0
       Ran x y = Both o (template_runs.run_by found (Some place) x) (flow_runs.run_by also place y)
 
       more : (v : World) → found ++ violations (Some place) v ≡ also ++ violations (Some place) v
@@ -239,7 +239,7 @@ module _ (o : Opened) (are_objects : (n b : ℕ) → o.objects n ≡ Some b → 
       led temps all is w _ _ none = stuck _ _ _
       led temps all is w _ _ (some e from taken held) = by _ _ (way_alike temps all is w e.taken taken held)
         where
-          by : (x : Reply Standing) (y : Reply flow.Standing) → Passed x y → Ran (behind x (λ s w. at_label (templates o) s e.to)) (behind y (λ s w. goes (edges.at_block (c.labels e.to) s) w))
+          by : (x : Reply TemplateState) (y : Reply flow.ProgramState) → Passed x y → Ran (behind x (λ s w. at_label (templates o) s e.to)) (behind y (λ s w. goes (edges.at_block (c.labels e.to) s) w))
           by _ _ (both_pass ts new v stood) = labelled e.to ts new v stood
           by _ _ (both_halt why v) = both_stopped why v v.violated _ _ (more v)
           by _ _ (lost v y) = stuck _ _ _
@@ -248,7 +248,7 @@ module _ (o : Opened) (are_objects : (n b : ℕ) → o.objects n ≡ Some b → 
         left_by : (v : Scalar) (temps all : ℕ → Option Scalar) (is : Stood temps all) (w : World) → Ran (on_exit (templates o) (here temps w) es v) (flow_runs.on_edge (program o are_objects are_literals) (there all w) v)
         left_by v temps all is w = led temps all is w _ _ (taken_alike v es (edges_at o block) led_to)
 
-        with_one : (t : ℕ) (temps all : ℕ → Option Scalar) (is : Stood temps all) (w : World) (use_it : Scalar → Reply Standing) (use_too : Scalar → Reply flow.Standing) → ((v : Scalar) → Ran (use_it v) (use_too v)) → Ran (template.with_temp (here temps w) t use_it) (flow.with_temp (there all w) (t + c.depth) use_too)
+        with_one : (t : ℕ) (temps all : ℕ → Option Scalar) (is : Stood temps all) (w : World) (use_it : Scalar → Reply TemplateState) (use_too : Scalar → Reply flow.ProgramState) → ((v : Scalar) → Ran (use_it v) (use_too v)) → Ran (template.with_temp (here temps w) t use_it) (flow.with_temp (there all w) (t + c.depth) use_too)
         with_one t temps all is w use_it use_too alike = subst (λ x. Ran (template.with_temp (here temps w) t use_it) (flow.if_some (there all w) x use_too)) (is.held t) (by (temps t))
           where
             by : (x : Option Scalar) → Ran (if_some (here temps w) x use_it) (flow.if_some (there all w) x use_too)

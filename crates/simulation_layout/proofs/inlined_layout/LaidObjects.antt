@@ -27,31 +27,31 @@ use Rattle.semantics.specs.SourceMachine.SourceRuns.{violations}
 use Rattle.semantics.specs.SourceMachine.SourceStates as states
 use Rattle.semantics.specs.SourceMachine.SourceStates.{State, function_at, result_object, static_type}
 use Rattle.semantics.specs.TemplateMachine.TemplateStates as template
-use Rattle.semantics.specs.TemplateMachine.TemplateStates.{Frame, Standing, if_some, scene, outcome_of}
+use Rattle.semantics.specs.TemplateMachine.TemplateStates.{Frame, TemplateState, if_some, scene, outcome_of}
 use Rattle.semantics.specs.TemplateMachine.TemplateActs as template_acts
 use Rattle.semantics.specs.TemplateMachine.TemplateActs.{pointed, addressed, from_flow, from_scene, perform}
 use Rattle.semantics.specs.TemplateMachine.TemplateSteps as template_runs
 use Rattle.simulation_layout.specs.InlinedLayout.Shifts.{named_base, shifted}
-use Rattle.simulation_layout.specs.InlinedLayout.Copies.{Opened, Copy, IsThere, IsObject, IsLiteral, StandsForIt, name_of, IsOwnBase, IsResult}
+use Rattle.simulation_layout.specs.InlinedLayout.Copies.{Inlined, Copy, IsThere, IsObject, IsLiteral, StandsForIt, name_of, IsOwnBase, IsResult}
 use Rattle.simulation_layout.specs.InlinedLayout.Layouts.{Laid, IsAtStart, PointsWell}
 use Rattle.simulation_layout.specs.InlinedLayout.LaidRuns.{templates, of_unit}
 use Rattle.simulation_layout.proofs.inlined_layout.ShiftedValues as values
 use Rattle.simulation_layout.proofs.inlined_layout.ShiftedValues.{Held, Keeps, held_put, keeps_put, keeps_all, same_value}
 use Rattle.simulation_layout.proofs.inlined_layout.Standings.{Around, Both, both_run, both_stopped, stuck, related, std, prog, keep_same, waits_on, named_set, keep_set, tables_set}
 
-module _ (o : Opened) (are_objects : (n b : ℕ) → o.objects n ≡ Some b → IsObject o n b) (are_literals : (n b : ℕ) → o.literals n ≡ Some b → IsLiteral o n b) where
+module _ (o : Inlined) (are_objects : (n b : ℕ) → o.objects n ≡ Some b → IsObject o n b) (are_literals : (n b : ℕ) → o.literals n ≡ Some b → IsLiteral o n b) where
   abbrev pub program : FlowView
   program = of_unit o.unit o.program
 
   module _ (c : Copy) (around : List Copy) (rest : List PieceView) (temps : ℕ → Option Scalar) (names : ℕ → Option ℕ) (frames : List Frame) (block at end last : ℕ) (all : ℕ → Option Scalar) (bases : ℕ → Option ℕ) (next : Laid o c around rest block (suc at) end last) (is : Around o c around temps names frames all bases end last)
       (w : World) (found also : List Violation) (equal : found ≡ also) (place : Place) where
-    abbrev pub Ran : Reply Standing → Reply flow.Standing → Type 0
+    abbrev pub Ran : Reply TemplateState → Reply flow.ProgramState → Type 0
     Ran x y = Both o (template_runs.run_by found (Some place) x) (flow_runs.run_by also place y)
 
-    abbrev pub here : Standing
+    abbrev pub here : TemplateState
     here = std o c.function rest temps names frames w
 
-    abbrev pub there : flow.Standing
+    abbrev pub there : flow.ProgramState
     there = prog o block at all bases w
 
     more : (v : World) → found ++ violations (Some place) v ≡ also ++ violations (Some place) v
@@ -76,7 +76,7 @@ module _ (o : Opened) (are_objects : (n b : ℕ) → o.objects n ≡ Some b → 
       tables = is.tables;
     }
 
-    valued : (x y : Reply flow.Standing) → values.Alike c.depth there x y → Ran (behind x (from_flow here)) y
+    valued : (x y : Reply flow.ProgramState) → values.Alike c.depth there x y → Ran (behind x (from_flow here)) y
     valued _ _ (values.both_go x new v held keeps) = went x.temps names new bases v (with_temps x.temps new held keeps)
     valued _ _ (values.both_stop why v) = halted why v
     valued _ _ (values.stuck v y) = stuck _ _ _
@@ -144,10 +144,10 @@ module _ (o : Opened) (are_objects : (n b : ℕ) → o.objects n ≡ Some b → 
     }
 
     -- what is done to a local object by its name
-    abbrev OnLocal : (b : ℕ) → (ℕ → Reply State) → Reply flow.Standing → Type 0
+    abbrev OnLocal : (b : ℕ) → (ℕ → Reply State) → Reply flow.ProgramState → Type 0
     OnLocal b effect y = (slot : ℕ) → c.locals slot ≡ Some b → Ran (behind (effect slot) (from_scene here)) y
 
-    on_name : (b : ℕ) (effect : ℕ → Reply State) (y : Reply flow.Standing) → OnLocal b effect y → (name : Option NameView) → StandsForIt o c name b → Ran (if_some here name (λ x. if_some here (template.local_of (templates o) here x) (λ n. behind (effect n) (from_scene here)))) y
+    on_name : (b : ℕ) (effect : ℕ → Reply State) (y : Reply flow.ProgramState) → OnLocal b effect y → (name : Option NameView) → StandsForIt o c name b → Ran (if_some here name (λ x. if_some here (template.local_of (templates o) here x) (λ n. behind (effect n) (from_scene here)))) y
     on_name b effect y does None stands = stuck _ _ _
     on_name b effect y does (Some (Local n)) stands = does n stands
     on_name b effect y does (Some Outcome) stands = by (function_at o.unit c.function) stands

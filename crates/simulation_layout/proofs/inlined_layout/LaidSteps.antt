@@ -30,7 +30,7 @@ use Rattle.semantics.specs.TemplateMachine.TemplateActs as template_acts
 use Rattle.semantics.specs.TemplateMachine.TemplateSteps as runs
 use Rattle.semantics.specs.TemplateMachine.TemplateSteps.{from_temp, up_to, next, steps_from, template_begin}
 use Rattle.simulation_layout.specs.InlinedLayout.Shifts.{shifted}
-use Rattle.simulation_layout.specs.InlinedLayout.Copies.{Opened, Copy, IsCopy, AllApart}
+use Rattle.simulation_layout.specs.InlinedLayout.Copies.{Inlined, Copy, IsCopy, AllApart}
 use Rattle.simulation_layout.specs.InlinedLayout.Layouts as laid
 use Rattle.simulation_layout.specs.InlinedLayout.Layouts.{Laid, IsPut, Stands, IsAutomatic, IsLaidOut, edges_at}
 use Rattle.simulation_layout.specs.InlinedLayout.LaidRuns.{templates, of_unit, HasLeft, LeavesAll, AgreeUnlessStuck}
@@ -39,7 +39,7 @@ use Rattle.simulation_layout.proofs.inlined_layout.Standings.{Names, Waiting, no
 use Rattle.simulation_layout.proofs.inlined_layout.LaidObjects.{acted}
 use Rattle.simulation_layout.proofs.inlined_layout.LaidEdges.{ended}
 
-module _ (o : Opened) (entry : Copy) (out : IsLaidOut o entry) where
+module _ (o : Inlined) (entry : Copy) (out : IsLaidOut o entry) where
   abbrev first : Templates
   first = templates o
 
@@ -115,11 +115,11 @@ module _ (o : Opened) (entry : Copy) (out : IsLaidOut o entry) where
     still : found ++ [] ≡ also
     still = append-nil found ∙ equal
 
-    no_step : (s : template.Standing) (block at : ℕ) (all : ℕ → Option Scalar) (bases : ℕ → Option ℕ) → Related o s (prog o block at all bases (world o memory draws new)) → Next (template.running s (found ++ [])) (of_program block at all bases)
+    no_step : (s : template.TemplateState) (block at : ℕ) (all : ℕ → Option Scalar) (bases : ℕ → Option ℕ) → Related o s (prog o block at all bases (world o memory draws new)) → Next (template.running s (found ++ [])) (of_program block at all bases)
     no_step s block at all bases r = record { steps = 0; both = both_run _ _ _ _ r still }
 
     -- a jump to the next block
-    jumped : (s : template.Standing) (block at from : ℕ) (place : Place) (all : ℕ → Option Scalar) (bases : ℕ → Option ℕ) → Stands o block at (record { at = place; does = acts.Jump }) → edges_at o block ≡ record { from = from; to = block + 1; taken = Always } ∷ []
+    jumped : (s : template.TemplateState) (block at from : ℕ) (place : Place) (all : ℕ → Option Scalar) (bases : ℕ → Option ℕ) → Stands o block at (record { at = place; does = acts.Jump }) → edges_at o block ≡ record { from = from; to = block + 1; taken = Always } ∷ []
         → Related o s (prog o (block + 1) 0 all bases calmed) → Next (template.running s (found ++ [])) (of_program block at all bases)
     jumped s block at from place all bases stands leads r =
         one_step _ block at all bases (record { at = place; does = acts.Jump }) stands

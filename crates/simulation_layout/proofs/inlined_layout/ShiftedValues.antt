@@ -17,7 +17,7 @@ use Rattle.memory_model.specs.Effects.Worlds.{World, Why, Stuck, Reply, goes, st
 use Rattle.lower_templates.specs.Worklist.Acts as act
 use Rattle.lower_templates.specs.Worklist.Acts.{Act}
 use Rattle.lower_templates.specs.Views.ProgramViews.{FlowView}
-use Rattle.semantics.specs.CfgMachine.FlowStates.{Standing, if_some, with_temp, with_temps, and_value, values_of}
+use Rattle.semantics.specs.CfgMachine.FlowStates.{ProgramState, if_some, with_temp, with_temps, and_value, values_of}
 use Rattle.semantics.specs.CfgMachine.FlowActs.{giving, storing, calling, with_amount, on_one, on_two, struct_leaves, struct_size, perform}
 use Rattle.semantics.specs.CfgMachine.FlowSteps.{act_step}
 use Rattle.semantics.specs.TemplateMachine.TemplateActs.{no_program}
@@ -88,23 +88,23 @@ keeps_all d all j less = refl
 -- ---- replies
 
 -- both go on alike, or stop alike, or the template is stuck
-pub data Alike (d : ℕ) (r : Standing) : Reply Standing → Reply Standing → Type 0 where
-  both_go : (x : Standing) (new : ℕ → Option Scalar) (w : World) → Held d x.temps new → Keeps d r.temps new → Alike d r (goes x w) (goes (record r { at = suc r.at; temps = new; world = w }) w)
+pub data Alike (d : ℕ) (r : ProgramState) : Reply ProgramState → Reply ProgramState → Type 0 where
+  both_go : (x : ProgramState) (new : ℕ → Option Scalar) (w : World) → Held d x.temps new → Keeps d r.temps new → Alike d r (goes x w) (goes (record r { at = suc r.at; temps = new; world = w }) w)
   both_stop : (why : Why) (w : World) → Alike d r (stops why w) (stops why w)
-  stuck : (w : World) (y : Reply Standing) → Alike d r (stops Stuck w) y
+  stuck : (w : World) (y : Reply ProgramState) → Alike d r (stops Stuck w) y
 
 module _ (u : UnitView) (f : FlowView) (d : ℕ) (ts all : ℕ → Option Scalar) (bases : ℕ → Option ℕ) (block at : ℕ) (w : World) (held : Held d ts all) where
   -- where a template stands, and the program
-  abbrev pub own : Standing
+  abbrev pub own : ProgramState
   own = record { block = 0; at = 0; temps = ts; bases = empty_table; world = w }
 
-  abbrev pub its : Standing
+  abbrev pub its : ProgramState
   its = record { block = block; at = at; temps = all; bases = bases; world = w }
 
-  abbrev Same : Reply Standing → Reply Standing → Type 0
+  abbrev Same : Reply ProgramState → Reply ProgramState → Type 0
   Same x y = Alike d its x y
 
-  with_one : (t : ℕ) (use_it use_too : Scalar → Reply Standing) → ((v : Scalar) → Same (use_it v) (use_too v)) → Same (with_temp own t use_it) (with_temp its (t + d) use_too)
+  with_one : (t : ℕ) (use_it use_too : Scalar → Reply ProgramState) → ((v : Scalar) → Same (use_it v) (use_too v)) → Same (with_temp own t use_it) (with_temp its (t + d) use_too)
   with_one t use_it use_too alike = subst (λ o. Same (with_temp own t use_it) (if_some its o use_too)) (held t) (by (ts t))
     where
       by : (o : Option Scalar) → Same (if_some own o use_it) (if_some its o use_too)
@@ -121,7 +121,7 @@ module _ (u : UnitView) (f : FlowView) (d : ℕ) (ts all : ℕ → Option Scalar
   from_two : (to left right : ℕ) (effect : Scalar → Scalar → World → Reply Scalar) → Same (on_two own to left right effect) (on_two its (to + d) (left + d) (right + d) effect)
   from_two to left right effect = with_one left _ _ (λ a. with_one right _ _ (λ b. given to (effect a b w)))
 
-  by_amount : (n : Amount) (use_it use_too : Scalar → Reply Standing) → ((v : Scalar) → Same (use_it v) (use_too v)) → Same (with_amount own n use_it) (with_amount its (amount_shifted d n) use_too)
+  by_amount : (n : Amount) (use_it use_too : Scalar → Reply ProgramState) → ((v : Scalar) → Same (use_it v) (use_too v)) → Same (with_amount own n use_it) (with_amount its (amount_shifted d n) use_too)
   by_amount (amount.Temp t) use_it use_too alike = with_one t use_it use_too alike
   by_amount amount.One use_it use_too alike = alike plain_one
 

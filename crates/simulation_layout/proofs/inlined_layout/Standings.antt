@@ -15,12 +15,12 @@ use Rattle.semantics.specs.CfgMachine.FlowStates as flow
 use Rattle.semantics.specs.TemplateMachine.TemplateStates as template
 use Rattle.semantics.specs.TemplateMachine.TemplateStates.{Frame}
 use Rattle.semantics.specs.TemplateMachine.TemplateExits.{behind_mark}
-use Rattle.simulation_layout.specs.InlinedLayout.Copies.{Opened, Copy, IsThere, IsCopy, AllApart, IsObject, IsLiteral}
+use Rattle.simulation_layout.specs.InlinedLayout.Copies.{Inlined, Copy, IsThere, IsCopy, AllApart, IsObject, IsLiteral}
 use Rattle.simulation_layout.specs.InlinedLayout.Layouts as laid
 use Rattle.simulation_layout.specs.InlinedLayout.Layouts.{Laid, IsAutomatic}
 use Rattle.simulation_layout.proofs.inlined_layout.ShiftedValues.{Held, Keeps, set_here, set_elsewhere, Compared, same, other, compared}
 
-module _ (o : Opened) where
+module _ (o : Inlined) where
   -- a whole copy of a template, which ends there
   pub record Whole (c : Copy) (around : List Copy) (end last : ℕ) : Type 0 where
     pub block : ℕ
@@ -63,20 +63,20 @@ module _ (o : Opened) where
   abbrev pub world : Memory → List ℤ → List Rule → World
   world memory draws violated = record { memory = memory; draws = draws; violated = violated }
 
-  abbrev pub std : ℕ → List PieceView → (ℕ → Option Scalar) → (ℕ → Option ℕ) → List Frame → World → template.Standing
+  abbrev pub std : ℕ → List PieceView → (ℕ → Option Scalar) → (ℕ → Option ℕ) → List Frame → World → template.TemplateState
   std n rest temps names frames w = record { function = n; rest = rest; temps = temps; names = names; frames = frames; world = w }
 
-  abbrev pub prog : ℕ → ℕ → (ℕ → Option Scalar) → (ℕ → Option ℕ) → World → flow.Standing
+  abbrev pub prog : ℕ → ℕ → (ℕ → Option Scalar) → (ℕ → Option ℕ) → World → flow.ProgramState
   prog block at all bases w = record { block = block; at = at; temps = all; bases = bases; world = w }
 
   -- both stand alike; the worlds are the same, but for what the last step has violated
-  pub data Related : template.Standing → flow.Standing → Type 0 where
+  pub data Related : template.TemplateState → flow.ProgramState → Type 0 where
     related : (c : Copy) (around : List Copy) (rest : List PieceView) (temps : ℕ → Option Scalar) (names : ℕ → Option ℕ) (frames : List Frame) (block at end last : ℕ) (all : ℕ → Option Scalar) (bases : ℕ → Option ℕ) (memory : Memory) (draws : List ℤ) (old new : List Rule)
         → Laid o c around rest block at end last → Around c around temps names frames all bases end last → Related (std c.function rest temps names frames (world memory draws old)) (prog block at all bases (world memory draws new))
 
   -- both go on alike, or have stopped alike, or the templates are stuck
   pub data Both : template.TemplateRun → flow.FlowRun → Type 0 where
-    both_run : (s : template.Standing) (r : flow.Standing) (found also : List Violation) → Related s r → found ≡ also → Both (template.running s found) (flow.running r also)
+    both_run : (s : template.TemplateState) (r : flow.ProgramState) (found also : List Violation) → Related s r → found ≡ also → Both (template.running s found) (flow.running r also)
     both_stopped : (why : Why) (w : World) (violated : List Rule) (found also : List Violation) → found ≡ also → Both (template.stopped why w found) (flow.stopped why (record w { violated = violated }) also)
     stuck : (w : World) (found : List Violation) (r : flow.FlowRun) → Both (template.stopped Stuck w found) r
 

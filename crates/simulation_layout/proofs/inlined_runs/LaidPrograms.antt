@@ -16,10 +16,10 @@ use Rattle.semantics.specs.SourceMachine.SourceRuns as source
 use Rattle.lower_tables.specs.Bases.BaseTables.{TableView, known}
 use Rattle.lower_tables.specs.Bases.InitialBytes.{objects_from, literals_from}
 use Rattle.lower.specs.Inlining.Lowerings.{inputs, lowered}
-use Rattle.lower.specs.Inlining.Openings.{Made, CopyView, Placed, Opened, placed, opened, with_locals, with_rest, with_bases, with_labels, copied, template_at, entered, with_parameters, entry_call, nothing_made, run, unresolved, finished, unfinished}
-use Rattle.lower.specs.Inlining.Openings as opening
+use Rattle.lower.specs.Inlining.Inlinings.{Made, CopyView, Placed, Inlined, placed, inlined, with_locals, with_rest, with_bases, with_labels, copied, template_at, entered, with_parameters, entry_call, nothing_made, run, unresolved, finished, unfinished}
+use Rattle.lower.specs.Inlining.Inlinings as inlining
 use Rattle.lower.proofs.inlining.CountedCalls.{AllCalled}
-use Rattle.lower.proofs.inlining.OpeningTurns.{no_copy}
+use Rattle.lower.proofs.inlining.InliningTurns.{no_copy}
 use Rattle.simulation_layout.specs.InlinedLayout.Copies.{Copy, IsLocal, IsCopy, IsObject, IsLiteral}
 use Rattle.simulation_layout.specs.InlinedLayout.Copies as copies
 use Rattle.simulation_layout.specs.InlinedLayout.Layouts.{Laid, IsAutomatic, IsLaidOut}
@@ -30,10 +30,10 @@ use Rattle.simulation_layout.proofs.inlining.ListPlaces.{some_same, none_is_not,
 use Rattle.simulation_layout.proofs.inlining.NamedTables.{ObjectAt, LiteralAt, LocalAt, GoodTable, GoodLocals}
 use Rattle.simulation_layout.proofs.inlining.MadeParts.{extends_same}
 use Rattle.simulation_layout.proofs.inlining.NamedPlaces.{Good, Only}
-use Rattle.simulation_layout.proofs.inlining.OpenedCopies.{Opens, Leaves, leaves, Finishes, finish, none_known}
+use Rattle.simulation_layout.proofs.inlining.InlinedCopies.{Opens, Leaves, leaves, Finishes, finish, none_known}
 use Rattle.simulation_layout.proofs.copies.LaidNames.{whole, copy_at}
 use Rattle.simulation_layout.proofs.copies.LaidCopies.{MarkedOnce, Fits, Stays, Comes}
-use Rattle.simulation_layout.proofs.copies.LaidOpenings.{lay}
+use Rattle.simulation_layout.proofs.copies.LaidInlinings.{lay}
 use Rattle.simulation_layout.proofs.inlined_runs.WholePrograms.{ready_none, Numbered, numbered}
 use Rattle.simulation_layout.proofs.inlined_runs.StartNames.{in_turn, objects_miss, objects_hit, literals_miss, literals_hit, count_inputs, inputs_from, parameters_miss, parameters_hit, source_miss, source_hit, take_length}
 
@@ -64,7 +64,7 @@ module _ (u : UnitView) (ts : List (Option TemplateView)) (entry : FunctionView)
   -- ---- the opening from its start
 
   abbrev pub last : Made
-  last = (opening.whole u ts entry.at).program
+  last = (inlining.whole u ts entry.at).program
 
   abbrev first_copy : CopyView
   first_copy = copied (entry_call entry.at u.entry) 0 entry t
@@ -75,10 +75,10 @@ module _ (u : UnitView) (ts : List (Option TemplateView)) (entry : FunctionView)
   abbrev begun : Placed
   begun = with_parameters u entry.parameters (placed first_made first_copy)
 
-  run_is : run u ts (2 ^ 64 - 1) (begun.within ∷ []) begun.program ≡ opened [] last
+  run_is : run u ts (2 ^ 64 - 1) (begun.within ∷ []) begun.program ≡ inlined [] last
   run_is =
       let k = entry_call entry.at u.entry in
-      sym (ap (λ a. unresolved u ts (entered k [] (nothing_made u) a (template_at ts u.entry))) is_entry ∙ ap (λ b. unresolved u ts (entered k [] (nothing_made u) (Some entry) b)) is_template) ∙ ap (λ s. opened s last) all_done
+      sym (ap (λ a. unresolved u ts (entered k [] (nothing_made u) a (template_at ts u.entry))) is_entry ∙ ap (λ b. unresolved u ts (entered k [] (nothing_made u) (Some entry) b)) is_template) ∙ ap (λ s. inlined s last) all_done
 
   first_good : Good u (placed first_made first_copy)
   first_good = record {
@@ -125,7 +125,7 @@ module _ (u : UnitView) (ts : List (Option TemplateView)) (entry : FunctionView)
 
   opens : Opens u ts t.pieces begun.within begun.program final_copy last
   unfolding final_copy
-  opens = subst₂ (λ ps n. Opens u ts ps begun.within begun.program finishes.copy n) rest_is (ap (λ (o : Opened). o.program) (sym (no_copy u ts finishes.left finishes.between) ∙ finishes.rest)) finishes.opens
+  opens = subst₂ (λ ps n. Opens u ts ps begun.within begun.program finishes.copy n) rest_is (ap (λ (o : Inlined). o.program) (sym (no_copy u ts finishes.left finishes.between) ∙ finishes.rest)) finishes.opens
 
   pub none_ready : last.ready ≡ []
   none_ready = ready_none u ts false t.pieces begun.within begun.program final_copy last opens ends (λ e. absurd (differ e))
@@ -157,7 +157,7 @@ module _ (u : UnitView) (ts : List (Option TemplateView)) (entry : FunctionView)
 
   module _ (of : ℕ → TemplateView) (temps : ℕ) (low : HasLowTemps (lowered u entry (finished last) temps)) (of_entry : of u.entry ≡ t) (is_fit : IsFit u entry t) (once : MarkedOnce t.labels t.pieces)
       (fits : (m : ℕ) → P m → (f : FunctionView) (t : TemplateView) → slice_get u.functions m ≡ Some f → template_at ts m ≡ Some t → Fits u ts of entry temps last none_ready low P m f t) where
-    abbrev pub program : copies.Opened
+    abbrev pub program : copies.Inlined
     program = whole u of entry temps last none_ready low
 
     abbrev pub first : Copy

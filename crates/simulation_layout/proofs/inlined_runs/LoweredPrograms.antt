@@ -6,39 +6,39 @@ use Rattle.cc_base.specs.declared.limit_table.Limits.{Limits}
 use Rattle.c_layout.specs.CheckedUnits.{FunctionView, UnitView}
 use Rattle.lower_templates.specs.Worklist.Pieces.{TemplateView}
 use Rattle.lower_functions.specs.Functions.Functions.{IsTemplate}
-use Rattle.lower_tables.specs.Counts.Preparations.{IsTemplateOf, Reaches, begun, are_counted, IsSettled, IsPrepared}
-use Rattle.lower_tables.specs.Counts.SettledTemplates.{settled}
+use Rattle.lower_tables.specs.Counts.Preparations.{IsTemplateOf, Reaches, begun, are_counted, IsNormalized, IsPrepared}
+use Rattle.lower_tables.specs.Counts.NormalizedTemplates.{normalized}
 use Rattle.lower_tables.proofs.counts.Preparing.{one_template}
 use Rattle.lower.specs.TemplateLaws.PieceOrder.{ends_block}
 use Rattle.lower.proofs.template_laws.TemplateOrder.{entry_ends}
-use Rattle.lower.proofs.template_laws.SettledOrder.{settled_ends}
+use Rattle.lower.proofs.template_laws.NormalizedOrder.{normalized_ends}
 use Rattle.lower_templates.specs.Views.ProgramViews.{FlowView}
 use Rattle.semantics.specs.CfgMachine.FlowSteps.{flow_steps}
 use Rattle.semantics.specs.CfgMachine.FlowStarts.{flow_begin}
 use Rattle.lower.specs.Inlining.Lowerings.{lowered, IsLowering}
-use Rattle.lower.specs.Inlining.Openings.{joined, template_at, finished, program, unfinished}
-use Rattle.lower.specs.Inlining.Openings as opening
+use Rattle.lower.specs.Inlining.Inlinings.{joined, template_at, finished, program, unfinished}
+use Rattle.lower.specs.Inlining.Inlinings as inlining
 use Rattle.lower.proofs.inlining.CountedCalls.{AllCalled, IsKnown, known}
 use Rattle.semantics.specs.CfgMachine.FlowStates.{FlowRun}
 use Rattle.semantics.specs.TemplateMachine.TemplateStates.{Frame, TemplateRun, running, stopped}
 use Rattle.semantics.specs.TemplateMachine.TemplateSteps.{template_begin, steps_from}
-use Rattle.simulation_layout.specs.Normalized.SettledRuns.{Settles, templates, NamesNothing, AtReturn, ReturnsWith}
-use Rattle.simulation_layout.specs.Normalized.SettledRuns as settled_runs
-use Rattle.simulation_layout.proofs.normalized.SettledReturns.{runs_return}
+use Rattle.simulation_layout.specs.Normalized.NormalizedRuns.{Settles, templates, NamesNothing, AtReturn, ReturnsWith}
+use Rattle.simulation_layout.specs.Normalized.NormalizedRuns as normalized_runs
+use Rattle.simulation_layout.proofs.normalized.NormalizedReturns.{runs_return}
 use Rattle.simulation_layout.specs.InlinedLayout.Copies as copies
 use Rattle.simulation_layout.specs.InlinedLayout.Layouts.{IsLaidOut}
 use Rattle.simulation_layout.specs.InlinedLayout.LaidRuns.{HasLeft, LeavesAll, AgreeUnlessStuck}
 use Rattle.simulation_layout.proofs.inlined_layout.LaidSteps as laid_runs
 use Rattle.simulation_layout.specs.Copies.LowTemporaries.{HasLowTemps}
 use Rattle.simulation_layout.specs.Copies.FitTemplates.{IsFit}
-use Rattle.simulation_layout.specs.InlinedRuns.OpenedRuns.{IsMade, template_or, settled_of, IsOpened, settled_templates, made_templates, OpenedRunsAreTheSame}
+use Rattle.simulation_layout.specs.InlinedRuns.InlinedRuns.{IsMade, template_or, normalized_of, IsInlined, normalized_templates, made_templates, InlinedRunsAreTheSame}
 use Rattle.simulation_layout.proofs.inlining.ListPlaces.{some_same}
-use Rattle.simulation_layout.proofs.inlined_runs.FitSettled.{settled_once, settled_fit}
+use Rattle.simulation_layout.proofs.inlined_runs.FitNormalized.{normalized_once, normalized_fit}
 use Rattle.simulation_layout.proofs.copies.LaidCopies.{MarkedOnce, Fits}
 use Rattle.simulation_layout.proofs.inlined_runs.LaidPrograms as laid
 use Rattle.simulation_layout.proofs.inlined_runs.LaidPrograms.{last, none_ready, is_laid_out}
 
-module _ (u : UnitView) (limits : Limits) (f : FlowView) (o : IsOpened u limits f) where
+module _ (u : UnitView) (limits : Limits) (f : FlowView) (o : IsInlined u limits f) where
   abbrev ts : List (Option TemplateView)
   ts = o.is.templates
 
@@ -57,7 +57,7 @@ module _ (u : UnitView) (limits : Limits) (f : FlowView) (o : IsOpened u limits 
   there m r = let k = known_at m r in (k.function, k.template, k.is_template.stands, k.is_there, k.calls)
 
   -- the settled template of a function, by how it is made
-  pub record Settled (n : ℕ) : Type 0 where
+  pub record Normalized (n : ℕ) : Type 0 where
     pub template : TemplateView
     pub function : FunctionView
     pub stands : slice_get u.functions n ≡ Some function
@@ -65,19 +65,19 @@ module _ (u : UnitView) (limits : Limits) (f : FlowView) (o : IsOpened u limits 
     pub once : MarkedOnce template.labels template.pieces
     pub fit : IsFit u function template
 
-  settled_at : (n : ℕ) → Reaches u n → Settled n
-  settled_at n r =
+  normalized_at : (n : ℕ) → Reaches u n → Normalized n
+  normalized_at n r =
       let k = known_at n r in
       let m = o.are_made n r in
       let same : k.plain ≡ o.made n = one_template u n k.function m.function k.plain (o.made n) k.is_template m.is_template in
-      let is : k.template ≡ settled o.is.is_counted.table (o.made n) = k.settles ∙ ap (λ t. settled o.is.is_counted.table t) same in
+      let is : k.template ≡ normalized o.is.is_counted.table (o.made n) = k.settles ∙ ap (λ t. normalized o.is.is_counted.table t) same in
       record {
         template = k.template;
         function = m.function;
         stands = m.is_template.stands;
         is_there = k.is_there;
-        once = subst (λ (t : TemplateView). MarkedOnce t.labels t.pieces) (sym is) (settled_once o.is.is_counted.table (o.made n) m.once);
-        fit = subst (λ t. IsFit u m.function t) (sym is) (settled_fit u m.function o.is.is_counted.table (o.made n) m.once m.fit);
+        once = subst (λ (t : TemplateView). MarkedOnce t.labels t.pieces) (sym is) (normalized_once o.is.is_counted.table (o.made n) m.once);
+        fit = subst (λ t. IsFit u m.function t) (sym is) (normalized_fit u m.function o.is.is_counted.table (o.made n) m.once m.fit);
       }
 
   -- ---- the entry
@@ -90,25 +90,25 @@ module _ (u : UnitView) (limits : Limits) (f : FlowView) (o : IsOpened u limits 
       let k = first_known in
       let is_entry : (u.entry == u.entry) ≡ true = eq-eqb u.entry u.entry refl in
       subst (λ (t : TemplateView). ends_block t.pieces ≡ true) (sym k.settles)
-      (settled_ends o.is.is_counted.table k.plain (entry_ends u.structs u.model.pointer u.model.int k.function k.plain (subst (λ b. IsTemplate u.structs u.model.pointer u.model.int k.function b k.plain) is_entry k.is_template.is_template)))
+      (normalized_ends o.is.is_counted.table k.plain (entry_ends u.structs u.model.pointer u.model.int k.function k.plain (subst (λ b. IsTemplate u.structs u.model.pointer u.model.int k.function b k.plain) is_entry k.is_template.is_template)))
 
   -- ---- the layout
 
-  abbrev made_last : opening.Made
-  made_last = (opening.whole u ts entry.at).program
+  abbrev made_last : inlining.Made
+  made_last = (inlining.whole u ts entry.at).program
 
   low : HasLowTemps (lowered u entry (finished made_last) o.is.counts.temps)
   low = subst HasLowTemps o.is.opens o.low
 
   abbrev of : ℕ → TemplateView
-  of = settled_of ts
+  of = normalized_of ts
 
   abbrev none_left : made_last.ready ≡ []
   none_left = none_ready u ts entry o.is.is_counted.is_entry o.few first_known.template first_known.is_there ends o.is.ends (Reaches u) there first_known.calls
 
   fits : (m : ℕ) → Reaches u m → (g : FunctionView) (t : TemplateView) → slice_get u.functions m ≡ Some g → template_at ts m ≡ Some t → Fits u ts of entry o.is.counts.temps made_last none_left low (Reaches u) m g t
   fits m r g t is_function is_template =
-      let s = settled_at m r in
+      let s = normalized_at m r in
       let k = known_at m r in
       let same_t : s.template ≡ t = some_same s.template t (sym s.is_there ∙ is_template) in
       let known_t : k.template ≡ t = some_same k.template t (sym k.is_there ∙ is_template) in
@@ -123,10 +123,10 @@ module _ (u : UnitView) (limits : Limits) (f : FlowView) (o : IsOpened u limits 
   entry_fits : Fits u ts of entry o.is.counts.temps made_last none_left low (Reaches u) u.entry entry first_known.template
   entry_fits = fits u.entry begun entry first_known.template o.is.is_counted.is_entry first_known.is_there
 
-  pub runs_agree : (draws : List ℤ) (n : ℕ) → ((j : ℕ) → j < n → LeavesAll (steps_from (settled_templates u limits f o) j (template_begin (settled_templates u limits f o) draws)))
-      → (m : ℕ) × AgreeUnlessStuck (steps_from (settled_templates u limits f o) n (template_begin (settled_templates u limits f o) draws)) (flow_steps f m (flow_begin u f draws))
+  pub runs_agree : (draws : List ℤ) (n : ℕ) → ((j : ℕ) → j < n → LeavesAll (steps_from (normalized_templates u limits f o) j (template_begin (normalized_templates u limits f o) draws)))
+      → (m : ℕ) × AgreeUnlessStuck (steps_from (normalized_templates u limits f o) n (template_begin (normalized_templates u limits f o) draws)) (flow_steps f m (flow_begin u f draws))
   runs_agree draws n left =
-      subst (λ g. (m : ℕ) × AgreeUnlessStuck (steps_from (settled_templates u limits f o) n (template_begin (settled_templates u limits f o) draws)) (flow_steps g m (flow_begin u g draws))) (sym o.is.opens)
+      subst (λ g. (m : ℕ) × AgreeUnlessStuck (steps_from (normalized_templates u limits f o) n (template_begin (normalized_templates u limits f o) draws)) (flow_steps g m (flow_begin u g draws))) (sym o.is.opens)
       (laid_runs.runs_agree
       (laid.program u ts entry o.is.is_counted.is_entry o.few first_known.template first_known.is_there ends o.is.ends (Reaches u) there first_known.calls of o.is.counts.temps low entry_fits.is entry_fits.fit entry_fits.once fits)
       (laid.first u ts entry o.is.is_counted.is_entry o.few first_known.template first_known.is_there ends o.is.ends (Reaches u) there first_known.calls of o.is.counts.temps low entry_fits.is entry_fits.fit entry_fits.once fits)
@@ -135,16 +135,16 @@ module _ (u : UnitView) (limits : Limits) (f : FlowView) (o : IsOpened u limits 
 
   -- the settled templates are laid out in the program
   pub record AreLaidOut : Type 0 where
-    pub opened : copies.Opened
+    pub inlined : copies.Inlined
     pub first : copies.Copy
-    pub is : IsLaidOut opened first
-    pub of : opened.of ≡ settled_of o.is.templates
-    pub unit : opened.unit ≡ u
-    pub program : opened.program ≡ f
+    pub is : IsLaidOut inlined first
+    pub of : inlined.of ≡ normalized_of o.is.templates
+    pub unit : inlined.unit ≡ u
+    pub program : inlined.program ≡ f
 
   pub are_laid_out : AreLaidOut
   are_laid_out = record {
-    opened = laid.program u ts entry o.is.is_counted.is_entry o.few first_known.template first_known.is_there ends o.is.ends (Reaches u) there first_known.calls of o.is.counts.temps low entry_fits.is entry_fits.fit entry_fits.once fits;
+    inlined = laid.program u ts entry o.is.is_counted.is_entry o.few first_known.template first_known.is_there ends o.is.ends (Reaches u) there first_known.calls of o.is.counts.temps low entry_fits.is entry_fits.fit entry_fits.once fits;
     first = laid.first u ts entry o.is.is_counted.is_entry o.few first_known.template first_known.is_there ends o.is.ends (Reaches u) there first_known.calls of o.is.counts.temps low entry_fits.is entry_fits.fit entry_fits.once fits;
     is = is_laid_out u ts entry o.is.is_counted.is_entry o.few first_known.template first_known.is_there ends o.is.ends (Reaches u) there first_known.calls of o.is.counts.temps low entry_fits.is entry_fits.fit entry_fits.once fits;
     of = refl;
@@ -154,10 +154,10 @@ module _ (u : UnitView) (limits : Limits) (f : FlowView) (o : IsOpened u limits 
 
   -- ---- templates as they are made
 
-  pub settles_at : (n : ℕ) → Reaches u n → Settles u n (o.made n) (settled_of ts n)
+  pub settles_at : (n : ℕ) → Reaches u n → Settles u n (o.made n) (normalized_of ts n)
   settles_at n r =
       let (s, c, there_s, is) = prepared.all n r in
-      let x = prepared.are_settled n s there_s in
+      let x = prepared.are_normalized n s there_s in
       let m = o.are_made n r in
       let same : x.template ≡ o.made n = one_template u n x.function m.function x.template (o.made n) x.is_template m.is_template in
       record {
@@ -166,7 +166,7 @@ module _ (u : UnitView) (limits : Limits) (f : FlowView) (o : IsOpened u limits 
         is_template = m.is_template;
         all_counted = subst (λ (t : TemplateView). are_counted x.table t.pieces ≡ true) same x.all_counted;
         are_counts = x.are_counts;
-        is_settled = ap (λ t. template_or (joined t)) there_s ∙ x.settles ∙ ap (λ t. settled x.table t) same;
+        is_normalized = ap (λ t. template_or (joined t)) there_s ∙ x.settles ∙ ap (λ t. normalized x.table t) same;
         once = m.once;
       }
 
@@ -178,7 +178,7 @@ module _ (u : UnitView) (limits : Limits) (f : FlowView) (o : IsOpened u limits 
       by (f ∷ fs) holds = holds
   leaves_all (stopped why w found) holds = tt
 
-  both_agree : (a b : TemplateRun) (c : FlowRun) → settled_runs.AgreeUnlessStuck a b → AgreeUnlessStuck b c → AgreeUnlessStuck a c
+  both_agree : (a b : TemplateRun) (c : FlowRun) → normalized_runs.AgreeUnlessStuck a b → AgreeUnlessStuck b c → AgreeUnlessStuck a c
   both_agree a b c (inl stuck) y = inl stuck
   both_agree a b c (inr x) (inl stuck) = inl (x.why ∙ stuck)
   both_agree a b c (inr x) (inr y) = inr (record { memory = x.memory ∙ y.memory; draws = x.draws ∙ y.draws; found = x.found ∙ y.found; why = x.why ∙ y.why })
@@ -186,6 +186,6 @@ module _ (u : UnitView) (limits : Limits) (f : FlowView) (o : IsOpened u limits 
   pub made_runs_agree : (draws : List ℤ) → ((n : ℕ) → ReturnsWith NamesNothing (steps_from (made_templates u limits f o) n (template_begin (made_templates u limits f o) draws)))
       → (n : ℕ) → (m : ℕ) × AgreeUnlessStuck (steps_from (made_templates u limits f o) n (template_begin (made_templates u limits f o) draws)) (flow_steps f m (flow_begin u f draws))
   made_runs_agree draws holds n =
-      let x = runs_return u o.made (settled_of ts) settles_at NamesNothing draws holds n in
+      let x = runs_return u o.made (normalized_of ts) settles_at NamesNothing draws holds n in
       let (m, y) = runs_agree draws x.steps (λ j less. leaves_all _ (x.returns j less)) in
       (m, both_agree _ _ _ x.agree y)

@@ -19,10 +19,10 @@ use Rattle.semantics.specs.SourceMachine.SourceRuns as source
 use Rattle.lower_tables.specs.Bases.BaseTables.{TableView, found_in, known, local_or}
 use Rattle.lower_tables.specs.Bases.InitialBytes.{objects_from, literals_from}
 use Rattle.lower.specs.Inlining.Lowerings.{inputs, lowered}
-use Rattle.lower.specs.Inlining.Openings.{Made, CopyView, Placed, Opened, placed, opened, with_locals, with_rest, with_bases, with_labels, copied, template_at, entered, with_local, with_parameters, entry_call, nothing_made, run, finished}
-use Rattle.lower.specs.Inlining.Openings as opening
+use Rattle.lower.specs.Inlining.Inlinings.{Made, CopyView, Placed, Inlined, placed, inlined, with_locals, with_rest, with_bases, with_labels, copied, template_at, entered, with_local, with_parameters, entry_call, nothing_made, run, finished}
+use Rattle.lower.specs.Inlining.Inlinings as inlining
 use Rattle.lower.proofs.inlining.CountedCalls.{AllCalled}
-use Rattle.lower.proofs.inlining.OpeningTurns.{no_copy}
+use Rattle.lower.proofs.inlining.InliningTurns.{no_copy}
 use Rattle.simulation_layout.proofs.inlined_layout.ShiftedValues as tables
 use Rattle.simulation_layout.specs.InlinedLayout.Copies as copies
 use Rattle.simulation_layout.specs.InlinedLayout.Copies.{Copy, IsLocal, IsCopy, IsObject, IsLiteral}
@@ -34,10 +34,10 @@ use Rattle.simulation_layout.proofs.inlining.ListPlaces.{some_same, none_is_not,
 use Rattle.simulation_layout.proofs.inlining.NamedTables.{ObjectAt, LiteralAt, LocalAt, GoodTable, GoodLocals, More, more_same}
 use Rattle.simulation_layout.proofs.inlining.MadeParts.{Extends, extends_same}
 use Rattle.simulation_layout.proofs.inlining.NamedPlaces.{Good, Only, only_none, only_twice, only_local}
-use Rattle.simulation_layout.proofs.inlining.OpenedCopies.{Opens, done, piece, call, Leaves, leaves, Finishes, finish, none_known, after_piece, is_call}
+use Rattle.simulation_layout.proofs.inlining.InlinedCopies.{Opens, done, piece, call, Leaves, leaves, Finishes, finish, none_known, after_piece, is_call}
 use Rattle.simulation_layout.proofs.copies.LaidNames.{whole, copy_at}
 use Rattle.simulation_layout.proofs.copies.LaidCopies.{MarkedOnce, Fits}
-use Rattle.simulation_layout.proofs.copies.LaidOpenings.{lay}
+use Rattle.simulation_layout.proofs.copies.LaidInlinings.{lay}
 use Rattle.simulation_layout.proofs.inlined_runs.StartNames.{in_turn, objects_miss, objects_hit, literals_miss, literals_hit, count_inputs, inputs_from, parameters_miss, parameters_hit, source_miss, source_hit, take_length}
 
 module _ (u : UnitView) (ts : List (Option TemplateView)) where
@@ -104,7 +104,7 @@ module _ (u : UnitView) (ts : List (Option TemplateView)) where
           apart : (n : ℕ) → suc count ≤ n → n ≡ count → ⊥
           apart n past e = omega (arith, past, e)
 
-      by : (o : Option (Option ℕ)) → slice_get p.within.locals count ≡ o → Numbered (suc count) (opening.after_naming (local_or u p.within.function count p.within.locals p.program.bases o) p)
+      by : (o : Option (Option ℕ)) → slice_get p.within.locals count ≡ o → Numbered (suc count) (inlining.after_naming (local_or u p.within.function count p.within.locals p.program.bases o) p)
       by None is = absurd (missing p.within.locals count less is)
         where
           missing : (xs : List (Option ℕ)) (n : ℕ) → n < length xs → slice_get xs n ≡ None → ⊥

@@ -7,7 +7,7 @@ use Rattle.lower_templates.specs.Worklist.Acts.{Jump, Step}
 use Rattle.lower_templates.specs.Worklist.Pieces.{Always}
 use Rattle.lower_templates.specs.Views.ProgramViews.{BlockView, EdgeView}
 use Rattle.lower_tables.specs.Bases.BaseTables.{TableView}
-use Rattle.lower.specs.Inlining.Openings.{Made, with_bases, with_ready, with_edge, edge_to, ended_block, ended, instruction, jumped, jumped_if, is_none, labelled, marked, with_labels}
+use Rattle.lower.specs.Inlining.Inlinings.{Made, with_bases, with_ready, with_edge, edge_to, ended_block, ended, instruction, jumped, jumped_if, is_none, labelled, marked, with_labels}
 use Rattle.simulation_layout.proofs.inlining.ListPlaces.{left_of, at_end, at_more, no_shorter, part_kept, part_at_end, set_length}
 use Rattle.simulation_layout.proofs.inlining.NamedTables.{More, more_same, more_twice}
 

@@ -6,7 +6,7 @@ use Rattle.cfg.specs.declared.flow_edges.Side.TheVariants as side
 use Rattle.cfg.specs.declared.flow_edges.Test.{Test}
 use Rattle.lower_templates.specs.Worklist.Pieces.{NameView, Local, Way, Always, When, Case, Other, NoLine, Line}
 use Rattle.lower_tables.specs.Bases.BaseTables.{base}
-use Rattle.lower.specs.Inlining.Openings.{Placed, with_bases, with_locals, after_naming, name_at, base_number, with_base, with_own, with_side, with_test, with_way, with_local}
+use Rattle.lower.specs.Inlining.Inlinings.{Placed, with_bases, with_locals, after_naming, name_at, base_number, with_base, with_own, with_side, with_test, with_way, with_local}
 use Rattle.simulation_layout.specs.Inlining.NameRanges.{IsNameThere}
 use Rattle.simulation_layout.proofs.inlining.NamedTables.{GoodTable, GoodLocals, More, more_same, more_twice, bases_longer, MoreLocals, locals_same, locals_twice, Stands, is_named}
 

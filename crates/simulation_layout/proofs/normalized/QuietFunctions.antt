@@ -9,13 +9,13 @@ use Rattle.lower_objects.specs.declared.counts.function_counts.FunctionCounts.{F
 use Rattle.lower_objects.specs.Counts.Extents.{capped, with_instruction, with_end, with_mark, added_by, with_call}
 use Rattle.lower_objects.specs.Counts.PieceCounts.{nothing, counts_of, counted, with_piece, with_pieces, extent}
 use Rattle.lower_templates.specs.Worklist.TermKinds.{is_void}
-use Rattle.lower_tables.specs.Counts.SettledTemplates.{NamesView, SettlingView, is_silent, adds_nothing, renamed, renamed_end, is_last, with_renamed, with_if, with_all, nothing_settled, renaming, settled}
+use Rattle.lower_tables.specs.Counts.NormalizedTemplates.{NamesView, SettlingView, is_silent, adds_nothing, renamed, renamed_end, is_last, with_renamed, with_if, with_all, nothing_normalized, renaming, normalized}
 use Rattle.lower_tables.specs.Counts.Preparations.{IsTemplateOf, called, is_there, is_counted, are_counted, Counts, counts, AreCounts}
 use Rattle.lower_tables.proofs.counts.Preparing.{one_template, both_true, there_is}
 use Rattle.lower.specs.TemplateLaws.PieceOrder.{GoesOn, AreFollowed}
-use Rattle.lower.proofs.template_laws.SettledOrder.{settled_followed}
+use Rattle.lower.proofs.template_laws.NormalizedOrder.{normalized_followed}
 use Rattle.lower.proofs.template_laws.TemplateOrder.{template_followed}
-use Rattle.simulation_layout.specs.Normalized.SettledRuns.{Settles}
+use Rattle.simulation_layout.specs.Normalized.NormalizedRuns.{Settles}
 
 -- begun in an empty block, a function has no instruction
 pub record Quiet (u : UnitView) (n : ℕ) : Type 0 where
@@ -192,13 +192,13 @@ module _ (Q : ℕ → Type 0) (table : List (Option FunctionCounts)) (quiet : (m
 
 -- ---- functions without an instruction
 
-abbrev followed : (u : UnitView) (n : ℕ) (f : FunctionView) (t : TemplateView) (table : List (Option FunctionCounts)) → IsTemplateOf u n f t → AreFollowed (settled table t).pieces
-followed u n f t table is = settled_followed table t (template_followed u.structs u.model.pointer u.model.int f (n == u.entry) t is.is_template)
+abbrev followed : (u : UnitView) (n : ℕ) (f : FunctionView) (t : TemplateView) (table : List (Option FunctionCounts)) → IsTemplateOf u n f t → AreFollowed (normalized table t).pieces
+followed u n f t table is = normalized_followed table t (template_followed u.structs u.model.pointer u.model.int f (n == u.entry) t is.is_template)
 
 -- a function that has none leaves an empty block
 leaves_empty : (u : UnitView) (n : ℕ) (c : FunctionCounts) → Counts u n c → c.from_empty.instructions ≡ 0 → c.from_empty.is_empty ≡ true
 leaves_empty u n c (counts _ f t table is all each) none =
-    (stays_empty (λ m. Unit {0}) table (λ m k at quiet. tt) (λ m k at quiet. leaves_empty u m k (each m k at) quiet) (settled table t).pieces (nothing true) refl none (followed u n f t table is) (counted_all table (renaming table t.pieces t.labels) t.pieces nothing_settled all refl)).empty
+    (stays_empty (λ m. Unit {0}) table (λ m k at quiet. tt) (λ m k at quiet. leaves_empty u m k (each m k at) quiet) (normalized table t).pieces (nothing true) refl none (followed u n f t table is) (counted_all table (renaming table t.pieces t.labels) t.pieces nothing_normalized all refl)).empty
 
 no_silence : (c : FunctionCounts) → c.is_silent ≡ false → c.is_silent ≡ true → ⊥
 no_silence c loud silent = by (sym loud ∙ silent)
@@ -212,7 +212,7 @@ first_true false b e = cc
 
 nothing_done : (u : UnitView) (n : ℕ) (c : FunctionCounts) → Counts u n c → c.is_silent ≡ true → c.from_empty.instructions ≡ 0
 nothing_done u n c (counts _ f t table is all each) silent =
-    let at = extent table (settled table t).pieces true in
+    let at = extent table (normalized table t).pieces true in
     eqb-true at.instructions 0 (first_true (at.instructions == 0) (f.parameters == 0 && is_void f.returns) silent)
 
 -- a function that adds nothing has none
@@ -228,12 +228,12 @@ pub silent_is_quiet : (u : UnitView) (table : List (Option FunctionCounts)) (n :
 silent_is_quiet u table n are silent = silent_holds (Quiet u) u table n are (λ m c is none. record { counts = c; are_counts = are m c is; none = none }) silent
 
 -- the pieces of a function without an instruction are idle
-pub idle_template : (Q : ℕ → Type 0) (u : UnitView) (n : ℕ) (f g : FunctionView) (t s : TemplateView) (table : List (Option FunctionCounts)) → IsTemplateOf u n f t → IsTemplateOf u n g s → are_counted table s.pieces ≡ true → AreCounts u table → HoldsOfQuiet Q table → (extent table (settled table s).pieces true).instructions ≡ 0 → AreIdle Q t.pieces
+pub idle_template : (Q : ℕ → Type 0) (u : UnitView) (n : ℕ) (f g : FunctionView) (t s : TemplateView) (table : List (Option FunctionCounts)) → IsTemplateOf u n f t → IsTemplateOf u n g s → are_counted table s.pieces ≡ true → AreCounts u table → HoldsOfQuiet Q table → (extent table (normalized table s).pieces true).instructions ≡ 0 → AreIdle Q t.pieces
 idle_template Q u n f g t s table own is all each quiet none =
     let same = one_template u n f g t s own is in
     let names = renaming table s.pieces s.labels in
-    let stays = stays_empty Q table quiet (λ m k at quiet. leaves_empty u m k (each m k at) quiet) (settled table s).pieces (nothing true) refl none (followed u n g s table is) (counted_all table names s.pieces nothing_settled all refl) in
-    subst (λ (x : TemplateView). AreIdle Q x.pieces) (sym same) (idle_all Q table (λ m silent. silent_holds Q u table m each quiet silent) names s.pieces nothing_settled stays.idle).1
+    let stays = stays_empty Q table quiet (λ m k at quiet. leaves_empty u m k (each m k at) quiet) (normalized table s).pieces (nothing true) refl none (followed u n g s table is) (counted_all table names s.pieces nothing_normalized all refl) in
+    subst (λ (x : TemplateView). AreIdle Q x.pieces) (sym same) (idle_all Q table (λ m silent. silent_holds Q u table m each quiet silent) names s.pieces nothing_normalized stays.idle).1
 
 quiet_template : (u : UnitView) (n : ℕ) (f : FunctionView) (t : TemplateView) (c : FunctionCounts) → IsTemplateOf u n f t → Counts u n c → c.from_empty.instructions ≡ 0 → AreIdle (Quiet u) t.pieces
 quiet_template u n f t c own (counts _ g s table is all each) none = idle_template (Quiet u) u n f g t s table own is all each (λ m k at quiet. record { counts = k; are_counts = each m k at; none = quiet }) none

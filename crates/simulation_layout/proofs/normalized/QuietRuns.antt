@@ -7,18 +7,18 @@ use Rattle.memory_model.specs.Effects.Worlds.{World, unviolated, Violation}
 use Rattle.lower_templates.specs.Worklist.Pieces.{PieceView, Do, DoIfUsed, End, Mark, Call, TemplateView}
 use Rattle.lower_objects.specs.declared.counts.function_counts.FunctionCounts.{FunctionCounts}
 use Rattle.lower_tables.specs.Counts.Preparations.{Reaches, Calls, Counts, counts}
-use Rattle.semantics.specs.TemplateMachine.TemplateStates.{Templates, Frame, Standing, TemplateRun, running}
+use Rattle.semantics.specs.TemplateMachine.TemplateStates.{Templates, Frame, TemplateState, TemplateRun, running}
 use Rattle.semantics.specs.TemplateMachine.TemplateSteps as runs
 use Rattle.semantics.specs.TemplateMachine.TemplateSteps.{from_temp, up_to, back_to, next, steps_from}
-use Rattle.simulation_layout.specs.Normalized.SettledRuns.{Settles}
+use Rattle.simulation_layout.specs.Normalized.NormalizedRuns.{Settles}
 use Rattle.simulation_layout.proofs.normalized.QuietFunctions.{Quiet, AreIdle, idle_template}
-use Rattle.simulation_layout.proofs.normalized.SettledSteps.{first, stand, calm, later, whole}
+use Rattle.simulation_layout.proofs.normalized.NormalizedSteps.{first, stand, calm, later, whole}
 
 module _ (u : UnitView) (made settles : ℕ → TemplateView) (known : (n : ℕ) → Reaches u n → Settles u n (made n) (settles n)) where
   abbrev plain : Templates
   plain = first u made settles known
 
-  abbrev at : ℕ → List PieceView → (ℕ → Option Scalar) → (ℕ → Option ℕ) → List Frame → World → Standing
+  abbrev at : ℕ → List PieceView → (ℕ → Option Scalar) → (ℕ → Option ℕ) → List Frame → World → TemplateState
   at n rest temps names frames w = stand u made settles known n rest temps names frames w
 
   pub steps_on : (m k : ℕ) (r : TemplateRun) → steps_from plain k (steps_from plain m r) ≡ steps_from plain (m + k) r
@@ -34,7 +34,7 @@ module _ (u : UnitView) (made settles : ℕ → TemplateView) (known : (n : ℕ)
   -- after some steps the function is about to return, with these names and functions that wait
   pub record Ends (names : ℕ → Option ℕ) (frames : List Frame) (r : TemplateRun) : Type 0 where
     pub steps : ℕ
-    pub standing : Standing
+    pub standing : TemplateState
     pub found : List Violation
     pub is : steps_from plain steps r ≡ running standing found
     pub rest : standing.rest ≡ []
@@ -49,7 +49,7 @@ module _ (u : UnitView) (made settles : ℕ → TemplateView) (known : (n : ℕ)
   ends_later names frames k r e = record { steps = k + e.steps; standing = e.standing; found = e.found; is = sym (steps_on k e.steps r) ∙ e.is; rest = e.rest; frames_are = e.frames_are; names_are = e.names_are }
 
   -- a function that is about to return goes back to the one that waits
-  pub returns : (s : Standing) (found : List Violation) (f : Frame) (fs : List Frame) → s.rest ≡ [] → s.frames ≡ f ∷ fs → next plain (running s found) ≡ running (back_to (calm u made settles known s) f fs) (found ++ [])
+  pub returns : (s : TemplateState) (found : List Violation) (f : Frame) (fs : List Frame) → s.rest ≡ [] → s.frames ≡ f ∷ fs → next plain (running s found) ≡ running (back_to (calm u made settles known s) f fs) (found ++ [])
   returns s found f fs rest frames =
       ap (λ ps. runs.stepped_on found (runs.step_by plain (calm u made settles known s) ps)) rest
       ∙ ap (λ xs. runs.stepped_on found (runs.return_to (calm u made settles known s) xs)) frames

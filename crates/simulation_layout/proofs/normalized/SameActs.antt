@@ -20,37 +20,37 @@ use Rattle.semantics.specs.CfgMachine.FlowActs as flow_acts
 use Rattle.semantics.specs.SourceMachine.Items.{Forget, Clear, Spell}
 use Rattle.semantics.specs.SourceMachine.SourceStates.{State, type_of}
 use Rattle.semantics.specs.SourceMachine.ObjectSteps as source
-use Rattle.semantics.specs.TemplateMachine.TemplateStates.{Frame, Standing, if_some, on, with_name, with_instance, local_of, object_of, instance_named, scene}
+use Rattle.semantics.specs.TemplateMachine.TemplateStates.{Frame, TemplateState, if_some, on, with_name, with_instance, local_of, object_of, instance_named, scene}
 use Rattle.semantics.specs.TemplateMachine.TemplateActs.{no_program, in_flow, from_flow, operated, taken, pointed, addressed, from_scene, on_local, perform}
 use Rattle.semantics.specs.TemplateMachine.TemplateExits.{with_side, in_world, testing, with_kind, typed_object, matching, with_put, on_way}
-use Rattle.simulation_layout.specs.Normalized.SettledRuns.{templates}
+use Rattle.simulation_layout.specs.Normalized.NormalizedRuns.{templates}
 
 -- other pieces to come, and other functions that wait
-abbrev pub with_stack : List PieceView → List Frame → Standing → Standing
+abbrev pub with_stack : List PieceView → List Frame → TemplateState → TemplateState
 with_stack rest frames s = record s { rest = rest; frames = frames }
 
 -- what a step has changed, in another state
-abbrev pub changed_in : Standing → Standing → Standing
+abbrev pub changed_in : TemplateState → TemplateState → TemplateState
 changed_in s r = record s { temps = r.temps; names = r.names; world = r.world }
 
-abbrev pub over : (Standing → Standing) → Reply Standing → Reply Standing
+abbrev pub over : (TemplateState → TemplateState) → Reply TemplateState → Reply TemplateState
 over f (goes r w) = goes (f r) w
 over f (stops why w) = stops why w
 
-module _ (u : UnitView) (of others : ℕ → TemplateView) (s : Standing) (rest : List PieceView) (frames : List Frame) (same : (of s.function).names ≡ (others s.function).names) where
-  abbrev other : Standing
+module _ (u : UnitView) (of others : ℕ → TemplateView) (s : TemplateState) (rest : List PieceView) (frames : List Frame) (same : (of s.function).names ≡ (others s.function).names) where
+  abbrev other : TemplateState
   other = with_stack rest frames s
 
-  abbrev Alike : Reply Standing → Reply Standing → Type 0
+  abbrev Alike : Reply TemplateState → Reply TemplateState → Type 0
   Alike x y = y ≡ over (changed_in other) x
 
   -- ---- what is there
 
-  if_there : {A : Type 0} (o : Option A) (use_it use_too : A → Reply Standing) → ((x : A) → Alike (use_it x) (use_too x)) → Alike (if_some s o use_it) (if_some other o use_too)
+  if_there : {A : Type 0} (o : Option A) (use_it use_too : A → Reply TemplateState) → ((x : A) → Alike (use_it x) (use_too x)) → Alike (if_some s o use_it) (if_some other o use_too)
   if_there None use_it use_too alike = refl
   if_there (Some x) use_it use_too alike = alike x
 
-  named : (base : ℕ) (use_it use_too : NameView → Reply Standing) → ((x : NameView) → Alike (use_it x) (use_too x)) → Alike (with_name (templates u of) s base use_it) (with_name (templates u others) other base use_too)
+  named : (base : ℕ) (use_it use_too : NameView → Reply TemplateState) → ((x : NameView) → Alike (use_it x) (use_too x)) → Alike (with_name (templates u of) s base use_it) (with_name (templates u others) other base use_too)
   named base use_it use_too alike = ap (λ ns. if_some other (slice_get ns base) use_too) (sym same) ∙ if_there (slice_get (of s.function).names base) use_it use_too alike
 
   -- ---- acts
@@ -58,7 +58,7 @@ module _ (u : UnitView) (of others : ℕ → TemplateView) (s : Standing) (rest 
   operated_alike : (a : Act) → Alike (operated (templates u of) s a) (operated (templates u others) other a)
   operated_alike a = by (flow_acts.perform (no_program u) a (in_flow s))
     where
-      by : (x : Reply flow.Standing) → Alike (behind x (from_flow s)) (behind x (from_flow other))
+      by : (x : Reply flow.ProgramState) → Alike (behind x (from_flow s)) (behind x (from_flow other))
       by (goes f w) = refl
       by (stops why w) = refl
 
@@ -95,7 +95,7 @@ module _ (u : UnitView) (of others : ℕ → TemplateView) (s : Standing) (rest 
 
   -- ---- edges
 
-  instance_alike : (base : ℕ) (use_it use_too : ℕ → Reply Standing) → ((i : ℕ) → Alike (use_it i) (use_too i)) → Alike (with_instance (templates u of) s base use_it) (with_instance (templates u others) other base use_too)
+  instance_alike : (base : ℕ) (use_it use_too : ℕ → Reply TemplateState) → ((i : ℕ) → Alike (use_it i) (use_too i)) → Alike (with_instance (templates u of) s base use_it) (with_instance (templates u others) other base use_too)
   instance_alike base use_it use_too alike = named base _ _ (λ name. by name)
     where
       by : (name : NameView) → Alike (if_some s (instance_named (templates u of) s name) use_it) (if_some other (instance_named (templates u others) other name) use_too)
@@ -105,7 +105,7 @@ module _ (u : UnitView) (of others : ℕ → TemplateView) (s : Standing) (rest 
       by (Literal n) = if_there (instance_named (templates u of) s (Literal n)) use_it use_too alike
       by (Allocation target) = refl
 
-  side_alike : (x : Side) (use_it use_too : TestedSide → Reply Standing) → ((t : TestedSide) → Alike (use_it t) (use_too t)) → Alike (with_side (templates u of) s x use_it) (with_side (templates u others) other x use_too)
+  side_alike : (x : Side) (use_it use_too : TestedSide → Reply TemplateState) → ((t : TestedSide) → Alike (use_it t) (use_too t)) → Alike (with_side (templates u of) s x use_it) (with_side (templates u others) other x use_too)
   side_alike (side.Object base kind) use_it use_too alike = instance_alike base _ _ (λ i. alike (tests.object i kind))
   side_alike (side.Number n) use_it use_too alike = alike (tests.constant n)
   side_alike side.Null use_it use_too alike = alike tests.nothing
@@ -118,10 +118,10 @@ module _ (u : UnitView) (of others : ℕ → TemplateView) (s : Standing) (rest 
   testing_alike None = refl
   testing_alike (Some t) = side_alike t.left _ _ (λ left. side_alike t.right _ _ (λ right. passed_alike (pass_test u.model (record { left = left; rel = t.rel; right = right; common = t.common }) s.world)))
 
-  kind_alike : (found : Option Ty) (use_it use_too : IntType → Reply Standing) → ((k : IntType) → Alike (use_it k) (use_too k)) → Alike (with_kind (templates u of) s found use_it) (with_kind (templates u others) other found use_too)
+  kind_alike : (found : Option Ty) (use_it use_too : IntType → Reply TemplateState) → ((k : IntType) → Alike (use_it k) (use_too k)) → Alike (with_kind (templates u of) s found use_it) (with_kind (templates u others) other found use_too)
   kind_alike found use_it use_too alike = if_there found _ _ (λ ctype. alike (integer_type ctype))
 
-  typed_alike : (name : NameView) (use_it use_too : IntType → Reply Standing) → ((k : IntType) → Alike (use_it k) (use_too k)) → Alike (typed_object (templates u of) s name use_it) (typed_object (templates u others) other name use_too)
+  typed_alike : (name : NameView) (use_it use_too : IntType → Reply TemplateState) → ((k : IntType) → Alike (use_it k) (use_too k)) → Alike (typed_object (templates u of) s name use_it) (typed_object (templates u others) other name use_too)
   typed_alike (Local n) use_it use_too alike = kind_alike (type_of u (scene s) (object.Local n)) use_it use_too alike
   typed_alike Outcome use_it use_too alike = if_there (object_of (templates u of) s Outcome) _ _ (λ o. kind_alike (type_of u (scene s) o) use_it use_too alike)
   typed_alike (Static n) use_it use_too alike = kind_alike (type_of u (scene s) (object.Static n)) use_it use_too alike
@@ -132,7 +132,7 @@ module _ (u : UnitView) (of others : ℕ → TemplateView) (s : Standing) (rest 
   matching_alike value None = refl
   matching_alike value (Some base) = instance_alike base _ _ (λ i. named base _ _ (λ name. typed_alike name _ _ (λ kind. passed_alike (pass_case u.model i kind value s.world))))
 
-  put_alike : (puts : Option (ℕ × ℤ)) (x : Reply Standing) → Alike (behind x (λ r w. on (with_put puts r))) (behind (over (changed_in other) x) (λ r w. on (with_put puts r)))
+  put_alike : (puts : Option (ℕ × ℤ)) (x : Reply TemplateState) → Alike (behind x (λ r w. on (with_put puts r))) (behind (over (changed_in other) x) (λ r w. on (with_put puts r)))
   put_alike puts (stops why w) = refl
   put_alike None (goes r w) = refl
   put_alike (Some p) (goes r w) = refl

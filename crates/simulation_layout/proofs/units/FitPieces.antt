@@ -14,10 +14,10 @@ use Rattle.lower_template_theorems.specs.Switches.SwitchedTrees.{IsCaseOf, AreCa
 use Rattle.lower_template_theorems.proofs.switches.SendingTemplates.{cases_of_template}
 use Rattle.simulation_layout.specs.Inlining.NameRanges.{IsNameThere}
 use Rattle.simulation_layout.proofs.inlining.ListPlaces.{some_same}
-use Rattle.simulation_layout.specs.Normalized.SettledRuns.{LabelsStandOnce}
+use Rattle.simulation_layout.specs.Normalized.NormalizedRuns.{LabelsStandOnce}
 use Rattle.simulation_layout.specs.InlinedLayout.Layouts.{IsAtStart}
 use Rattle.simulation_layout.specs.Copies.FitTemplates.{PointsToStart, type_named, IsInteger, SwitchesOn, AllSwitchOn, ArePiecesFit, IsFit}
-use Rattle.simulation_layout.specs.InlinedRuns.OpenedRuns.{IsMade}
+use Rattle.simulation_layout.specs.InlinedRuns.InlinedRuns.{IsMade}
 use Rattle.simulation_layout.specs.Units.CheckedRuns.{IsIntegerNamed, IsPlainlyMade}
 
 -- ---- labels

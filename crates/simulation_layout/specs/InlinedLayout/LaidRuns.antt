@@ -8,12 +8,12 @@ use Rattle.semantics.specs.CfgMachine.FlowStates.{FlowRun}
 use Rattle.semantics.specs.CfgMachine.FlowSteps.{flow_steps}
 use Rattle.semantics.specs.CfgMachine.FlowStarts.{flow_begin}
 use Rattle.semantics.specs.TemplateMachine.TemplateStates as template
-use Rattle.semantics.specs.TemplateMachine.TemplateStates.{Templates, Frame, Standing, TemplateRun, running}
+use Rattle.semantics.specs.TemplateMachine.TemplateStates.{Templates, Frame, TemplateState, TemplateRun, running}
 use Rattle.semantics.specs.TemplateMachine.TemplateSteps.{template_begin, steps_from}
-use Rattle.simulation_layout.specs.InlinedLayout.Copies.{Opened, Copy}
+use Rattle.simulation_layout.specs.InlinedLayout.Copies.{Inlined, Copy}
 use Rattle.simulation_layout.specs.InlinedLayout.Layouts.{IsLaidOut}
 
-abbrev pub templates : Opened → Templates
+abbrev pub templates : Inlined → Templates
 templates o = record { unit = o.unit; of = o.of }
 
 -- a program with the structs and the model of its unit
@@ -44,5 +44,5 @@ AgreeUnlessStuck a b = (template.why_of a ≡ Some Stuck) ⊎ Agree a b
 
 -- each run of the templates in which each called function leaves what it enters is one of the program
 abbrev pub LaidRunsAreTheSame : Type 0
-LaidRunsAreTheSame = (o : Opened) (c : Copy) → IsLaidOut o c → (draws : List ℤ) (n : ℕ) → ((j : ℕ) → j < n → LeavesAll (steps_from (templates o) j (template_begin (templates o) draws)))
+LaidRunsAreTheSame = (o : Inlined) (c : Copy) → IsLaidOut o c → (draws : List ℤ) (n : ℕ) → ((j : ℕ) → j < n → LeavesAll (steps_from (templates o) j (template_begin (templates o) draws)))
     → (m : ℕ) × AgreeUnlessStuck (steps_from (templates o) n (template_begin (templates o) draws)) (flow_steps (of_unit o.unit o.program) m (flow_begin o.unit (of_unit o.unit o.program) draws))

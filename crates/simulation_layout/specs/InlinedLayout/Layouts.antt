@@ -18,12 +18,12 @@ use Rattle.semantics.specs.CfgMachine.FlowStarts.{start_names}
 use Rattle.semantics.specs.CfgMachine.FlowSteps.{block_of}
 use Rattle.semantics.specs.SourceMachine.SourceRuns.{name_parameters}
 use Rattle.simulation_layout.specs.InlinedLayout.Shifts.{put_shifted, named_base, shifted}
-use Rattle.simulation_layout.specs.InlinedLayout.Copies.{Opened, Copy, IsCopy, AllApart, IsThere, IsObject, IsLiteral, name_of, IsBase, IsOwnBase, IsSwitchedObject}
+use Rattle.simulation_layout.specs.InlinedLayout.Copies.{Inlined, Copy, IsCopy, AllApart, IsThere, IsObject, IsLiteral, name_of, IsBase, IsOwnBase, IsSwitchedObject}
 
 -- ---- instructions
 
 -- an instruction of the program at a place: the number of a block, and that of the instruction in it
-abbrev pub Stands : Opened → ℕ → ℕ → Step → Type 0
+abbrev pub Stands : Inlined → ℕ → ℕ → Step → Type 0
 Stands o block at s = slice_get (block_of o.program block).steps at ≡ Some s
 
 -- a literal is pointed to at its start
@@ -31,12 +31,12 @@ abbrev pub IsAtStart : Option NameView → ℕ → Type 0
 IsAtStart (Some (Literal n)) offset = offset ≡ 0
 IsAtStart name offset = Unit {0}
 
-abbrev pub PointsWell : Opened → Copy → Act → Type 0
+abbrev pub PointsWell : Inlined → Copy → Act → Type 0
 PointsWell o c (acts.Address to base offset) = IsAtStart (name_of o c base) offset
 PointsWell o c a = Unit {0}
 
 -- an instruction of the copy's template stands there
-pub record IsPut (o : Opened) (c : Copy) (at : Place) (a : Act) (block place : ℕ) : Type 0 where
+pub record IsPut (o : Inlined) (c : Copy) (at : Place) (a : Act) (block place : ℕ) : Type 0 where
   pub base : ℕ
   pub is_base : IsOwnBase o c (named_base a) base
   pub points : PointsWell o c a
@@ -44,21 +44,21 @@ pub record IsPut (o : Opened) (c : Copy) (at : Place) (a : Act) (block place : �
 
 -- ---- edges
 
-pub data IsSide (o : Opened) (c : Copy) : Side → Side → Type 0 where
+pub data IsSide (o : Inlined) (c : Copy) : Side → Side → Type 0 where
   object : (n b : ℕ) (k : declared.Scalar) → IsBase o c n b → IsSide o c (side.Object n k) (side.Object b k)
   number : (n : ℤ) → IsSide o c (side.Number n) (side.Number n)
   nothing : IsSide o c side.Null side.Null
 
-pub data IsTest (o : Opened) (c : Copy) : Option Test → Option Test → Type 0 where
+pub data IsTest (o : Inlined) (c : Copy) : Option Test → Option Test → Type 0 where
   none : IsTest o c None None
   some : (t : Test) (left right : Side) → IsSide o c t.left left → IsSide o c t.right right → IsTest o c (Some t) (Some (record { left = left; rel = t.rel; right = right; common = t.common }))
 
-pub data IsCaseObject (o : Opened) (c : Copy) : Option ℕ → Option ℕ → Type 0 where
+pub data IsCaseObject (o : Inlined) (c : Copy) : Option ℕ → Option ℕ → Type 0 where
   none : IsCaseObject o c None None
   some : (n b : ℕ) → IsBase o c n b → IsSwitchedObject o c n b → IsCaseObject o c (Some n) (Some b)
 
 -- when an edge is taken and what it does, in the template and in the program
-pub data IsWay (o : Opened) (c : Copy) : Way → Way → Type 0 where
+pub data IsWay (o : Inlined) (c : Copy) : Way → Way → Type 0 where
   always : IsWay o c Always Always
   when : (truth : Bool) (test moved : Option Test) (puts : Option (ℕ × ℤ)) → IsTest o c test moved → IsWay o c (When truth test puts) (When truth moved (put_shifted c.depth puts))
   in_case : (value : ℤ) (object moved : Option ℕ) → IsCaseObject o c object moved → IsWay o c (Case (record { value = value; object = object })) (Case (record { value = value; object = moved }))
@@ -67,17 +67,17 @@ pub data IsWay (o : Opened) (c : Copy) : Way → Way → Type 0 where
   line : IsWay o c Line Line
 
 -- edges lead to the blocks of the copy's labels
-pub data AreLed (o : Opened) (c : Copy) : List ExitView → List EdgeView → Type 0 where
+pub data AreLed (o : Inlined) (c : Copy) : List ExitView → List EdgeView → Type 0 where
   none : AreLed o c [] []
   one : (e : ExitView) (from : ℕ) (taken : Way) (es : List ExitView) (edges : List EdgeView) → IsWay o c e.taken taken → AreLed o c es edges → AreLed o c (e ∷ es) (record { from = from; to = c.labels e.to; taken = taken } ∷ edges)
 
-abbrev pub edges_at : Opened → ℕ → List EdgeView
+abbrev pub edges_at : Inlined → ℕ → List EdgeView
 edges_at o block = edges_of o.program (block_of o.program block)
 
 -- ---- pieces
 
 -- pieces of a copy stand from one place on to another one; around are the copies in which it stands
-pub data Laid (o : Opened) : Copy → List Copy → List PieceView → ℕ → ℕ → ℕ → ℕ → Type 0 where
+pub data Laid (o : Inlined) : Copy → List Copy → List PieceView → ℕ → ℕ → ℕ → ℕ → Type 0 where
   nothing : (c : Copy) (around : List Copy) (block at : ℕ) → Laid o c around [] block at block at
   does : (c : Copy) (around : List Copy) (i : Step) (ps : List PieceView) (block at end last : ℕ) → IsPut o c i.at i.does block at → Laid o c around ps block (suc at) end last → Laid o c around (Do i ∷ ps) block at end last
   -- what is done where the call's value is used has the place of the call
@@ -95,7 +95,7 @@ pub data Laid (o : Opened) : Copy → List Copy → List PieceView → ℕ → �
 -- ---- whole programs
 
 -- a base of an automatic object
-pub record IsAutomatic (o : Opened) (b : ℕ) : Type 0 where
+pub record IsAutomatic (o : Inlined) (b : ℕ) : Type 0 where
   pub info : BaseInfo
   pub there : IsThere o b info
   pub is_automatic : info.kind ≡ kind.Automatic
@@ -103,7 +103,7 @@ pub record IsAutomatic (o : Opened) (b : ℕ) : Type 0 where
 -- the entry's template is laid out from the first block on, with its calls; when a run begins, bases of objects of
 -- static storage and of literals name their instances, those of the entry's parameters theirs, and no other base of an
 -- automatic object names any
-pub record IsLaidOut (o : Opened) (c : Copy) : Type 0 where
+pub record IsLaidOut (o : Inlined) (c : Copy) : Type 0 where
   pub function : c.function ≡ o.unit.entry
   pub depth : c.depth ≡ 0
   pub is_copy : IsCopy o c

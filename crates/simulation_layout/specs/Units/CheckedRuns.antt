@@ -19,7 +19,7 @@ use Rattle.lower_template_theorems.specs.Switches.SwitchedTrees.{SwitchesStateme
 use Rattle.lower.specs.Inlining.Lowerings.{IsLowering}
 use Rattle.semantics.specs.TemplateMachine.TemplateStates.{Templates}
 use Rattle.semantics.specs.TemplateMachine.TemplateSteps.{template_begin, steps_from}
-use Rattle.simulation_layout.specs.Normalized.SettledRuns.{templates, ReturnsWith, NamesNothing}
+use Rattle.simulation_layout.specs.Normalized.NormalizedRuns.{templates, ReturnsWith, NamesNothing}
 use Rattle.simulation_layout.specs.InlinedLayout.LaidRuns.{AgreeUnlessStuck}
 use Rattle.simulation_layout.specs.Copies.FitTemplates.{type_named, IsInteger}
 use Rattle.simulation_layout.specs.Inlining.NameRanges.{IsNameThere}

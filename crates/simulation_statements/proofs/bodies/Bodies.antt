@@ -18,7 +18,7 @@ use Rattle.semantics.specs.SourceMachine.Items.{Item}
 use Rattle.semantics.specs.SourceMachine.SourceStates.{function_at}
 use Rattle.semantics.specs.SourceMachine.StatementItems.{statements}
 use Rattle.simulation_terms.specs.SimulationRelation.Activations.{Activation}
-use Rattle.simulation_terms.specs.SimulationRelation.Follows.{Follows}
+use Rattle.simulation_terms.specs.SimulationRelation.Simulates.{Simulates}
 use Rattle.simulation_terms.specs.Worklists.TemplateParts.{IsOfUnit, IsKnown, Stands, Ends}
 use Rattle.simulation_terms.proofs.worklists.Runs.{Runs, stands_behind, joined, split}
 use Rattle.simulation_terms.proofs.worklists.Laying.{known_between}
@@ -57,7 +57,7 @@ has_labels s t f is tree apart suits labelled =
 module _ (s : SettingView) (t : Activation) (fits : IsOfUnit t s) (f : FunctionView) (has : HasLabels t s f) (ends : Ends s t f) (suits : AllSuitIn t.unit f not_enclosed (f.scope ++ []) (statement_trees f.body)) (labelled : IsLabelled f) where
   -- behind it the function ends
   pub body_from : (n first second : ℕ) → NamedFrom t first f.scope → NamedFrom t second f.scope → (p : Plan) → p.jobs ≡ [] → position p ≡ numbers 2 0 → f.labels ≤ p.labels → (ps : List PieceView) (r : Plan) → Makes s p (body_jobs s f first second) ps r → IsKnown t r
-      → (rest : List PieceView) → Stands t (ps ++ rest) → Follows t n 0 (item.EndBody ∷ []) rest → Follows t n 0 (body_items f (item.EndBody ∷ [])) (ps ++ rest)
+      → (rest : List PieceView) → Stands t (ps ++ rest) → Simulates t n 0 (item.EndBody ∷ []) rest → Simulates t n 0 (body_items f (item.EndBody ∷ [])) (ps ++ rest)
   body_from n first second named again p none begun few ps r m known rest stands end =
       let trees = statement_trees f.body in
       let js = statement_jobs trees (outermost s.end) in
@@ -72,11 +72,11 @@ module _ (s : SettingView) (t : Activation) (fits : IsOfUnit t s) (f : FunctionV
       let at_front = split s t n ps y.front y.back rest y.all stands in
       let at_body = split s t n y.back z.front z.back rest z.all (stands_behind t y.front (y.back ++ rest) at_front) in
       let left : Runs s t n outs (item.Leaves f.scope ∷ []) 0 0 = subst (λ at. Runs s t n (object_jobs act.Leave at f.scope second) (item.Leaves f.scope ∷ []) 0 0) (sym fits.place) (leaves s t fits n f.scope second 0 again) in
-      let last : Follows t n 0 (behind_statements f) (z.back ++ rest) = left.from z.between none_out z.back r z.second known (item.EndBody ∷ []) rest (stands_behind t z.front (z.back ++ rest) at_body) end in
+      let last : Simulates t n 0 (behind_statements f) (z.back ++ rest) = left.from z.between none_out z.back r z.second known (item.EndBody ∷ []) rest (stands_behind t z.front (z.back ++ rest) at_body) end in
       let choices = noted s t.unit f not_enclosed (f.scope ++ []) has.tree suits labelled (few_cases s f (outermost s.end) p none ins outs ps r m known.labels) in
       let inside = joined s t n 0 (statements trees ++ behind_statements f) y.back z.front z.back rest z.all
       (statements_go s t fits f has ends suits y.between none_in begun_in choices few_in z.front z.between z.first (known_between s t z.between outs z.back r z.second known) (z.back ++ rest) at_body n last) in
       let entered : Runs s t n ins (item.Enters f.scope ∷ []) 0 0 = subst (λ at. Runs s t n (object_jobs act.Enter at f.scope first) (item.Enters f.scope ∷ []) 0 0) (sym fits.place) (enters s t fits n f.scope first 0 named) in
       let front = entered.from p none y.front y.between y.first (known_between s t y.between (js ++ outs) y.back r y.second known) (statements trees ++ behind_statements f) (y.back ++ rest) at_front inside in
-      subst (λ xs. Follows t n 0 (item.Enters f.scope ∷ xs) (ps ++ rest)) (sym (append_assoc (statements trees) (item.Leaves f.scope ∷ []) (item.EndBody ∷ [])))
+      subst (λ xs. Simulates t n 0 (item.Enters f.scope ∷ xs) (ps ++ rest)) (sym (append_assoc (statements trees) (item.Leaves f.scope ∷ []) (item.EndBody ∷ [])))
       (joined s t n 0 (item.Enters f.scope ∷ (statements trees ++ behind_statements f)) ps y.front y.back rest y.all front)

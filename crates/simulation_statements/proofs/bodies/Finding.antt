@@ -15,7 +15,7 @@ use Rattle.lower_template_theorems.proofs.worklists.Derivations.{parted}
 use Rattle.semantics.specs.SourceMachine.Items.{Item}
 use Rattle.semantics.specs.SourceMachine.LabelSearch.{Sought, case, other, first}
 use Rattle.simulation_terms.specs.SimulationRelation.Activations.{Activation}
-use Rattle.simulation_terms.specs.SimulationRelation.Follows.{Follows}
+use Rattle.simulation_terms.specs.SimulationRelation.Simulates.{Simulates}
 use Rattle.simulation_terms.specs.Worklists.TemplateParts.{IsKnown, Stands}
 use Rattle.simulation_terms.proofs.worklists.Runs.{known_before, stands_behind, opened, split}
 use Rattle.simulation_terms.specs.Scopes.Contexts.{Reaches}
@@ -56,7 +56,7 @@ never to e = cc
 module _ (s : SettingView) (t : Activation) where
   -- some search in works, with so many turns, in a switch, and with so many scopes begun before
   abbrev pub FindsFrom : ℕ → ℕ → (List Item → Type 0) → Plan → List Job → (Sought → List Item → Option (List Item)) → Type 0
-  FindsFrom n choice K p js find = (ps : List PieceView) (r : Plan) → Makes s p js ps r → IsKnown t r → (items : List Item) (rest : List PieceView) → Stands t (ps ++ rest) → K items → Follows t n 0 items rest → (l : Sought) (mark : ℕ) → IsMark p choice l mark → (to : List Item) → find l items ≡ Some to → Reaches t n mark to
+  FindsFrom n choice K p js find = (ps : List PieceView) (r : Plan) → Makes s p js ps r → IsKnown t r → (items : List Item) (rest : List PieceView) → Stands t (ps ++ rest) → K items → Simulates t n 0 items rest → (l : Sought) (mark : ℕ) → IsMark p choice l mark → (to : List Item) → find l items ≡ Some to → Reaches t n mark to
 
   pub record Finds (n choice : ℕ) (first : Position) (K : List Item → Type 0) (js : List Job) (find : Sought → List Item → Option (List Item)) : Type 0 where
     pub from : (p : Plan) → p.jobs ≡ [] → position p ≡ first → FindsFrom n choice K p js find

@@ -18,7 +18,7 @@ use Rattle.semantics.specs.SourceMachine.Items as item
 use Rattle.semantics.specs.SourceMachine.Items.{Item}
 use Rattle.semantics.specs.SourceMachine.LabelSearch.{Sought, is_label, is_case, is_other, here_or, found}
 use Rattle.simulation_terms.specs.SimulationRelation.Activations.{Activation}
-use Rattle.simulation_terms.specs.SimulationRelation.Follows.{Follows}
+use Rattle.simulation_terms.specs.SimulationRelation.Simulates.{Simulates}
 use Rattle.simulation_terms.specs.Worklists.TemplateParts.{IsOfUnit, Stands}
 use Rattle.simulation_terms.proofs.worklists.Runs.{known_before, opened, headed, stands_after}
 use Rattle.simulation_terms.proofs.worklists.Laying.{led}
@@ -89,7 +89,7 @@ module _ (s : SettingView) (t : Activation) (fits : IsOfUnit t s) (n choice : �
         let to_start : Grows p start = planless_grows p all (subst (λ q. Grows p q) (same p) (grows_parts s (jobs.Statement i around) p)) in
         by (is_sought l) refl e
         (λ sought is_to.
-        record { there = x.back ++ rest; leads = led s t fits lb p.labels p.labels (x.back ++ rest) (mark_below p choice l lb is) (at_most p.labels) few (subst (λ j. Stands t (Mark j ∷ (x.back ++ rest))) (sym (is_mark p l lb is sought)) at_mark); follows = subst (λ xs. Follows t n 0 xs (x.back ++ rest)) is_to (goes.from start refl begun_all x.back r x.made known items rest at_body k f) })
+        record { there = x.back ++ rest; leads = led s t fits lb p.labels p.labels (x.back ++ rest) (mark_below p choice l lb is) (at_most p.labels) few (subst (λ j. Stands t (Mark j ∷ (x.back ++ rest))) (sym (is_mark p l lb is sought)) at_mark); simulates = subst (λ xs. Simulates t n 0 xs (x.back ++ rest)) is_to (goes.from start refl begun_all x.back r x.made known items rest at_body k f) })
         (λ is_to. finds.from start refl begun_all x.back r x.made known items rest at_body k f l lb (mark_kept p start choice l lb to_start is) to is_to);
   }
     where

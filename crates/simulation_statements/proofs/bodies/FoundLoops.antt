@@ -43,12 +43,12 @@ module _ (s : SettingView) (t : Activation) (fits : IsOfUnit t s) (g : FunctionV
   -- ---- `while`
 
   while_finds : (n : ℕ) (e : TermTree) (body : StatementTree) → AboutStatement s t g body → FoundStatement s t g body → (around : Surroundings) (looping : Enclosure) (known : List ℕ) (c : Position) (l : ℕ) → SuitsBehind t.unit true 0 e → SuitsIn t.unit g by_loop known body → HasParts s body around.scope c → l + 3 ≤ 2 ^ 32 - 1
-      → Finds s t n around.choice c (Within s t n around looping known) (while_jobs s.at e body around l) (λ lb items. found t.unit lb body (item.Hop ∷ (item.TurnEnd ∷ (item.WhileTurn e body ∷ (item.LoopEnd ∷ items)))))
+      → Finds s t n around.choice c (Within s t n around looping known) (while_jobs s.at e body around l) (λ lb items. found t.unit lb body (item.Hop ∷ (item.IterationEnd ∷ (item.WhileIteration e body ∷ (item.LoopEnd ∷ items)))))
   unfolding while_jobs
   while_finds n e body about found_body around looping known c l suits_test suits_body scopes few = record {
     from = λ p none begun ps r m known_r items rest stands k f lb mark is to is_to.
         let q = jumping s.at l in
-        let turn : List Item = item.WhileTurn e body ∷ (item.LoopEnd ∷ items) in
+        let turn : List Item = item.WhileIteration e body ∷ (item.LoopEnd ∷ items) in
         let G : List PieceView → Type 0 = λ w. Stands t w → Reaches t n mark to in
         from_piece s r rest p (Mark l) _ ps G m
         (λ b1 m1. from_work s r rest p (jobs.Condition e (decided (record { yes = l + 1; no = l + 2 }) 0)) _ b1 (λ w. G (Mark l ∷ w)) none m1
@@ -65,14 +65,14 @@ module _ (s : SettingView) (t : Activation) (fits : IsOfUnit t s) (g : FunctionV
         let at_body = while_at_body s t fits g e body about around looping known c l suits_test suits_body scopes few p none fc pc mc known_c none_c begun_c fb pb mb known_b items rest stands in
         let context = while_context s t fits g e body about around looping known c l suits_test suits_body scopes few p none fc pc mc known_c none_c begun_c fb pb mb known_b items rest stands n back f k in
         let again = while_again s t fits g e body about around looping known c l suits_test suits_body scopes few p none fc pc mc known_c none_c begun_c fb pb mb known_b items rest stands n back in
-        (found_body n (in_loop around (l + 2) l) by_loop known c suits_body scopes).from pc none_c begun_c fb pb mb known_b (item.Hop ∷ (item.TurnEnd ∷ turn)) (q ∷ (Mark (l + 2) ∷ rest)) at_body context again lb mark (mark_kept p pc around.choice lb mark (grows s p _ fc pc mc) is) to is_to))))))) stands;
+        (found_body n (in_loop around (l + 2) l) by_loop known c suits_body scopes).from pc none_c begun_c fb pb mb known_b (item.Hop ∷ (item.IterationEnd ∷ turn)) (q ∷ (Mark (l + 2) ∷ rest)) at_body context again lb mark (mark_kept p pc around.choice lb mark (grows s p _ fc pc mc) is) to is_to))))))) stands;
   }
 
   pub found_while : (e : TermTree) (body : StatementTree) → AboutStatement s t g body → FoundStatement s t g body → FoundStatement s t g (tree.While e body)
   unfolding found found_in
   found_while e body about found_body n around looping known c suits scopes =
       let j = jobs.Statement (tree.While e body) around in
-      finds_way s t n around.choice c (Within s t n around looping known) j (λ l items. found t.unit l body (item.Hop ∷ (item.TurnEnd ∷ (item.WhileTurn e body ∷ (item.LoopEnd ∷ items))))) refl
+      finds_way s t n around.choice c (Within s t n around looping known) j (λ l items. found t.unit l body (item.Hop ∷ (item.IterationEnd ∷ (item.WhileIteration e body ∷ (item.LoopEnd ∷ items))))) refl
       (λ p none begun ps r m known_last items rest stands k f l mark is to is_to.
       let all = loops.while_loop s e body around p in
       let few = few_labels s t p j 3 all.jobs ps r (while_grows s e body around p) m known_last in
@@ -140,9 +140,9 @@ module _ (s : SettingView) (t : Activation) (fits : IsOfUnit t s) (g : FunctionV
         let at_body = for_at_body s t fits g test after body about around looping known c l suits_test suits_after suits_body scopes few p none ft pt mt known_t none_t begun_t fb pb mb known_b none_b fs pa ma known_a items rest stands in
         let context = for_context s t fits g test after body about around looping known c l suits_test suits_after suits_body scopes few p none ft pt mt known_t none_t begun_t fb pb mb known_b none_b fs pa ma known_a items rest stands n back f k in
         let again = for_again s t fits g test after body about around looping known c l suits_test suits_after suits_body scopes few p none ft pt mt known_t none_t begun_t fb pb mb known_b none_b fs pa ma known_a items rest stands n back in
-        let loop : List Item = item.ForTurn test after body ∷ (item.LoopEnd ∷ items) in
-        (found_body n (in_loop around (l + 4) (l + 3)) by_loop known c suits_body scopes).from pt none_t begun_t fb pb mb known_b (item.TurnEnd ∷ (clause after ++ item.Hop ∷ loop)) (Mark (l + 3) ∷ (fs ++ q ∷ (Mark (l + 4) ∷ rest))) at_body context again lb mark (mark_kept p pt around.choice lb mark (grows s p (test_jobs test l) ft pt mt) is) to
-        (subst (λ xs. found t.unit lb body (item.TurnEnd ∷ xs) ≡ Some to) (append_assoc (clause after) (item.Hop ∷ (item.ForTurn test after body ∷ [])) (item.LoopEnd ∷ items)) is_to)))))))))) stands;
+        let loop : List Item = item.ForIteration test after body ∷ (item.LoopEnd ∷ items) in
+        (found_body n (in_loop around (l + 4) (l + 3)) by_loop known c suits_body scopes).from pt none_t begun_t fb pb mb known_b (item.IterationEnd ∷ (clause after ++ item.Hop ∷ loop)) (Mark (l + 3) ∷ (fs ++ q ∷ (Mark (l + 4) ∷ rest))) at_body context again lb mark (mark_kept p pt around.choice lb mark (grows s p (test_jobs test l) ft pt mt) is) to
+        (subst (λ xs. found t.unit lb body (item.IterationEnd ∷ xs) ≡ Some to) (append_assoc (clause after) (item.Hop ∷ (item.ForIteration test after body ∷ [])) (item.LoopEnd ∷ items)) is_to)))))))))) stands;
   }
 
   pub found_for : (objects : List ℕ) (begin : StatementTrees) (test after : Option TermTree) (body : StatementTree) → AboutStatements s t g begin → AboutStatement s t g body → FoundStatement s t g body → FoundStatement s t g (tree.For objects begin test after body)

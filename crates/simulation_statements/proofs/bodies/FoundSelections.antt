@@ -21,7 +21,7 @@ use Rattle.semantics.specs.SourceMachine.Items.{Item}
 use Rattle.semantics.specs.SourceMachine.LabelSearch.{Sought, first, found, found_in}
 use Rattle.semantics.specs.SourceMachine.StatementItems.{statements}
 use Rattle.simulation_terms.specs.SimulationRelation.Activations.{Activation}
-use Rattle.simulation_terms.specs.SimulationRelation.Follows.{own, Follows}
+use Rattle.simulation_terms.specs.SimulationRelation.Simulates.{own, Simulates}
 use Rattle.simulation_terms.specs.Worklists.TemplateParts.{IsOfUnit, Stands}
 use Rattle.simulation_terms.proofs.worklists.Runs.{stands_behind, stands_after}
 use Rattle.simulation_terms.proofs.worklists.Laying.{from_piece, from_none, from_work, led, known_between, few_labels}
@@ -118,7 +118,7 @@ module _ (s : SettingView) (t : Activation) (fits : IsOfUnit t s) (g : FunctionV
   else_hops n middle last l other around K few counts = record {
     from = λ p none begun ps r m known items rest stands k f.
         let q = jumping s.at (l + 3) in
-        let G : List PieceView → Type 0 = λ w. Stands t w → Follows t n 0 (item.Hop ∷ items) w in
+        let G : List PieceView → Type 0 = λ w. Stands t w → Simulates t n 0 (item.Hop ∷ items) w in
         from_piece s r rest p q _ ps G m
         (λ b1 m1. from_piece s r rest p (Mark (l + 2)) _ b1 (λ w. G (q ∷ w)) m1
         (λ b2 m2. from_work s r rest p (jobs.Statement other around) _ b2 (λ w. G (q ∷ (Mark (l + 2) ∷ w))) none m2

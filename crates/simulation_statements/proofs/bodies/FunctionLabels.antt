@@ -13,7 +13,7 @@ use Rattle.semantics.specs.SourceMachine.Items.{Item}
 use Rattle.semantics.specs.SourceMachine.LabelSearch.{label, from_label}
 use Rattle.semantics.specs.SourceMachine.StatementItems.{statements}
 use Rattle.simulation_terms.specs.SimulationRelation.Activations.{Activation}
-use Rattle.simulation_terms.specs.SimulationRelation.Follows.{Follows}
+use Rattle.simulation_terms.specs.SimulationRelation.Simulates.{Simulates}
 use Rattle.simulation_terms.proofs.simulation_relation.FewerTurns.{less}
 use Rattle.simulation_terms.specs.Worklists.TemplateParts.{IsOfUnit, IsKnown, Stands, Ends}
 use Rattle.simulation_terms.specs.Scopes.Chains as chains
@@ -47,17 +47,17 @@ module _ (s : SettingView) (t : Activation) (fits : IsOfUnit t s) (f : FunctionV
   body_within : (n : ℕ) → LabelsReachBefore t n → Within s t n (outermost s.end) not_enclosed (f.scope ++ []) (behind_statements f)
   body_within n before = record { within = λ x there. there; chain = chains.inside 1 0 f.scope [] has.outermost chains.outermost; labels = before; on_break = λ no. absurd (never no); on_continue = λ no. absurd (never no) }
 
-  labels_reach : (n : ℕ) → LabelsReachBefore t n → Follows t n 0 (behind_statements f) rest → LabelsReach t n
+  labels_reach : (n : ℕ) → LabelsReachBefore t n → Simulates t n 0 (behind_statements f) rest → LabelsReach t n
   labels_reach n before last g is l to there from =
       let same = same_function g f (sym is ∙ has.is) in
       let is_to = same_found t.unit (label l) f.body (behind_statements f) ∙ subst (λ h. from_label t.unit h l ≡ Some to) same from in
       (all_finds s t fits f has ends (statement_trees f.body) n (outermost s.end) not_enclosed (f.scope ++ []) (numbers 2 0) suits (has.body, choices)).from
       q none begun ps r made known (behind_statements f) rest stands (body_within n before) last (label l) l (of_label l (more_labels f.labels q.labels l few (subst (λ h. l < h.labels) same there))) to is_to
 
-  pub labels_before : (n : ℕ) → Follows t n 0 (behind_statements f) rest → LabelsReachBefore t n
+  pub labels_before : (n : ℕ) → Simulates t n 0 (behind_statements f) rest → LabelsReachBefore t n
   labels_before zero last = tt
   labels_before (suc n) last = let fewer = less n 0 (behind_statements f) rest last in labels_reach n (labels_before n fewer) fewer
 
   -- so the statements of the function follow
-  pub statements_go : (n : ℕ) → Follows t n 0 (behind_statements f) rest → Follows t n 0 (statements (statement_trees f.body) ++ behind_statements f) (ps ++ rest)
+  pub statements_go : (n : ℕ) → Simulates t n 0 (behind_statements f) rest → Simulates t n 0 (statements (statement_trees f.body) ++ behind_statements f) (ps ++ rest)
   statements_go n last = (all_about s t fits f has ends (statement_trees f.body) n (outermost s.end) not_enclosed (f.scope ++ []) (numbers 2 0) suits (has.body, choices)).from q none begun ps r made known (behind_statements f) rest stands (body_within n (labels_before n last)) last

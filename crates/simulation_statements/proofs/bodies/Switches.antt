@@ -30,8 +30,8 @@ use Rattle.semantics.specs.SourceMachine.LabelSearch.{Sought, case, other, found
 use Rattle.semantics.specs.SourceMachine.Scopes.{open_scopes}
 use Rattle.semantics.specs.SourceMachine.StatementItems.{of_statement}
 use Rattle.simulation_terms.specs.SimulationRelation.Activations.{Activation, of_entry}
-use Rattle.simulation_terms.specs.SimulationRelation.Follows as follows
-use Rattle.simulation_terms.specs.SimulationRelation.Follows.{Leads, Follows}
+use Rattle.simulation_terms.specs.SimulationRelation.Simulates as simulates
+use Rattle.simulation_terms.specs.SimulationRelation.Simulates.{Leads, Simulates}
 use Rattle.simulation_terms.proofs.simulation_relation.Constructions.{gives_statement, gives_loop_end}
 use Rattle.simulation_terms.specs.Worklists.TemplateParts.{IsOfUnit, IsKnown, Stands}
 use Rattle.simulation_terms.proofs.worklists.Runs.{known_before, stands_after, stands_behind}
@@ -52,7 +52,7 @@ use Rattle.simulation_statements.proofs.labels.LabelScopes.{in_scopes}
 use Rattle.simulation_statements.specs.SwitchLabels.Choices.{IsChoice}
 use Rattle.simulation_statements.specs.Gotos.Gotos.{HasLabels}
 use Rattle.simulation_statements.specs.Switches.SwitchTargets.{IsTarget, HasTargets}
-use Rattle.simulation_statements.proofs.switches.SwitchTargets.{switch_follows}
+use Rattle.simulation_statements.proofs.switches.SwitchTargets.{switch_simulates}
 use Rattle.simulation_statements.proofs.statements.Sequences.{HasParts, AboutStatement}
 use Rattle.simulation_statements.proofs.statements.Selections.{count_terms, count_on, kept_one}
 use Rattle.simulation_statements.proofs.statements.ForLoops.{from_many, kept_many}
@@ -111,10 +111,10 @@ module _ (s : SettingView) (t : Activation) (fits : IsOfUnit t s) (f : FunctionV
   -- ---- the body
 
   -- the end of the switch is where `break` goes
-  inside : (n : ℕ) (around : Surroundings) (looping : Enclosure) (known : List ℕ) (p : Plan) (items : List Item) (rest : List PieceView) → Leads t (after_of (length cases) p) rest → Follows t n 0 items rest → Within s t n around looping known items → Within s t n (inner around p) (by_switch looping) known (item.LoopEnd ∷ items)
+  inside : (n : ℕ) (around : Surroundings) (looping : Enclosure) (known : List ℕ) (p : Plan) (items : List Item) (rest : List PieceView) → Leads t (after_of (length cases) p) rest → Simulates t n 0 items rest → Within s t n around looping known items → Within s t n (inner around p) (by_switch looping) known (item.LoopEnd ∷ items)
   inside n around looping known p items rest to_after g k =
       let after = after_of (length cases) p in
-      let ends = in_body s t n around looping known items (item.TurnEnd ∷ (item.LoopEnd ∷ items)) (item.LoopEnd ∷ items) after after rest rest refl refl refl refl to_after to_after g (gives_loop_end n 0 items rest g) k in
+      let ends = in_body s t n around looping known items (item.IterationEnd ∷ (item.LoopEnd ∷ items)) (item.LoopEnd ∷ items) after after rest rest refl refl refl refl to_after to_after g (gives_loop_end n 0 items rest g) k in
       record { within = k.within; chain = k.chain; labels = k.labels; on_break = λ e. ends.on_break refl; on_continue = k.on_continue }
 
   module _ (found_body : FoundStatement s t f body) (n : ℕ) (around : Surroundings) (looping : Enclosure) (known : List ℕ) (c : Position) (suits : SuitsIn t.unit f looping known whole) (stand : HasParts s whole around.scope c) where
@@ -122,13 +122,13 @@ module _ (s : SettingView) (t : Activation) (fits : IsOfUnit t s) (f : FunctionV
     count = length cases
 
     -- labels of the body, where it stands in its pieces
-    finds_in : (p po : Plan) → po.jobs ≡ [] → position po ≡ positions.in_switch c → (fb : List PieceView) (pb : Plan) → Makes s po (jobs.Statement body (inner around p) ∷ []) fb pb → IsKnown t pb → (items : List Item) (rest : List PieceView) → Stands t (fb ++ Mark (after_of count p) ∷ rest) → after_of count p + 1 ≤ 2 ^ 32 - 1 → Within s t n around looping known items → Follows t n 0 items rest
+    finds_in : (p po : Plan) → po.jobs ≡ [] → position po ≡ positions.in_switch c → (fb : List PieceView) (pb : Plan) → Makes s po (jobs.Statement body (inner around p) ∷ []) fb pb → IsKnown t pb → (items : List Item) (rest : List PieceView) → Stands t (fb ++ Mark (after_of count p) ∷ rest) → after_of count p + 1 ≤ 2 ^ 32 - 1 → Within s t n around looping known items → Simulates t n 0 items rest
         → (l : Sought) (mark : ℕ) → IsMark po (length p.dispatches) l mark → (to : List Item) → found t.unit l body (item.LoopEnd ∷ items) ≡ Some to → Reaches t n mark to
     finds_in p po none begun fb pb mb known_b items rest stands few k g l mark is to is_to =
         let after = after_of count p in
         let to_after = led s t fits after (after + 1) (after + 1) rest (one_next after) (itself (after + 1)) few (stands_behind t fb (Mark after ∷ rest) stands) in
         (found_body n (inner around p) (by_switch looping) known (positions.in_switch c) suits.4 (stand.0, stand.1.1)).from po none begun fb pb mb known_b (item.LoopEnd ∷ items) (Mark after ∷ rest) stands (inside n around looping known p items rest to_after g k)
-        (follows.by_mark n 0 after (item.LoopEnd ∷ items) rest (gives_loop_end n 0 items rest g)) l mark is to is_to
+        (simulates.by_mark n 0 after (item.LoopEnd ∷ items) rest (gives_loop_end n 0 items rest g)) l mark is to is_to
 
     begun_in : (p : Plan) → p.jobs ≡ [] → position p ≡ c → position (planless (plan around p)) ≡ positions.in_switch c
     begun_in p none begun = whole_position s at e cases around.scope p body around ∙ (dispatch_keeps s at e cases around.scope p none).scopes ∙ start_position count p ∙ ap positions.in_switch begun
@@ -138,7 +138,7 @@ module _ (s : SettingView) (t : Activation) (fits : IsOfUnit t s) (f : FunctionV
 
     -- ---- labels of the function
 
-    label_from : (p : Plan) → p.jobs ≡ [] → position p ≡ c → (ps : List PieceView) (r : Plan) → Makes s (planless (plan around p)) (plan around p).jobs ps r → IsKnown t r → (items : List Item) (rest : List PieceView) → Stands t (ps ++ rest) → Within s t n around looping known items → Follows t n 0 items rest
+    label_from : (p : Plan) → p.jobs ≡ [] → position p ≡ c → (ps : List PieceView) (r : Plan) → Makes s (planless (plan around p)) (plan around p).jobs ps r → IsKnown t r → (items : List Item) (rest : List PieceView) → Stands t (ps ++ rest) → Within s t n around looping known items → Simulates t n 0 items rest
         → (l : ℕ) → l < (planless (plan around p)).labels → (to : List Item) → found t.unit (sought.label l) body (item.LoopEnd ∷ items) ≡ Some to → Reaches t n l to
     label_from p none begun ps r m known_r items rest stands k g l less to is_to =
         let all = plan around p in
@@ -159,8 +159,8 @@ module _ (s : SettingView) (t : Activation) (fits : IsOfUnit t s) (f : FunctionV
 
     -- ---- the dispatch
 
-    switch_from : (p : Plan) → p.jobs ≡ [] → position p ≡ c → (ps : List PieceView) (r : Plan) → Makes s (planless (plan around p)) (plan around p).jobs ps r → IsKnown t r → (items : List Item) (rest : List PieceView) → Stands t (ps ++ rest) → Within s t n around looping known items → Follows t n 0 items rest
-        → Follows t n 0 (item.Value e ∷ (item.Select at (named e) cases body ∷ (item.LoopEnd ∷ items))) (ps ++ rest)
+    switch_from : (p : Plan) → p.jobs ≡ [] → position p ≡ c → (ps : List PieceView) (r : Plan) → Makes s (planless (plan around p)) (plan around p).jobs ps r → IsKnown t r → (items : List Item) (rest : List PieceView) → Stands t (ps ++ rest) → Within s t n around looping known items → Simulates t n 0 items rest
+        → Simulates t n 0 (item.Value e ∷ (item.Select at (named e) cases body ∷ (item.LoopEnd ∷ items))) (ps ++ rest)
     switch_from p none begun ps r m known_r items rest stands k g =
         let from = around.scope in
         let all = plan around p in
@@ -205,7 +205,7 @@ module _ (s : SettingView) (t : Activation) (fits : IsOfUnit t s) (f : FunctionV
         let known_sw = known_before t sw.after start (grows_on sw.after dv start (named_grows s at e cases from p) grown_all) known_all in
         let same = same_switched t f has.is (named e) suits.1 last_to.after known_sw in
         let select : List Item = item.Select at (named e) cases body ∷ (item.LoopEnd ∷ items) in
-        let G : List PieceView → Type 0 = λ w. Stands t w → Follows t n 0 (item.Value e ∷ select) w in
+        let G : List PieceView → Type 0 = λ w. Stands t w → Simulates t n 0 (item.Value e ∷ select) w in
         from_work s r rest start (jobs.Value e 0) _ ps G refl (subst (λ ks. Makes s start ks ps r) jobs_are m)
         (λ fv pv b1 mv none_v m1. from_piece s r rest pv piece _ b1 (λ w. G (fv ++ w)) m1
         (λ b2 m2. from_many s t fits f r rest pv ej (bj ++ tail) b2 (λ w. G (fv ++ piece ∷ w)) none_v m2
@@ -227,7 +227,7 @@ module _ (s : SettingView) (t : Activation) (fits : IsOfUnit t s) (f : FunctionV
         let grown_e = grows s pv ej fe pe me in
         let grown_o = grows_on (started count p) pe po (grows_on (started count p) pv pe (grows_on (started count p) start pv (start_to p) grown_v) grown_e) (grows s pe bj fo po mo) in
         let finds = finds_in p po none_o begun_o fb pb mb (known_between s t pb _ _ r m5 known_r) items rest at_body few k g in
-        let ends : Reaches t n after items = record { there = rest; leads = to_after; follows = g } in
+        let ends : Reaches t n after items = record { there = rest; leads = to_after; simulates = g } in
         let reached = all_reached t s fits n body items from enough after mark 0 armed.arms goals (λ i a there. let y = arms.each i a there in
         subst (λ j. (x : Goal t s body items from (case j) (mark (case j)) after a.landing) → Reaches t n a.landing.label x.to) (from_zero i)
         (λ x. reach t n body items (case i) (p.labels + i) after (λ to is. finds (case i) (p.labels + i) (mark_kept (started count p) po number (case i) (p.labels + i) grown_o (case_is_mark count p i y.0 few)) to is) ends x.to a.landing.label x.comes)) in
@@ -243,7 +243,7 @@ module _ (s : SettingView) (t : Activation) (fits : IsOfUnit t s) (f : FunctionV
           others = target_of t s fits n body items from enough after mark other last last_to.to last_to.after.labels goal one.target entered_end reached_end;
         } in
         ((terms s t fits n e).value 0 suits.0.0 suits.0.1).from start refl fv pv mv (known_between s t pv _ _ r m1 known_r) select (piece ∷ wd) stands
-        (switch_follows t n 0 at (integer_type (term_type e)) (named e) sw.base cases armed.arms last_to.to body (item.LoopEnd ∷ items) wd arms.are same targets)))))))) stands
+        (switch_simulates t n 0 at (integer_type (term_type e)) (named e) sw.base cases armed.arms last_to.to body (item.LoopEnd ∷ items) wd arms.are same targets)))))))) stands
 
   -- ---- the statement
 
@@ -269,7 +269,7 @@ module _ (s : SettingView) (t : Activation) (fits : IsOfUnit t s) (f : FunctionV
       finds_way s t n around.choice c (Within s t n around looping known) (jobs.Statement whole around) (λ l items. sought.inside_switch l (found t.unit l body (item.LoopEnd ∷ items))) refl
       (λ p none begun ps r m known_r items rest stands k g l mark is to is_to. by p none begun ps r (subst (λ q. Makes s (planless q) q.jobs ps r) (parts_are around p) m) known_r items rest stands k g l mark (subst (λ q. IsMark (planless q) around.choice l mark) (parts_are around p) is) to is_to)
     where
-      by : (p : Plan) → p.jobs ≡ [] → position p ≡ c → (ps : List PieceView) (r : Plan) → Makes s (planless (plan around p)) (plan around p).jobs ps r → IsKnown t r → (items : List Item) (rest : List PieceView) → Stands t (ps ++ rest) → Within s t n around looping known items → Follows t n 0 items rest
+      by : (p : Plan) → p.jobs ≡ [] → position p ≡ c → (ps : List PieceView) (r : Plan) → Makes s (planless (plan around p)) (plan around p).jobs ps r → IsKnown t r → (items : List Item) (rest : List PieceView) → Stands t (ps ++ rest) → Within s t n around looping known items → Simulates t n 0 items rest
           → (l : Sought) (mark : ℕ) → IsMark (planless (plan around p)) around.choice l mark → (to : List Item) → sought.inside_switch l (found t.unit l body (item.LoopEnd ∷ items)) ≡ Some to → Reaches t n mark to
       by p none begun ps r m known_r items rest stands k g _ _ (of_label l less) to is_to = label_from found_body n around looping known c suits stand p none begun ps r m known_r items rest stands k g l less to is_to
       by p none begun ps r m known_r items rest stands k g _ _ (of_case i there less) to is_to = absurd (no_label to is_to)

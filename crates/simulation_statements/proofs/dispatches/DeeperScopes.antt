@@ -51,10 +51,10 @@ module _ (t : Activation) (l : Sought) where
     deeper (tree.Block objects items) rest = outer objects (open_scopes rest) (found_in t.unit l items (item.Leaves objects ∷ rest)) (all_deeper items (item.Leaves objects ∷ rest))
     deeper (tree.If e body) rest = deeper body rest
     deeper (tree.IfElse e one two) rest = first_deeper (open_scopes rest) (found t.unit l one (item.Hop ∷ rest)) (found t.unit l two rest) (deeper one (item.Hop ∷ rest)) (deeper two rest)
-    deeper (tree.While e body) rest = deeper body (item.Hop ∷ (item.TurnEnd ∷ (item.WhileTurn e body ∷ (item.LoopEnd ∷ rest))))
+    deeper (tree.While e body) rest = deeper body (item.Hop ∷ (item.IterationEnd ∷ (item.WhileIteration e body ∷ (item.LoopEnd ∷ rest))))
     deeper (tree.Do body e) rest =
         let inside : List Item = do_test t.unit body e ++ item.LoopEnd ∷ rest in
-        subst (λ xs. Deepens xs (found t.unit l body inside)) ((condition_quiet t true e (item.DoTurn body e ∷ []) []).scopes (item.LoopEnd ∷ rest)) (deeper body inside)
+        subst (λ xs. Deepens xs (found t.unit l body inside)) ((condition_quiet t true e (item.DoIteration body e ∷ []) []).scopes (item.LoopEnd ∷ rest)) (deeper body inside)
     deeper (tree.For objects begin e step body) rest =
         let inside : List Item = for_step e step body ++ (item.LoopEnd ∷ (item.Leaves objects ∷ rest)) in
         outer objects (open_scopes rest) (found t.unit l body inside) (subst (λ xs. Deepens xs (found t.unit l body inside)) (for_leaves e step body objects rest) (deeper body inside))

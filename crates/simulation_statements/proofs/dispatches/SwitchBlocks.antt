@@ -21,7 +21,7 @@ use Rattle.semantics.specs.SourceMachine.Items.{Item}
 use Rattle.semantics.specs.SourceMachine.LabelSearch.{Sought, case, found}
 use Rattle.semantics.specs.SourceMachine.Scopes.{entered_between, entering_first}
 use Rattle.simulation_terms.specs.SimulationRelation.Activations.{Activation}
-use Rattle.simulation_terms.specs.SimulationRelation.Follows.{Leads, Follows}
+use Rattle.simulation_terms.specs.SimulationRelation.Simulates.{Leads, Simulates}
 use Rattle.simulation_terms.specs.Worklists.TemplateParts.{IsOfUnit, IsKnown, Stands}
 use Rattle.simulation_terms.proofs.worklists.Runs.{Runs, headed, known_before, then_ends, stands_after, stands_behind, split}
 use Rattle.simulation_terms.proofs.worklists.Laying.{led}
@@ -74,7 +74,7 @@ module _ (t : Activation) (s : SettingView) (fits : IsOfUnit t s) (n : ℕ) wher
   -- where its label leads somewhere, the block leads there by a label of its own
   abbrev pub Entered : ℕ → ℕ → List ℕ → Type 0
   Entered to label [] = Unit {0}
-  Entered to label (x ∷ xs) = (items : List Item) (there : List PieceView) → Leads t label there → Follows t n 0 items there → Reaches t n to (item.Enters (x ∷ xs) ∷ (item.Hop ∷ items))
+  Entered to label (x ∷ xs) = (items : List Item) (there : List PieceView) → Leads t label there → Simulates t n 0 items there → Reaches t n to (item.Enters (x ∷ xs) ∷ (item.Hop ∷ items))
 
   pub one_leads : (to label : ℕ) (xs : List ℕ) (base : ℕ) (p : Plan) → p.jobs ≡ [] → (front : List PieceView) (r : Plan) → Makes s p (one_block s.at to label xs base) front r → IsKnown t r → NamedFrom t base xs → (is_empty xs ≡ false → to < p.labels) → (w : List PieceView) → Stands t (front ++ w) → Entered to label xs
   one_leads to label [] base p none front r m known named less w stands = tt
@@ -88,7 +88,7 @@ module _ (t : Activation) (s : SettingView) (fits : IsOfUnit t s) (n : ℕ) wher
       record {
         there = h.back ++ w;
         leads = led s t fits to p.labels p.labels (h.back ++ w) (less refl) (itself p.labels) few at_mark;
-        follows = then_ends s t n js (item.Enters ys ∷ []) 0 0 p none (entered.from p none) (jumping s.at label) h.back r h.made known (item.Hop ∷ items) w (stands_after t (Mark to) (h.back ++ w) at_mark)
+        simulates = then_ends s t n js (item.Enters ys ∷ []) 0 0 p none (entered.from p none) (jumping s.at label) h.back r h.made known (item.Hop ∷ items) w (stands_after t (Mark to) (h.back ++ w) at_mark)
             (λ v. hops s t fits n 0 label items v there leads f);
       }
 
@@ -167,10 +167,10 @@ module _ (t : Activation) (s : SettingView) (fits : IsOfUnit t s) (n : ℕ) wher
     target_of l to_scope to last g target entered reached = by g.objects g.entered entered (enters_some s from enough to_scope g.objects g.between g.is_there)
       where
         by : (xs : List ℕ) → entered_between (item.LoopEnd ∷ items) g.to ≡ xs → Entered to to_scope.label xs → enters_between s from to_scope.scope ≡ not (is_empty xs) → IsTarget t n 0 body (item.LoopEnd ∷ items) l to
-        by [] same blocks enters = record { to = g.to; there = reached.there; lands = g.lands; leads = subst (λ k. Leads t k reached.there) (sym (target.plain enters)) reached.leads; follows = subst (λ xs. Follows t n 0 (entering_first xs g.to) reached.there) (sym same) reached.follows }
+        by [] same blocks enters = record { to = g.to; there = reached.there; lands = g.lands; leads = subst (λ k. Leads t k reached.there) (sym (target.plain enters)) reached.leads; simulates = subst (λ xs. Simulates t n 0 (entering_first xs g.to) reached.there) (sym same) reached.simulates }
         by (x ∷ xs) same blocks enters =
-            let y = blocks g.to reached.there reached.leads reached.follows in
-            record { to = g.to; there = y.there; lands = g.lands; leads = y.leads; follows = subst (λ zs. Follows t n 0 (entering_first zs g.to) y.there) (sym same) y.follows }
+            let y = blocks g.to reached.there reached.leads reached.simulates in
+            record { to = g.to; there = y.there; lands = g.lands; leads = y.leads; simulates = subst (λ zs. Simulates t n 0 (entering_first zs g.to) y.there) (sym same) y.simulates }
 
     abbrev pub AllReached : (first : ℕ) (arms : List CaseArm) → AllGoals first arms → Type 0
     AllReached first [] goals = Unit {0}

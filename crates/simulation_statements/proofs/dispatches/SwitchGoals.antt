@@ -186,7 +186,7 @@ module _ (u : UnitView) (f : FunctionView) (l : ℕ) where
     is_found (tree.If e body) enclosed known rest suits some = is_found body enclosed known rest suits.1 some
     is_found (tree.IfElse e one two) enclosed known rest suits some =
         either_there (cases_in l one) (cases_in l two) (found u (case l) one (item.Hop ∷ rest)) (found u (case l) two rest) some (λ more. is_found one enclosed known (item.Hop ∷ rest) suits.1 more) (λ more. is_found two enclosed known rest suits.2 more)
-    is_found (tree.While e body) enclosed known rest suits some = is_found body by_loop known (item.Hop ∷ (item.TurnEnd ∷ (item.WhileTurn e body ∷ (item.LoopEnd ∷ rest)))) suits.1 some
+    is_found (tree.While e body) enclosed known rest suits some = is_found body by_loop known (item.Hop ∷ (item.IterationEnd ∷ (item.WhileIteration e body ∷ (item.LoopEnd ∷ rest)))) suits.1 some
     is_found (tree.Do body e) enclosed known rest suits some = is_found body by_loop known (do_test u body e ++ item.LoopEnd ∷ rest) suits.0 some
     is_found (tree.For objects begin e step body) enclosed known rest suits some =
         is_found body by_loop (objects ++ known) (for_step e step body ++ (item.LoopEnd ∷ (item.Leaves objects ∷ rest))) suits.4 (behind_none (all_cases_in l begin) (cases_in l body) (plains_none l begin suits.5) some)

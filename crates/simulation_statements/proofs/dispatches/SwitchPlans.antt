@@ -32,8 +32,8 @@ use Rattle.lower_functions.specs.declared.statements.switch_statements.SwitchBeg
 use Rattle.semantics.specs.SourceMachine.LabelSearch.{Sought, case, other}
 use Rattle.semantics.specs.SourceMachine.SourceStates.{function_at, local_of}
 use Rattle.simulation_terms.specs.SimulationRelation.Activations.{Activation}
-use Rattle.simulation_terms.specs.SimulationRelation.Follows as follows
-use Rattle.simulation_terms.specs.SimulationRelation.Follows.{Names, SameSwitched, type_in}
+use Rattle.simulation_terms.specs.SimulationRelation.Simulates as simulates
+use Rattle.simulation_terms.specs.SimulationRelation.Simulates.{Names, SameSwitched, type_in}
 use Rattle.simulation_terms.specs.Worklists.TemplateParts.{IsKnown}
 use Rattle.simulation_terms.proofs.worklists.Runs.{known_name}
 use Rattle.simulation_terms.proofs.worklists.Assignments.{one_more_job}
@@ -234,9 +234,9 @@ module _ (t : Activation) (f : FunctionView) (is : function_at t.unit t.function
   same_by : (o : ObjectRef) (kind : Scalar) → IsReadAs (object_type t.unit f o) kind → (q : Plan) → IsKnown t (mention_of (record { object = o; kind = kind }) kind q).after → SameSwitched t (Some (record { object = o; kind = kind })) (mention_of (record { object = o; kind = kind }) kind q).base
   same_by o (scalar.Int kind) reads q known =
       subst (λ k. SameSwitched t (Some (record { object = o; kind = scalar.Int k })) (Some (length q.names))) (sym reads.2)
-      (follows.integers o (length q.names) reads.0 (known_name t (with_name (name_of_object o) q) q.names (name_of_object o) known (name_last (name_of_object o) q)) (named_type o ∙ reads.1))
-  same_by o scalar.Pointer reads q known = follows.no_integer o
+      (simulates.integers o (length q.names) reads.0 (known_name t (with_name (name_of_object o) q) q.names (name_of_object o) known (name_last (name_of_object o) q)) (named_type o ∙ reads.1))
+  same_by o scalar.Pointer reads q known = simulates.no_integer o
 
   pub same_switched : (o : Option NamedObject) → IsSwitchedOn t.unit f o → (q : Plan) → IsKnown t (mention_if o q).after → SameSwitched t o (mention_if o q).base
-  same_switched None reads q known = follows.unnamed
+  same_switched None reads q known = simulates.unnamed
   same_switched (Some o) reads q known = same_by o.object o.kind reads q known

@@ -27,8 +27,8 @@ use Rattle.semantics.specs.SourceMachine.SourceStates.{Frame}
 use Rattle.semantics.specs.SourceMachine.SourceSteps.{place_of}
 use Rattle.semantics.specs.TemplateMachine.TemplateStates.{Templates}
 use Rattle.simulation_terms.specs.SimulationRelation.Activations.{Activation, activation}
-use Rattle.simulation_terms.specs.SimulationRelation.Follows as follows
-use Rattle.simulation_terms.specs.SimulationRelation.Follows.{Names, Leads, Follows, AllFollow, CallsThere, IsCalled, pieces, own}
+use Rattle.simulation_terms.specs.SimulationRelation.Simulates as simulates
+use Rattle.simulation_terms.specs.SimulationRelation.Simulates.{Names, Leads, Simulates, AllSimulate, CallsThere, IsCalled, pieces, own}
 use Rattle.simulation_terms.proofs.simulation_relation.Constructions.{gives_end_body, gives_back}
 use Rattle.simulation_terms.specs.Worklists.TemplateParts as parts_of
 use Rattle.simulation_terms.specs.Worklists.TemplateParts.{IsOfUnit, IsKnown, Stands, Ends}
@@ -44,7 +44,7 @@ use Rattle.simulation_statements.proofs.bodies.Bodies.{body_items, has_labels, b
 use Rattle.simulation_statements.specs.Entry.Entries.{IsMade, AreMade, EntryIsNotCalled}
 use Rattle.simulation_statements.proofs.entry.Bodies.{body_is}
 use Rattle.simulation_statements.proofs.entry.CalledPlans.{Adds, adds_then, adds_entered, adds_left, adds_work, adds_statements, adds_result, adds_arguments, adds_outcome, result_jobs, result_names, argument_jobs, outcome_jobs}
-use Rattle.simulation_statements.proofs.entry.CalledFollows.{terms_both, results_are_terms, arguments_are_terms, prologue_runs, epilogue_runs}
+use Rattle.simulation_statements.proofs.entry.CalledSimulates.{terms_both, results_are_terms, arguments_are_terms, prologue_runs, epilogue_runs}
 
 -- ---- lists
 
@@ -280,8 +280,8 @@ module _ (t : Templates) (g : ℕ) (f : FunctionView) (e : IsMade t g false f) (
   has_outcome : has ≡ Outcome ∷ [] → Names a (length q10.names) Outcome
   has_outcome is = outcome_named a (planless plan) q10.names has [] known_all (z10.names ∙ ap (λ xs. q10.names ++ xs) (sym (append-nil has))) is
 
-  end_follows : (n : ℕ) → Follows a n 0 (epilogue f caller) (h.back ++ [])
-  end_follows n = subst (λ is. Follows a n 0 is (h.back ++ [])) (append-nil (epilogue f caller))
+  end_simulates : (n : ℕ) → Simulates a n 0 (epilogue f caller) (h.back ++ [])
+  end_simulates n = subst (λ is. Simulates a n 0 is (h.back ++ [])) (append-nil (epilogue f caller))
       ((epilogue_runs a s fits f e.is n caller callers refl s.at (length q10.names) is_called.gives has_outcome).from z.between none_z h.back made.last h.made known [] [] (stands_behind a (Mark s.end ∷ []) (h.back ++ []) stands_last) (gives_back n caller callers refl))
 
   few : s.end < 2 ^ 32 - 1
@@ -291,13 +291,13 @@ module _ (t : Templates) (g : ℕ) (f : FunctionView) (e : IsMade t g false f) (
       within l m k e le few = omega (arith, e, le, few)
 
   ends_there : Ends s a f
-  ends_there = parts_of.goes_back refl refl caller callers refl (h.back ++ []) (leads a s.end (h.back ++ []) (fits.once s.end few) stands_last) end_follows
+  ends_there = parts_of.goes_back refl refl caller callers refl (h.back ++ []) (leads a s.end (h.back ++ []) (fits.once s.end few) stands_last) end_simulates
 
-  after_body : (n : ℕ) → Follows a n 0 (item.EndBody ∷ []) (y.back ++ [])
+  after_body : (n : ℕ) → Simulates a n 0 (item.EndBody ∷ []) (y.back ++ [])
   after_body n =
       let named = named_from a (planless plan) q8.names ns ([] ++ has) known_all z8.names in
       let runs : Runs s a n left (item.Leaves ns ∷ []) 0 0 = subst (λ at. Runs s a n (object_jobs act.Leave at ns (length q8.names)) (item.Leaves ns ∷ []) 0 0) (sym fits.place) (leaves s a fits n ns (length q8.names) 0 named) in
-      let behind_it : Follows a n 0 (epilogue f caller) (z.back ++ []) = subst (λ ps. Follows a n 0 (epilogue f caller) (ps ++ [])) (sym h.is) (follows.by_mark n 0 s.end (epilogue f caller) (h.back ++ []) (end_follows n)) in
+      let behind_it : Simulates a n 0 (epilogue f caller) (z.back ++ []) = subst (λ ps. Simulates a n 0 (epilogue f caller) (ps ++ [])) (sym h.is) (simulates.by_mark n 0 s.end (epilogue f caller) (h.back ++ []) (end_simulates n)) in
       let all = runs.from y.between none_y z.front z.between z.first (known_between s a z.between (last ++ gives) z.back made.last z.second known) (epilogue f caller) (z.back ++ []) stands_left behind_it in
       gives_end_body n 0 f [] (y.back ++ []) e.is (joined s a n 0 (item.Leaves ns ∷ epilogue f caller) y.back z.front z.back [] z.all all)
 
@@ -321,25 +321,25 @@ module _ (t : Templates) (g : ℕ) (f : FunctionView) (e : IsMade t g false f) (
       within : (l m k : ℕ) → m ≡ (l + 1) + 2 → m ≤ k → l ≤ k
       within l m k e le = omega (arith, e, le)
 
-  body_follows : (n : ℕ) → Follows a n 0 (body f) (x.back ++ [])
-  body_follows n =
+  body_simulates : (n : ℕ) → Simulates a n 0 (body f) (x.back ++ [])
+  body_simulates n =
       let named = named_from a (planless plan) q5.names f.scope names6 known_all z5.names in
       let again = named_from a (planless plan) q7.names f.scope names8 known_all z7.names in
       let all = body_from s a fits f (has_labels s a f e.is refl e.apart e.suits e.labelled) ends_there e.suits e.labelled n (length q5.names) (length q7.names) named again x.between none_x in_two labels_more y.front y.between y.first (known_between s a y.between (left ++ (last ++ gives)) y.back made.last y.second known) (y.back ++ []) stands_middle (after_body n) in
-      subst (λ is. Follows a n 0 is (x.back ++ [])) (body_is f) (joined s a n 0 (body_items f (item.EndBody ∷ [])) x.back y.front y.back [] y.all all)
+      subst (λ is. Simulates a n 0 is (x.back ++ [])) (body_is f) (joined s a n 0 (body_items f (item.EndBody ∷ [])) x.back y.front y.back [] y.all all)
 
   result_there : has ≡ Outcome ∷ [] → Names a (length q2.names) Outcome
   result_there is = outcome_named a (planless plan) q2.names has names3 known_all z2.names is
 
-  pub called_follows : (n : ℕ) → Follows a n f.parameters (prologue f f.parameters ++ body f) (pieces a)
-  called_follows n =
+  pub called_simulates : (n : ℕ) → Simulates a n f.parameters (prologue f f.parameters ++ body f) (pieces a)
+  called_simulates n =
       let named = named_from a (planless plan) q1.names ns (has ++ names3) known_all z1.names in
       let again = named_from a (planless plan) q3.names ns ([] ++ names5) known_all z3.names in
       let runs = prologue_runs a s fits f e.is n (f.labels + 1) ((f.labels + 1) + 1) (length q1.names) (length q2.names) (length q3.names) named result_there again in
-      let all = runs.from (planless plan) refl x.front x.between x.first (known_between s a x.between (middle ++ (left ++ (last ++ gives))) x.back made.last x.second known) (body f) (x.back ++ []) stands_start (body_follows n) in
-      subst (λ ps. Follows a n f.parameters (prologue f f.parameters ++ body f) ps) (append-nil (pieces a)) (joined s a n f.parameters (prologue f f.parameters ++ body f) (pieces a) x.front x.back [] x.all all)
+      let all = runs.from (planless plan) refl x.front x.between x.first (known_between s a x.between (middle ++ (left ++ (last ++ gives))) x.back made.last x.second known) (body f) (x.back ++ []) stands_start (body_simulates n) in
+      subst (λ ps. Simulates a n f.parameters (prologue f f.parameters ++ body f) ps) (append-nil (pieces a)) (joined s a n f.parameters (prologue f f.parameters ++ body f) (pieces a) x.front x.back [] x.all all)
 
-pub all_follow : (t : Templates) → EntryIsNotCalled t → AreMade t → AllFollow t
-all_follow t never made h g f caller callers reached calls is n =
+pub all_simulate : (t : Templates) → EntryIsNotCalled t → AreMade t → AllSimulate t
+all_simulate t never made h g f caller callers reached calls is n =
     let differs : g ≡ t.unit.entry → ⊥ = λ same. never h reached (subst (λ k. CallsThere (t.of h).pieces k) same calls) in
-    called_follows t g f (made g f (follows.called h g reached calls) is.is differs) caller callers is n
+    called_simulates t g f (made g f (simulates.called h g reached calls) is.is differs) caller callers is n

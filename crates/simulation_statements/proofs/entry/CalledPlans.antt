@@ -19,7 +19,7 @@ use Rattle.lower_functions.specs.Statements.ScopeJumps.{all_entered, all_left}
 use Rattle.lower_functions.specs.Statements.PlainStatements.{all_statements}
 use Rattle.lower_functions.specs.Functions.Functions as functions
 use Rattle.lower_functions.specs.Functions.Functions.{local_type}
-use Rattle.simulation_terms.specs.SimulationRelation.Follows.{at_place}
+use Rattle.simulation_terms.specs.SimulationRelation.Simulates.{at_place}
 use Rattle.simulation_terms.proofs.scopes.Objects.{object_jobs, Planned, entered_planned, left_planned, locals}
 use Rattle.simulation_terms.proofs.scopes.Positions.{position}
 use Rattle.simulation_statements.proofs.statements.Sequences.{statement_jobs}

@@ -16,7 +16,7 @@ use Rattle.semantics.specs.SourceMachine.Items as item
 use Rattle.semantics.specs.SourceMachine.Items.{Item}
 use Rattle.semantics.specs.SourceMachine.Scopes.{jump, open_scopes, leap_in, entering_first}
 use Rattle.simulation_terms.specs.SimulationRelation.Activations.{Activation}
-use Rattle.simulation_terms.specs.SimulationRelation.Follows.{Follows}
+use Rattle.simulation_terms.specs.SimulationRelation.Simulates.{Simulates}
 use Rattle.simulation_terms.specs.Worklists.TemplateParts.{IsOfUnit, IsKnown, Stands}
 use Rattle.simulation_terms.proofs.worklists.Runs.{Runs, then, then_ends}
 use Rattle.simulation_terms.proofs.worklists.Assignments.{one_more_job}
@@ -37,9 +37,9 @@ work_names j p = refl
 
 module _ (s : SettingView) (t : Activation) (fits : IsOfUnit t s) (n : ℕ) where
   -- some objects are left and others entered, and then a jump leads behind a label
-  pub leaves_enters : (xs ys : List ℕ) (landing : Landing) (to : List Item) (there : List PieceView) → ((w : List PieceView) → Follows t n 0 (item.Hop ∷ to) (jumping s.at landing.label ∷ w)) → (p : Plan) → p.jobs ≡ []
+  pub leaves_enters : (xs ys : List ℕ) (landing : Landing) (to : List Item) (there : List PieceView) → ((w : List PieceView) → Simulates t n 0 (item.Hop ∷ to) (jumping s.at landing.label ∷ w)) → (p : Plan) → p.jobs ≡ []
       → (ps : List PieceView) (r : Plan) → Makes s (planless (branches.jump s.at landing.label (all_entered s.at ys (all_left s.at xs p)))) (branches.jump s.at landing.label (all_entered s.at ys (all_left s.at xs p))).jobs ps r → IsKnown t r → (rest : List PieceView) → Stands t (ps ++ rest)
-      → Follows t n 0 (item.Leaves xs ∷ (item.Enters ys ∷ (item.Hop ∷ to))) (ps ++ rest)
+      → Simulates t n 0 (item.Leaves xs ∷ (item.Enters ys ∷ (item.Hop ∷ to))) (ps ++ rest)
   leaves_enters xs ys landing to there hop p none ps r m known rest stands =
       let first = all_left s.at xs p in
       let second = all_entered s.at ys first in
@@ -62,8 +62,8 @@ module _ (s : SettingView) (t : Activation) (fits : IsOfUnit t s) (n : ℕ) wher
       then_ends s t n (out_jobs ++ in_jobs) (item.Leaves xs ∷ (item.Enters ys ∷ [])) 0 0 (planless all) refl (both.from (planless all) refl) last ps r (subst (λ ks. Makes s (planless all) ks ps r) jobs_are m) known (item.Hop ∷ to) rest stands hop
 
   -- nothing is left, some objects are entered, and then a jump leads behind a label
-  pub enters_and_hops : (ys : List ℕ) (landing : Landing) (to : List Item) → ((w : List PieceView) → Follows t n 0 (item.Hop ∷ to) (jumping s.at landing.label ∷ w)) → (p : Plan) → p.jobs ≡ []
-      → (ps : List PieceView) (r : Plan) → Makes s (planless (branches.jump s.at landing.label (all_entered s.at ys p))) (branches.jump s.at landing.label (all_entered s.at ys p)).jobs ps r → IsKnown t r → (rest : List PieceView) → Stands t (ps ++ rest) → Follows t n 0 (item.Enters ys ∷ (item.Hop ∷ to)) (ps ++ rest)
+  pub enters_and_hops : (ys : List ℕ) (landing : Landing) (to : List Item) → ((w : List PieceView) → Simulates t n 0 (item.Hop ∷ to) (jumping s.at landing.label ∷ w)) → (p : Plan) → p.jobs ≡ []
+      → (ps : List PieceView) (r : Plan) → Makes s (planless (branches.jump s.at landing.label (all_entered s.at ys p))) (branches.jump s.at landing.label (all_entered s.at ys p)).jobs ps r → IsKnown t r → (rest : List PieceView) → Stands t (ps ++ rest) → Simulates t n 0 (item.Enters ys ∷ (item.Hop ∷ to)) (ps ++ rest)
   enters_and_hops ys landing to hop p none ps r m known rest stands =
       let second = all_entered s.at ys p in
       let last = jumping s.at landing.label in
@@ -77,30 +77,30 @@ module _ (s : SettingView) (t : Activation) (fits : IsOfUnit t s) (n : ℕ) wher
       then_ends s t n js (item.Enters ys ∷ []) 0 0 (planless all) refl (inwards.from (planless all) refl) last ps r (subst (λ ks. Makes s (planless all) ks ps r) jobs_are m) known (item.Hop ∷ to) rest stands hop
 
   -- a jump to any place
-  pub leaps_by : (from : ℕ) (landing : Landing) (items to : List Item) → IsWay s from landing.scope (open_scopes items) (open_scopes to) → from ≤ length s.scopes.scopes → landing.scope ≤ length s.scopes.scopes → (there : List PieceView) → ((w : List PieceView) → Follows t n 0 (item.Hop ∷ to) (jumping s.at landing.label ∷ w))
-      → (p : Plan) → p.jobs ≡ [] → (ps : List PieceView) (r : Plan) → Makes s (planless (leap s from landing p)) (leap s from landing p).jobs ps r → IsKnown t r → (rest : List PieceView) → Stands t (ps ++ rest) → Follows t n 0 (jump items to) (ps ++ rest)
+  pub leaps_by : (from : ℕ) (landing : Landing) (items to : List Item) → IsWay s from landing.scope (open_scopes items) (open_scopes to) → from ≤ length s.scopes.scopes → landing.scope ≤ length s.scopes.scopes → (there : List PieceView) → ((w : List PieceView) → Simulates t n 0 (item.Hop ∷ to) (jumping s.at landing.label ∷ w))
+      → (p : Plan) → p.jobs ≡ [] → (ps : List PieceView) (r : Plan) → Makes s (planless (leap s from landing p)) (leap s from landing p).jobs ps r → IsKnown t r → (rest : List PieceView) → Stands t (ps ++ rest) → Simulates t n 0 (jump items to) (ps ++ rest)
   leaps_by from landing items to w enough also there hop p none ps r m known rest stands =
       let is_all : leap s from landing p ≡ branches.jump s.at landing.label (all_entered s.at w.enters (all_left s.at w.leaves p)) = ap (branches.jump s.at landing.label) (way_is s s.scopes.scopes from landing.scope w.leaves w.enters w.between enough also p) in
-      subst (λ xs. Follows t n 0 (item.Leaves xs ∷ (item.Enters _ ∷ (item.Hop ∷ to))) (ps ++ rest)) (sym w.left)
-      (subst (λ ys. Follows t n 0 (item.Leaves w.leaves ∷ (item.Enters ys ∷ (item.Hop ∷ to))) (ps ++ rest)) (sym w.entered)
+      subst (λ xs. Simulates t n 0 (item.Leaves xs ∷ (item.Enters _ ∷ (item.Hop ∷ to))) (ps ++ rest)) (sym w.left)
+      (subst (λ ys. Simulates t n 0 (item.Leaves w.leaves ∷ (item.Enters ys ∷ (item.Hop ∷ to))) (ps ++ rest)) (sym w.entered)
       (leaves_enters w.leaves w.enters landing to there hop p none ps r (subst (λ x. Makes s (planless x) x.jobs ps r) is_all m) known rest stands))
 
 module _ (s : SettingView) (t : Activation) (fits : IsOfUnit t s) (apart : AreApart s) where
   pub leaps : (n from : ℕ) (landing : Landing) (items to : List Item) → Chain s from (open_scopes items) → Lies s t n landing to
-      → (p : Plan) → p.jobs ≡ [] → (ps : List PieceView) (r : Plan) → Makes s (planless (leap s from landing p)) (leap s from landing p).jobs ps r → IsKnown t r → (rest : List PieceView) → Stands t (ps ++ rest) → Follows t n 0 (jump items to) (ps ++ rest)
+      → (p : Plan) → p.jobs ≡ [] → (ps : List PieceView) (r : Plan) → Makes s (planless (leap s from landing p)) (leap s from landing p).jobs ps r → IsKnown t r → (rest : List PieceView) → Stands t (ps ++ rest) → Simulates t n 0 (jump items to) (ps ++ rest)
   leaps n from landing items to here l p none ps r m known rest stands =
       leaps_by s t fits n from landing items to (way_of s apart from landing.scope (open_scopes items) (open_scopes to) here l.scopes) (chain_there s from (open_scopes items) here) (chain_there s landing.scope (open_scopes to) l.scopes) l.there
-      (λ w. hops s t fits n 0 landing.label to w l.there l.leads l.follows) p none ps r m known rest stands
+      (λ w. hops s t fits n 0 landing.label to w l.there l.leads l.simulates) p none ps r m known rest stands
 
 module _ (s : SettingView) (t : Activation) (fits : IsOfUnit t s) where
   -- a way on which nothing is left
   pub edges : (n from : ℕ) (landing : Landing) (items to : List Item) → from ≤ length s.scopes.scopes → (l : Lies s t n landing to) → (w : IsWay s from landing.scope (open_scopes items) (open_scopes to)) → w.leaves ≡ []
       → (p : Plan) → p.jobs ≡ [] → (ps : List PieceView) (r : Plan) → Makes s (planless (leap s from landing p)) (leap s from landing p).jobs ps r → IsKnown t r → (rest : List PieceView) → Stands t (ps ++ rest)
-      → (leap_in items to ≡ entering_first w.enters to) × Follows t n 0 (item.Enters w.enters ∷ (item.Hop ∷ to)) (ps ++ rest)
+      → (leap_in items to ≡ entering_first w.enters to) × Simulates t n 0 (item.Enters w.enters ∷ (item.Hop ∷ to)) (ps ++ rest)
   edges n from landing items to enough l w none_left p none ps r m known rest stands =
       let also = chain_there s landing.scope (open_scopes to) l.scopes in
       let is_all : leap s from landing p ≡ branches.jump s.at landing.label (all_entered s.at w.enters p) =
       ap (branches.jump s.at landing.label) (way_is s s.scopes.scopes from landing.scope w.leaves w.enters w.between enough also p ∙ ap (λ xs. all_entered s.at w.enters (all_left s.at xs p)) none_left) in (
         ap (λ ys. entering_first ys to) w.entered,
-        enters_and_hops s t fits n w.enters landing to (λ v. hops s t fits n 0 landing.label to v l.there l.leads l.follows) p none ps r (subst (λ x. Makes s (planless x) x.jobs ps r) is_all m) known rest stands,
+        enters_and_hops s t fits n w.enters landing to (λ v. hops s t fits n 0 landing.label to v l.there l.leads l.simulates) p none ps r (subst (λ x. Makes s (planless x) x.jobs ps r) is_all m) known rest stands,
       )

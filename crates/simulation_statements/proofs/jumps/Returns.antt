@@ -28,7 +28,7 @@ use Rattle.semantics.specs.SourceMachine.Scopes.{all_of, open_scopes}
 use Rattle.semantics.specs.SourceMachine.SourceStates.{Frame, function_at}
 use Rattle.semantics.specs.SourceMachine.SourceSteps.{is_entry}
 use Rattle.simulation_terms.specs.SimulationRelation.Activations.{Activation, of_entry}
-use Rattle.simulation_terms.specs.SimulationRelation.Follows.{Names, Leads, Follows, at_place, own}
+use Rattle.simulation_terms.specs.SimulationRelation.Simulates.{Names, Leads, Simulates, at_place, own}
 use Rattle.simulation_terms.proofs.simulation_relation.Constructions.{gives_statement, gives_return, gives_end, gives_outcome}
 use Rattle.simulation_terms.specs.Worklists.Rooms.{room}
 use Rattle.simulation_terms.specs.Worklists.TemplateParts as parts_of
@@ -81,7 +81,7 @@ one_less e le = omega (arith, le)
 
 module _ (s : SettingView) (t : Activation) (fits : IsOfUnit t s) (n : ℕ) (around : Surroundings) (looping : Enclosure) (known : List ℕ) (c : Position) (f : FunctionView) (is_f : function_at t.unit t.function ≡ Some f) where
   abbrev ToReturn : Place → Option TermTree → Type 0
-  ToReturn at e = (p : Plan) → p.jobs ≡ [] → (ps : List PieceView) (r : Plan) → Makes s (planless (lowered.giving s at e around p)) (lowered.giving s at e around p).jobs ps r → IsKnown t r → (items : List Item) (rest : List PieceView) → Stands t (ps ++ rest) → Within s t n around looping known items → Follows t n 0 (of_statement t.unit (of_entry t) (tree.Return at e) ++ items) (ps ++ rest)
+  ToReturn at e = (p : Plan) → p.jobs ≡ [] → (ps : List PieceView) (r : Plan) → Makes s (planless (lowered.giving s at e around p)) (lowered.giving s at e around p).jobs ps r → IsKnown t r → (items : List Item) (rest : List PieceView) → Stands t (ps ++ rest) → Within s t n around looping known items → Simulates t n 0 (of_statement t.unit (of_entry t) (tree.Return at e) ++ items) (ps ++ rest)
 
   -- ---- from the entry
 
@@ -122,10 +122,10 @@ module _ (s : SettingView) (t : Activation) (fits : IsOfUnit t s) (n : ℕ) (aro
       let is_all : lowered.giving s at e around p ≡ all = ap (lowered.end s at around.scope) (value_is at e p is) ∙ ap (λ b. cond b (lowered.stopped at (way_between s around.scope 0 g)) (lowered.exit s (way_between s around.scope 0 g))) is ∙ ap (lowered.stopped at) (way_up s s.scopes.scopes around.scope 0 xs (chain_home s around.scope (open_scopes items) k.chain) (chain_there s around.scope (open_scopes items) k.chain) g) in
       let last = End (record { at = at; does = act.Stop }) [] in
       let entry : of_entry t ≡ true = ap is_entry none_wait in
-      subst (λ is. Follows t n 0 (is ++ items) (ps ++ rest)) (sym (value_returned at e entry))
-      (subst (λ is. Follows t n 0 is (ps ++ rest)) (sym (append_assoc (value_items e) (item.LeaveFunction ∷ []) items))
+      subst (λ is. Simulates t n 0 (is ++ items) (ps ++ rest)) (sym (value_returned at e entry))
+      (subst (λ is. Simulates t n 0 is (ps ++ rest)) (sym (append_assoc (value_items e) (item.LeaveFunction ∷ []) items))
       (leaves_and s t fits n q xs g (left_planned s.at xs g) (value_jobs e) (value_items e) (value_planned e p none) (value_runs e suits) last all (one_more_job q.jobs (jobs.Ready last) q refl) (work_names (jobs.Ready last) q) ps r (subst (λ x. Makes s (planless x) x.jobs ps r) is_all m) known [] (item.LeaveFunction ∷ items) rest stands
-      (λ w h. gives_return n 0 f items w is_f (subst (λ callers. Follows t n 0 (item.Leaves xs ∷ behind_body f (item.Hop ∷ []) callers) w) (sym none_wait) h)) (λ w. gives_end n 0 at w entry)))
+      (λ w h. gives_return n 0 f items w is_f (subst (λ callers. Simulates t n 0 (item.Leaves xs ∷ behind_body f (item.Hop ∷ []) callers) w) (sym none_wait) h)) (λ w. gives_end n 0 at w entry)))
 
   -- ---- from a function that was called
 
@@ -155,7 +155,7 @@ module _ (s : SettingView) (t : Activation) (fits : IsOfUnit t s) (n : ℕ) (aro
       there [] = refl
       there (x ∷ xs) = there xs
 
-  from_called : (at : Place) (e : Option TermTree) → SuitsAsReturned t.unit e → s.is_entry ≡ false → s.parameters ≡ numbers_from 0 f.parameters → (caller : Frame) (callers : List Frame) → t.callers ≡ caller ∷ callers → (there : List PieceView) → Leads t s.end there → ((n : ℕ) → Follows t n 0 (epilogue f caller) there) → ToReturn at e
+  from_called : (at : Place) (e : Option TermTree) → SuitsAsReturned t.unit e → s.is_entry ≡ false → s.parameters ≡ numbers_from 0 f.parameters → (caller : Frame) (callers : List Frame) → t.callers ≡ caller ∷ callers → (there : List PieceView) → Leads t s.end there → ((n : ℕ) → Simulates t n 0 (epilogue f caller) there) → ToReturn at e
   from_called at e suits is parameters caller callers waits there leads end p none ps r m known items rest stands k =
       let xs = all_of (open_scopes items) in
       let g = outcome_plan at e p in
@@ -183,11 +183,11 @@ module _ (s : SettingView) (t : Activation) (fits : IsOfUnit t s) (n : ℕ) (aro
       (subst (λ at. Runs s t n (object_jobs act.Leave at s.parameters (length q.names)) (item.Leaves (numbers_from 0 f.parameters) ∷ []) 0 0) (sym fits.place)
       (subst (λ ys. Runs s t n (object_jobs act.Leave (own t) s.parameters (length q.names)) (item.Leaves ys ∷ []) 0 0) parameters (leaves s t fits n s.parameters (length q.names) 0 (named_from t (planless all) q.names s.parameters [] known_all own_names)))) in
       let called : of_entry t ≡ false = ap is_entry waits in
-      subst (λ is. Follows t n 0 (is ++ items) (ps ++ rest)) (sym (outcome_returned at e called))
-      (subst (λ is. Follows t n 0 is (ps ++ rest)) (sym (append_assoc (outcome_items at e) (item.LeaveFunction ∷ []) items))
+      subst (λ is. Simulates t n 0 (is ++ items) (ps ++ rest)) (sym (outcome_returned at e called))
+      (subst (λ is. Simulates t n 0 is (ps ++ rest)) (sym (append_assoc (outcome_items at e) (item.LeaveFunction ∷ []) items))
       (works_and s t fits n front (outer ++ own_jobs) (outcome_items at e) leaving last all jobs_are (λ known_all. outcome_runs at e (length p.names) suits (first_named (planless all) p.names e (locals xs ++ locals s.parameters) known_all first_names)) left_all
       ps r (subst (λ x. Makes s (planless x) x.jobs ps r) is_all m) known (item.Hop ∷ epilogue f caller) (item.LeaveFunction ∷ items) rest stands
-      (λ w h. gives_return n 0 f items w is_f (subst (λ callers. Follows t n 0 (item.Leaves xs ∷ behind_body f (item.Hop ∷ []) callers) w) (sym waits) h))
+      (λ w h. gives_return n 0 f items w is_f (subst (λ callers. Simulates t n 0 (item.Leaves xs ∷ behind_body f (item.Hop ∷ []) callers) w) (sym waits) h))
       (λ w. hops s t fits n 0 s.end (epilogue f caller) w there leads (end n))))
 
   -- ---- both

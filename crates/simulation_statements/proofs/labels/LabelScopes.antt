@@ -52,9 +52,9 @@ module _ (t : Activation) (s : SettingView) (l : Sought) where
     in_scopes (tree.If e body) k c rest has chain = in_scopes body k c rest has chain
     in_scopes (tree.IfElse e one two) k c rest has chain =
         first_found s (found t.unit l one (item.Hop ∷ rest)) (found t.unit l two rest) (stands_in l one k c) (stands_in l two k (c + scopes_in one)) (in_scopes one k c (item.Hop ∷ rest) has.0 chain) (in_scopes two k (c + scopes_in one) rest has.1 chain)
-    in_scopes (tree.While e body) k c rest has chain = in_scopes body k c (item.Hop ∷ (item.TurnEnd ∷ (item.WhileTurn e body ∷ (item.LoopEnd ∷ rest)))) has chain
+    in_scopes (tree.While e body) k c rest has chain = in_scopes body k c (item.Hop ∷ (item.IterationEnd ∷ (item.WhileIteration e body ∷ (item.LoopEnd ∷ rest)))) has chain
     in_scopes (tree.Do body e) k c rest has chain =
-        let quiet = condition_quiet t true e (item.DoTurn body e ∷ []) [] in
+        let quiet = condition_quiet t true e (item.DoIteration body e ∷ []) [] in
         in_scopes body k c (do_test t.unit body e ++ item.LoopEnd ∷ rest) has (subst (λ xs. Chain s k xs) (sym (quiet.scopes (item.LoopEnd ∷ rest))) chain)
     in_scopes (tree.For objects begin e step body) k c rest has chain =
         in_scopes body c (suc c + all_scopes_in begin) (for_step e step body ++ (item.LoopEnd ∷ (item.Leaves objects ∷ rest))) has.2 (subst (λ xs. Chain s c xs) (sym (for_leaves e step body objects rest)) (inside c k objects (open_scopes rest) has.0 chain))

@@ -24,7 +24,7 @@ use Rattle.semantics.specs.SourceMachine.StatementItems.{of_statement, stored, a
 use Rattle.simulation_terms.specs.Instructions.Acts as acts
 use Rattle.simulation_terms.specs.Instructions.Acts.{IsAct}
 use Rattle.simulation_terms.specs.SimulationRelation.Activations.{Activation, of_entry}
-use Rattle.simulation_terms.specs.SimulationRelation.Follows.{Names, at_place}
+use Rattle.simulation_terms.specs.SimulationRelation.Simulates.{Names, at_place}
 use Rattle.simulation_terms.proofs.simulation_relation.Constructions.{gives_statement, gives_object, gives_change, gives_step, gives_drop}
 use Rattle.simulation_terms.specs.Worklists.TemplateParts.{IsOfUnit}
 use Rattle.simulation_terms.proofs.worklists.Runs.{Runs, then, piece_first}

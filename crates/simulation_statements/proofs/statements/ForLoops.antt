@@ -25,10 +25,10 @@ use Rattle.lower_template_theorems.specs.Worklists.Derivations.{parts, Makes}
 use Rattle.lower_template_theorems.proofs.worklists.Derivations.{parted}
 use Rattle.semantics.specs.SourceMachine.Items as item
 use Rattle.semantics.specs.SourceMachine.Items.{Item}
-use Rattle.semantics.specs.SourceMachine.StatementItems.{of_statement, statements, clause, for_body, for_turn}
+use Rattle.semantics.specs.SourceMachine.StatementItems.{of_statement, statements, clause, for_body, for_iteration}
 use Rattle.simulation_terms.specs.SimulationRelation.Activations.{Activation, of_entry}
-use Rattle.simulation_terms.specs.SimulationRelation.Follows as follows
-use Rattle.simulation_terms.specs.SimulationRelation.Follows.{Leads, Follows}
+use Rattle.simulation_terms.specs.SimulationRelation.Simulates as simulates
+use Rattle.simulation_terms.specs.SimulationRelation.Simulates.{Leads, Simulates}
 use Rattle.simulation_terms.proofs.simulation_relation.Constructions.{gives_statement, gives_loop_end, gives_turn_end}
 use Rattle.simulation_terms.proofs.simulation_relation.FewerTurns.{less}
 use Rattle.simulation_terms.specs.Worklists.TemplateParts.{IsOfUnit, IsKnown, Stands}
@@ -44,7 +44,7 @@ use Rattle.simulation_terms.proofs.scopes.InScopes.{context_less, Goes, goes_on,
 use Rattle.simulation_terms.proofs.scopes.Objects.{object_jobs, objects_are_terms, entered_planned, left_planned, named_from, locals, marks}
 use Rattle.simulation_terms.proofs.scopes.Contexts.{in_block, in_body}
 use Rattle.simulation_statements.proofs.statements.Sequences.{statement_jobs, listed, HasParts, AboutStatement, AboutStatements, enclosed}
-use Rattle.semantics.specs.SourceMachine.Scopes.{open_scopes, behind_loop, behind_turn}
+use Rattle.semantics.specs.SourceMachine.Scopes.{open_scopes, past_loop, past_iteration}
 use Rattle.simulation_terms.proofs.worklists.Assignments.{nothing_done}
 use Rattle.simulation_terms.specs.Scopes.SuitedStatements.{Enclosure, not_enclosed, by_loop, SuitsIf, SuitsIn}
 use Rattle.simulation_statements.proofs.statements.Selections.{Counts, count_terms, count_on, below, itself}
@@ -149,7 +149,7 @@ clause_scopes : (after : Option TermTree) (more : List Item) → open_scopes (cl
 clause_scopes None more = refl
 clause_scopes (Some e) more = refl
 
-clause_loop : (after : Option TermTree) (more : List Item) → behind_loop (clause after ++ more) ≡ behind_loop more
+clause_loop : (after : Option TermTree) (more : List Item) → past_loop (clause after ++ more) ≡ past_loop more
 clause_loop None more = refl
 clause_loop (Some e) more = refl
 
@@ -159,11 +159,11 @@ module _ (s : SettingView) (t : Activation) (fits : IsOfUnit t s) (g : FunctionV
   clause_runs m (Some e) suits = (terms s t fits m e).done 0 suits.0 suits.1
 
   -- the condition of a turn, or none
-  test_follows : (m : ℕ) (test after : Option TermTree) (body : StatementTree) (l : ℕ) → SuitsIf t.unit true test → (p : Plan) → p.jobs ≡ [] → (ft : List PieceView) (pt : Plan) → Makes s p (test_jobs test l) ft pt → IsKnown t pt → (more : List Item) (w rest : List PieceView) → Stands t (ft ++ Mark (l + 2) ∷ w) → Leads t (l + 2) w → Leads t (l + 4) rest
-      → Follows t m 0 (for_body test after body ++ more) w → Follows t m 0 more rest → Follows t m 0 (for_turn t.unit test after body ++ more) (ft ++ Mark (l + 2) ∷ w)
-  test_follows m None after body l suits p none ft pt mt known more w rest stands to_body to_last f g =
-      subst (λ xs. Follows t m 0 (for_body None after body ++ more) (xs ++ Mark (l + 2) ∷ w)) (sym (none_made s p ft pt mt)) (follows.by_mark m 0 (l + 2) (for_body None after body ++ more) w f)
-  test_follows m (Some e) after body l suits p none ft pt mt known more w rest stands to_body to_last f g =
+  test_simulates : (m : ℕ) (test after : Option TermTree) (body : StatementTree) (l : ℕ) → SuitsIf t.unit true test → (p : Plan) → p.jobs ≡ [] → (ft : List PieceView) (pt : Plan) → Makes s p (test_jobs test l) ft pt → IsKnown t pt → (more : List Item) (w rest : List PieceView) → Stands t (ft ++ Mark (l + 2) ∷ w) → Leads t (l + 2) w → Leads t (l + 4) rest
+      → Simulates t m 0 (for_body test after body ++ more) w → Simulates t m 0 more rest → Simulates t m 0 (for_iteration t.unit test after body ++ more) (ft ++ Mark (l + 2) ∷ w)
+  test_simulates m None after body l suits p none ft pt mt known more w rest stands to_body to_last f g =
+      subst (λ xs. Simulates t m 0 (for_body None after body ++ more) (xs ++ Mark (l + 2) ∷ w)) (sym (none_made s p ft pt mt)) (simulates.by_mark m 0 (l + 2) (for_body None after body ++ more) w f)
+  test_simulates m (Some e) after body l suits p none ft pt mt known more w rest stands to_body to_last f g =
       (terms s t fits m e).decided (decided (record { yes = l + 2; no = l + 4 }) 0) suits.0 suits.1 p none ft pt mt known (for_body (Some e) after body) [] more (Mark (l + 2) ∷ w) w rest stands to_body to_last f g
 
   module _ (test after : Option TermTree) (body : StatementTree) (about : AboutStatement s t g body) (around : Surroundings) (looping : Enclosure) (known : List ℕ) (c : Position) (l : ℕ) (suits_test : SuitsIf t.unit true test) (suits_after : SuitsIf t.unit false after) (suits_body : SuitsIn t.unit g by_loop known body) (scopes : HasParts s body around.scope c) (few : l + 5 ≤ 2 ^ 32 - 1)
@@ -180,7 +180,7 @@ module _ (s : SettingView) (t : Activation) (fits : IsOfUnit t s) (g : FunctionV
     for_pieces = ft ++ Mark (l + 2) ∷ body_pieces
 
     abbrev loop_items : List Item
-    loop_items = item.ForTurn test after body ∷ (item.LoopEnd ∷ items)
+    loop_items = item.ForIteration test after body ∷ (item.LoopEnd ∷ items)
 
     abbrev step_items : List Item
     step_items = clause after ++ (item.Hop ∷ loop_items)
@@ -197,7 +197,7 @@ module _ (s : SettingView) (t : Activation) (fits : IsOfUnit t s) (g : FunctionV
         led s t fits (l + 4) (l + 5) (l + 5) rest (below l 4 5 four_five) (itself (l + 5)) few (stands_after t (jumping s.at (l + 1)) (Mark (l + 4) ∷ rest) (stands_behind t fs (jumping s.at (l + 1) ∷ (Mark (l + 4) ∷ rest)) at_clause))
 
     -- the step, where the next turn follows
-    for_stepped : Stands t (Mark (l + 1) ∷ for_pieces) → (m : ℕ) → Follows t m 0 loop_items for_pieces → Follows t m 0 step_items behind_body
+    for_stepped : Stands t (Mark (l + 1) ∷ for_pieces) → (m : ℕ) → Simulates t m 0 loop_items for_pieces → Simulates t m 0 step_items behind_body
     for_stepped stands m back =
         let at_clause = stands_after t (Mark (l + 3)) behind_body (for_at_step stands) in
         let to_begin = led s t fits (l + 1) (l + 5) (l + 5) for_pieces (below l 1 5 one_five) (itself (l + 5)) few stands in
@@ -205,28 +205,28 @@ module _ (s : SettingView) (t : Activation) (fits : IsOfUnit t s) (g : FunctionV
         (clause_runs m after suits_after).from pb none_b fs pa ma known_a (item.Hop ∷ loop_items) (jumping s.at (l + 1) ∷ (Mark (l + 4) ∷ rest)) at_clause again
 
     -- what is behind the body
-    pub for_again : Stands t (Mark (l + 1) ∷ for_pieces) → (m : ℕ) → Follows t m 0 loop_items for_pieces → Follows t m 0 (item.TurnEnd ∷ step_items) (Mark (l + 3) ∷ behind_body)
-    for_again stands m back = follows.by_mark m 0 (l + 3) (item.TurnEnd ∷ step_items) behind_body (gives_turn_end m 0 step_items behind_body (for_stepped stands m back))
+    pub for_again : Stands t (Mark (l + 1) ∷ for_pieces) → (m : ℕ) → Simulates t m 0 loop_items for_pieces → Simulates t m 0 (item.IterationEnd ∷ step_items) (Mark (l + 3) ∷ behind_body)
+    for_again stands m back = simulates.by_mark m 0 (l + 3) (item.IterationEnd ∷ step_items) behind_body (gives_turn_end m 0 step_items behind_body (for_stepped stands m back))
 
     -- where the body stands
-    pub for_context : Stands t (Mark (l + 1) ∷ for_pieces) → (m : ℕ) → Follows t m 0 loop_items for_pieces → Follows t m 0 items rest → Within s t m around looping known items → Within s t m (in_loop around (l + 4) (l + 3)) by_loop known (item.TurnEnd ∷ step_items)
+    pub for_context : Stands t (Mark (l + 1) ∷ for_pieces) → (m : ℕ) → Simulates t m 0 loop_items for_pieces → Simulates t m 0 items rest → Within s t m around looping known items → Within s t m (in_loop around (l + 4) (l + 3)) by_loop known (item.IterationEnd ∷ step_items)
     for_context stands m back f k =
         let to_step = led s t fits (l + 3) (l + 5) (l + 5) behind_body (below l 3 5 three_five) (itself (l + 5)) few (for_at_step stands) in
-        in_body s t m around looping known items (item.TurnEnd ∷ step_items) step_items (l + 4) (l + 3) rest behind_body (clause_scopes after (item.Hop ∷ loop_items)) (clause_scopes after (item.Hop ∷ loop_items)) (clause_loop after (item.Hop ∷ loop_items)) refl (for_to_last stands) to_step f (for_stepped stands m back) k
+        in_body s t m around looping known items (item.IterationEnd ∷ step_items) step_items (l + 4) (l + 3) rest behind_body (clause_scopes after (item.Hop ∷ loop_items)) (clause_scopes after (item.Hop ∷ loop_items)) (clause_loop after (item.Hop ∷ loop_items)) refl (for_to_last stands) to_step f (for_stepped stands m back) k
 
-    pub for_turns : Stands t (Mark (l + 1) ∷ for_pieces) → (m : ℕ) → Follows t m 0 items rest → Within s t m around looping known items → Follows t m 0 (item.ForTurn test after body ∷ (item.LoopEnd ∷ items)) for_pieces
-    for_turns stands zero f k = follows.enough _ _ _
+    pub for_turns : Stands t (Mark (l + 1) ∷ for_pieces) → (m : ℕ) → Simulates t m 0 items rest → Within s t m around looping known items → Simulates t m 0 (item.ForIteration test after body ∷ (item.LoopEnd ∷ items)) for_pieces
+    for_turns stands zero f k = simulates.enough _ _ _
     for_turns stands (suc m) f k =
         let less_f = less m 0 items rest f in
-        let less_k = context_less s t m around looping known (open_scopes items) (behind_loop items) (behind_turn items) k in
+        let less_k = context_less s t m around looping known (open_scopes items) (past_loop items) (past_iteration items) k in
         let back = for_turns stands m less_f less_k in
         let at_test = stands_after t (Mark (l + 1)) for_pieces stands in
         let at_mark = stands_behind t ft (Mark (l + 2) ∷ body_pieces) at_test in
         let to_body = led s t fits (l + 2) (l + 5) (l + 5) body_pieces (below l 2 5 two_five) (itself (l + 5)) few at_mark in
-        let in_it = (about m (in_loop around (l + 4) (l + 3)) by_loop known c suits_body scopes).from pt none_t begun fb pb mb known_b (item.TurnEnd ∷ step_items) (Mark (l + 3) ∷ behind_body) (for_at_body stands) (for_context stands m back less_f less_k) (for_again stands m back) in
-        follows.in_for m 0 test after body (item.LoopEnd ∷ items) for_pieces
-        (test_follows m test after body l suits_test p none ft pt mt known_t (item.LoopEnd ∷ items) body_pieces rest at_test to_body (for_to_last stands)
-        (subst (λ xs. Follows t m 0 (item.Statement body ∷ (item.TurnEnd ∷ xs)) body_pieces) (sym (append_assoc (clause after) (item.Hop ∷ (item.ForTurn test after body ∷ [])) (item.LoopEnd ∷ items))) in_it)
+        let in_it = (about m (in_loop around (l + 4) (l + 3)) by_loop known c suits_body scopes).from pt none_t begun fb pb mb known_b (item.IterationEnd ∷ step_items) (Mark (l + 3) ∷ behind_body) (for_at_body stands) (for_context stands m back less_f less_k) (for_again stands m back) in
+        simulates.in_for m 0 test after body (item.LoopEnd ∷ items) for_pieces
+        (test_simulates m test after body l suits_test p none ft pt mt known_t (item.LoopEnd ∷ items) body_pieces rest at_test to_body (for_to_last stands)
+        (subst (λ xs. Simulates t m 0 (item.Statement body ∷ (item.IterationEnd ∷ xs)) body_pieces) (sym (append_assoc (clause after) (item.Hop ∷ (item.ForIteration test after body ∷ [])) (item.LoopEnd ∷ items))) in_it)
         (gives_loop_end m 0 items rest less_f))
 
   -- the works of some list, and then others
@@ -258,12 +258,12 @@ module _ (s : SettingView) (t : Activation) (fits : IsOfUnit t s) (g : FunctionV
       (count_on s (past c body) (past c body) (past c body) (clause_jobs after) _ (count_terms s (past c body) _ (clauses_are_terms after)) (count_terms s (past c body) _ (tt, (tt, tt))))))))
 
   pub turns_go : (n : ℕ) (test after : Option TermTree) (body : StatementTree) (about : AboutStatement s t g body) (around : Surroundings) (looping : Enclosure) (known : List ℕ) (c : Position) (l : ℕ) → SuitsIf t.unit true test → SuitsIf t.unit false after → SuitsIn t.unit g by_loop known body → HasParts s body around.scope c → l + 5 ≤ 2 ^ 32 - 1
-      → Goes s t n c (past c body) (Within s t n around looping known) (turn_jobs s.at test after body around l) (item.ForTurn test after body ∷ (item.LoopEnd ∷ []))
+      → Goes s t n c (past c body) (Within s t n around looping known) (turn_jobs s.at test after body around l) (item.ForIteration test after body ∷ (item.LoopEnd ∷ []))
   unfolding turn_jobs
   turns_go n test after body about around looping known c l suits_test suits_after suits_body scopes few = record {
     from = λ p none begun_p ps r m known_r items rest stands k f.
         let q = jumping s.at (l + 1) in
-        let G : List PieceView → Type 0 = λ w. Stands t w → Follows t n 0 (item.ForTurn test after body ∷ (item.LoopEnd ∷ items)) w in
+        let G : List PieceView → Type 0 = λ w. Stands t w → Simulates t n 0 (item.ForIteration test after body ∷ (item.LoopEnd ∷ items)) w in
         from_piece s r rest p (Mark (l + 1)) _ ps G m
         (λ b1 m1. from_many r rest p (test_jobs test l) _ b1 (λ w. G (Mark (l + 1) ∷ w)) none m1
         (λ ft pt b2 mt none_t m2. from_piece s r rest pt (Mark (l + 2)) _ b2 (λ w. G (Mark (l + 1) ∷ (ft ++ w))) m2
@@ -273,7 +273,7 @@ module _ (s : SettingView) (t : Activation) (fits : IsOfUnit t s) (g : FunctionV
         (λ fs pa b6 ma none_a m6. from_piece s r rest pa q _ b6 (λ w. G (Mark (l + 1) ∷ (ft ++ Mark (l + 2) ∷ (fb ++ Mark (l + 3) ∷ (fs ++ w))))) m6
         (λ b7 m7. from_piece s r rest pa (Mark (l + 4)) [] b7 (λ w. G (Mark (l + 1) ∷ (ft ++ Mark (l + 2) ∷ (fb ++ Mark (l + 3) ∷ (fs ++ q ∷ w))))) m7
         (λ b8 m8. from_none s r rest pa b8 (λ w. G (Mark (l + 1) ∷ (ft ++ Mark (l + 2) ∷ (fb ++ Mark (l + 3) ∷ (fs ++ q ∷ (Mark (l + 4) ∷ w)))))) m8
-        (λ stands. follows.by_mark n 0 (l + 1) _ _
+        (λ stands. simulates.by_mark n 0 (l + 1) _ _
         (for_turns test after body about around looping known c l suits_test suits_after suits_body scopes few p none ft pt mt (known_between s t pt _ _ r m2 known_r) none_t (kept_many p (test_jobs test l) ft pt (tests_are_terms test l) none mt ∙ begun_p) fb pb mb (known_between s t pb _ _ r m4 known_r) none_b fs pa ma (known_between s t pa _ _ r m6 known_r) items rest stands n f k)))))))))) stands;
     ends = turns_count test after body about around known c l n suits_body scopes;
   }
@@ -292,7 +292,7 @@ module _ (s : SettingView) (t : Activation) (fits : IsOfUnit t s) (g : FunctionV
       let more = objects ++ known in
       let middle = past_all (inner c) first in
       let last = past middle body in
-      let loop : List Item = item.ForTurn test after body ∷ (item.LoopEnd ∷ []) in
+      let loop : List Item = item.ForIteration test after body ∷ (item.LoopEnd ∷ []) in
       let starts = about_first n within not_enclosed more (inner c) suits.1 (scopes.0.1, scopes.1.0) in
       let same : (p : Plan) → p.jobs ≡ [] → position p ≡ c → Planned s.at objects (statement_jobs first within ++ turn_jobs s.at test after body within p.labels) p.labels p (parts s j p) = λ p none begun_p. subst (λ k. Planned s.at objects (statement_jobs first (in_scope around k) ++ turn_jobs s.at test after body (in_scope around k) p.labels) p.labels p (parts s j p)) (ap (λ (x : Position). x.scopes) begun_p) (for_planned s objects first test after body around p none) in
       subst (λ k. Goes s t n c k (Within s t n around looping known) (j ∷ []) (item.Statement (tree.For objects first test after body) ∷ [])) (past_for c first body)
@@ -307,14 +307,14 @@ module _ (s : SettingView) (t : Activation) (fits : IsOfUnit t s) (g : FunctionV
       let turns = turn_jobs s.at test after body within p.labels in
       let inside : Goes s t n (inner c) last (Within s t n within looping more) (statement_jobs first within ++ turns) (statements first ++ loop) =
       goes_on s t n (inner c) middle last (Within s t n within looping more) (Within s t n within not_enclosed more) (statement_jobs first within) turns (statements first) loop
-      (λ items k. unlooped n within looping more (open_scopes items) (behind_loop items) (behind_turn items) items (behind_turn items) k) starts
+      (λ items k. unlooped n within looping more (open_scopes items) (past_loop items) (past_iteration items) items (past_iteration items) k) starts
       (turns_go n test after body about within looping more middle p.labels suits.2 suits.3 suits.4 (scopes.0.2, scopes.1.1) few) in
       let whole = enclosed s t fits n (inner c) last objects (length p.names) (length (p.names ++ locals objects)) (Within s t n around looping known) (Within s t n within looping more) (statement_jobs first within ++ turns) (statements first ++ loop)
       (λ items k. in_block s t n around looping known objects c.scopes items suits.0 scopes.0.0 k) named again inside in
       let js = object_jobs act.Enter s.at objects (length p.names) ++ ((statement_jobs first within ++ turns) ++ object_jobs act.Leave s.at objects (length (p.names ++ locals objects))) in
       let marked = goes_on s t n (inner c) (inner c) last (Within s t n around looping known) Anything (jobs.Ready (Mark p.labels) ∷ []) js [] (item.Enters objects ∷ ((statements first ++ loop) ++ item.Leaves objects ∷ [])) (λ items k. tt)
       (plainly s t n (inner c) Anything (jobs.Ready (Mark p.labels) ∷ []) [] (tt, tt) (marks s t fits n p.labels 0)) whole in
-      subst (λ is. Follows t n 0 (item.Enters objects ∷ (is ++ items)) (ps ++ rest)) (append_assoc (statements first) loop (item.Leaves objects ∷ []))
+      subst (λ is. Simulates t n 0 (item.Enters objects ∷ (is ++ items)) (ps ++ rest)) (append_assoc (statements first) loop (item.Leaves objects ∷ []))
       (marked.from (planless all) refl (x.scopes ∙ ap inner begun_p) ps r (subst (λ ks. Makes s (planless all) ks ps r) x.jobs m) known_last items rest stands k f))
       (λ p none begun_p ps r m.
       let all = parts s j p in

@@ -13,7 +13,7 @@ use Rattle.lower_template_theorems.specs.Worklists.Derivations.{parts, Makes}
 use Rattle.semantics.specs.SourceMachine.Items as item
 use Rattle.semantics.specs.SourceMachine.Items.{Item}
 use Rattle.simulation_terms.specs.SimulationRelation.Activations.{Activation}
-use Rattle.simulation_terms.specs.SimulationRelation.Follows.{Follows}
+use Rattle.simulation_terms.specs.SimulationRelation.Simulates.{Simulates}
 use Rattle.simulation_terms.specs.Worklists.TemplateParts.{IsOfUnit}
 use Rattle.simulation_terms.proofs.worklists.Runs.{two_jobs}
 use Rattle.simulation_terms.proofs.scopes.Positions.{Position, position}
@@ -36,7 +36,7 @@ module _ (s : SettingView) (t : Activation) (fits : IsOfUnit t s) (n : ℕ) (c l
       goes_on s t n c c last K (λ items. Unit {0}) (jobs.Ready (Mark l) ∷ []) (jobs.Statement body around ∷ []) [] (item.Statement body ∷ []) (λ items k. tt)
       (plainly s t n c (λ items. Unit {0}) (jobs.Ready (Mark l) ∷ []) [] (tt, tt) (marks s t fits n l 0)) goes
 
-  pub of_labelled : (i : StatementTree) (mark : Plan → ℕ) → ((p : Plan) → parts s (jobs.Statement i around) p ≡ part (mark p) body around p) → ((items : List Item) (ps : List PieceView) → Follows t n 0 (item.Statement body ∷ items) ps → Follows t n 0 (item.Statement i ∷ items) ps)
+  pub of_labelled : (i : StatementTree) (mark : Plan → ℕ) → ((p : Plan) → parts s (jobs.Statement i around) p ≡ part (mark p) body around p) → ((items : List Item) (ps : List PieceView) → Simulates t n 0 (item.Statement body ∷ items) ps → Simulates t n 0 (item.Statement i ∷ items) ps)
       → Goes s t n c last K (jobs.Statement body around ∷ []) (item.Statement body ∷ []) → Goes s t n c last K (jobs.Statement i around ∷ []) (item.Statement i ∷ [])
   of_labelled i mark same gives goes = gives_way s t n c last K (jobs.Statement i around) (item.Statement i) (item.Statement body ∷ []) refl gives
       (λ p none begun ps r m known items rest stands k f.

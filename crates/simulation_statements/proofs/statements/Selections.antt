@@ -27,8 +27,8 @@ use Rattle.semantics.specs.SourceMachine.Items.{Item}
 use Rattle.semantics.specs.SourceMachine.ConditionItems as source
 use Rattle.semantics.specs.SourceMachine.StatementItems.{of_statement, statements}
 use Rattle.simulation_terms.specs.SimulationRelation.Activations.{Activation, of_entry}
-use Rattle.simulation_terms.specs.SimulationRelation.Follows as follows
-use Rattle.simulation_terms.specs.SimulationRelation.Follows.{Leads, Follows}
+use Rattle.simulation_terms.specs.SimulationRelation.Simulates as simulates
+use Rattle.simulation_terms.specs.SimulationRelation.Simulates.{Leads, Simulates}
 use Rattle.simulation_terms.proofs.simulation_relation.Constructions.{gives_statement}
 use Rattle.simulation_terms.specs.Worklists.TemplateParts.{IsOfUnit, IsKnown, Stands}
 use Rattle.simulation_terms.proofs.worklists.Runs.{stands_behind, stands_after}
@@ -158,10 +158,10 @@ module _ (s : SettingView) (t : Activation) (fits : IsOfUnit t s) (g : FunctionV
       (planless all) refl (x.scopes ∙ ap inner begun) ps r (subst (λ ks. Makes s (planless all) ks ps r) x.jobs m))
 
   if_from : (n : ℕ) (e : TermTree) (body : StatementTree) (around : Surroundings) (c last : Position) (l : ℕ) (K : List Item → Type 0) → Decided s t n e (decided (record { yes = l + 1; no = l + 2 }) 0) → Goes s t n c last K (jobs.Statement body around ∷ []) (item.Statement body ∷ []) → l + 3 ≤ 2 ^ 32 - 1 → (p : Plan) → p.jobs ≡ [] → position p ≡ c → (ps : List PieceView) (r : Plan) → Makes s p (if_jobs e body around l) ps r → IsKnown t r
-      → (items : List Item) (rest : List PieceView) → Stands t (ps ++ rest) → K items → Follows t n 0 items rest → Follows t n 0 (source.condition t.unit true e (item.Statement body ∷ []) [] ++ items) (ps ++ rest)
+      → (items : List Item) (rest : List PieceView) → Stands t (ps ++ rest) → K items → Simulates t n 0 items rest → Simulates t n 0 (source.condition t.unit true e (item.Statement body ∷ []) [] ++ items) (ps ++ rest)
   unfolding if_jobs
   if_from n e body around c last l K decides goes few p none begun ps r m known items rest stands k f =
-      let G : List PieceView → Type 0 = λ w. Stands t w → Follows t n 0 (source.condition t.unit true e (item.Statement body ∷ []) [] ++ items) w in
+      let G : List PieceView → Type 0 = λ w. Stands t w → Simulates t n 0 (source.condition t.unit true e (item.Statement body ∷ []) [] ++ items) w in
       from_piece s r rest p (Mark l) _ ps G m
       (λ b1 m1. from_work s r rest p (jobs.Condition e (decided (record { yes = l + 1; no = l + 2 }) 0)) _ b1 (λ w. G (Mark l ∷ w)) none m1
       (λ fc pc b2 mc none_c m2. from_piece s r rest pc (Mark (l + 1)) _ b2 (λ w. G (Mark l ∷ (fc ++ w))) m2
@@ -175,8 +175,8 @@ module _ (s : SettingView) (t : Activation) (fits : IsOfUnit t s) (g : FunctionV
       let at_last = stands_behind t fb (Mark (l + 2) ∷ rest) at_body in
       let to_yes = led s t fits (l + 1) (l + 3) (l + 3) (fb ++ Mark (l + 2) ∷ rest) (below l 1 3 one_three) (itself (l + 3)) few at_yes in
       let to_last = led s t fits (l + 2) (l + 3) (l + 3) rest (below l 2 3 two_three) (itself (l + 3)) few at_last in
-      let on_yes = goes.from pc none_c (kept_one s p (jobs.Condition e (decided (record { yes = l + 1; no = l + 2 }) 0)) fc pc tt none mc ∙ begun) fb pb mb (known_between s t pb _ _ r m4 known) items (Mark (l + 2) ∷ rest) at_body k (follows.by_mark n 0 (l + 2) items rest f) in
-      follows.by_mark n 0 l _ _ (decides p none fc pc mc (known_between s t pc _ _ r m2 known) (item.Statement body ∷ []) [] items (Mark (l + 1) ∷ (fb ++ Mark (l + 2) ∷ rest)) (fb ++ Mark (l + 2) ∷ rest) rest at_c to_yes to_last on_yes f))))))) stands
+      let on_yes = goes.from pc none_c (kept_one s p (jobs.Condition e (decided (record { yes = l + 1; no = l + 2 }) 0)) fc pc tt none mc ∙ begun) fb pb mb (known_between s t pb _ _ r m4 known) items (Mark (l + 2) ∷ rest) at_body k (simulates.by_mark n 0 (l + 2) items rest f) in
+      simulates.by_mark n 0 l _ _ (decides p none fc pc mc (known_between s t pc _ _ r m2 known) (item.Statement body ∷ []) [] items (Mark (l + 1) ∷ (fb ++ Mark (l + 2) ∷ rest)) (fb ++ Mark (l + 2) ∷ rest) rest at_c to_yes to_last on_yes f))))))) stands
 
   if_ends : (n : ℕ) (e : TermTree) (body : StatementTree) (around : Surroundings) (c last : Position) (l : ℕ) (K : List Item → Type 0) → Goes s t n c last K (jobs.Statement body around ∷ []) (item.Statement body ∷ []) → Counts s c last (if_jobs e body around l)
   unfolding if_jobs
@@ -199,12 +199,12 @@ module _ (s : SettingView) (t : Activation) (fits : IsOfUnit t s) (g : FunctionV
 
   else_from : (n : ℕ) (e : TermTree) (body other : StatementTree) (around : Surroundings) (c middle last : Position) (l : ℕ) (K L : List Item → Type 0) → ((items : List Item) → K items → L (item.Hop ∷ items)) → Decided s t n e (decided (record { yes = l + 1; no = l + 2 }) 0) → Goes s t n c middle L (jobs.Statement body around ∷ []) (item.Statement body ∷ []) → Goes s t n middle last K (jobs.Statement other around ∷ []) (item.Statement other ∷ []) → l + 4 ≤ 2 ^ 32 - 1
       → (p : Plan) → p.jobs ≡ [] → position p ≡ c → (ps : List PieceView) (r : Plan) → Makes s p (two_way_jobs s.at e (jobs.Statement body around) (jobs.Statement other around) 0 l) ps r → IsKnown t r
-      → (items : List Item) (rest : List PieceView) → Stands t (ps ++ rest) → K items → Follows t n 0 items rest → Follows t n 0 (source.condition t.unit true e (item.Statement body ∷ (item.Hop ∷ [])) (item.Statement other ∷ []) ++ items) (ps ++ rest)
+      → (items : List Item) (rest : List PieceView) → Stands t (ps ++ rest) → K items → Simulates t n 0 items rest → Simulates t n 0 (source.condition t.unit true e (item.Statement body ∷ (item.Hop ∷ [])) (item.Statement other ∷ []) ++ items) (ps ++ rest)
   else_from n e body other around c middle last l K L onwards decides one two few p none begun ps r m known items rest stands k f =
       let q = jumping s.at (l + 3) in
       let held : List Item = item.Statement body ∷ (item.Hop ∷ []) in
       let failed : List Item = item.Statement other ∷ [] in
-      let G : List PieceView → Type 0 = λ w. Stands t w → Follows t n 0 (source.condition t.unit true e held failed ++ items) w in
+      let G : List PieceView → Type 0 = λ w. Stands t w → Simulates t n 0 (source.condition t.unit true e held failed ++ items) w in
       from_piece s r rest p (Mark l) _ ps G m
       (λ b1 m1. from_work s r rest p (jobs.Condition e (decided (record { yes = l + 1; no = l + 2 }) 0)) _ b1 (λ w. G (Mark l ∷ w)) none m1
       (λ fc pc b2 mc none_c m2. from_piece s r rest pc (Mark (l + 1)) _ b2 (λ w. G (Mark l ∷ (fc ++ w))) m2
@@ -225,9 +225,9 @@ module _ (s : SettingView) (t : Activation) (fits : IsOfUnit t s) (g : FunctionV
       let to_no = led s t fits (l + 2) (l + 4) (l + 4) (fb ++ Mark (l + 3) ∷ rest) (below l 2 4 two_four) (itself (l + 4)) few at_no in
       let to_last = led s t fits (l + 3) (l + 4) (l + 4) rest (below l 3 4 three_four) (itself (l + 4)) few at_last in
       let at_begin = kept_one s p (jobs.Condition e (decided (record { yes = l + 1; no = l + 2 }) 0)) fc pc tt none mc ∙ begun in
-      let on_no = two.from pa none_a (one.ends pc none_c at_begin fa pa ma) fb pb mb (known_between s t pb _ _ r m7 known) items (Mark (l + 3) ∷ rest) at_b k (follows.by_mark n 0 (l + 3) items rest f) in
+      let on_no = two.from pa none_a (one.ends pc none_c at_begin fa pa ma) fb pb mb (known_between s t pb _ _ r m7 known) items (Mark (l + 3) ∷ rest) at_b k (simulates.by_mark n 0 (l + 3) items rest f) in
       let on_yes = one.from pc none_c at_begin fa pa ma (known_between s t pa _ _ r m4 known) (item.Hop ∷ items) (q ∷ (Mark (l + 2) ∷ (fb ++ Mark (l + 3) ∷ rest))) at_a (onwards items k) (hops s t fits n 0 (l + 3) items (Mark (l + 2) ∷ (fb ++ Mark (l + 3) ∷ rest)) rest to_last f) in
-      follows.by_mark n 0 l _ _
+      simulates.by_mark n 0 l _ _
       (decides p none fc pc mc (known_between s t pc _ _ r m2 known) held failed items (Mark (l + 1) ∷ (fa ++ q ∷ (Mark (l + 2) ∷ (fb ++ Mark (l + 3) ∷ rest)))) (fa ++ q ∷ (Mark (l + 2) ∷ (fb ++ Mark (l + 3) ∷ rest))) (fb ++ Mark (l + 3) ∷ rest) at_c to_yes to_no on_yes on_no)))))))))) stands
 
   else_ends : (n : ℕ) (e : TermTree) (body other : StatementTree) (around : Surroundings) (c middle last : Position) (l : ℕ) (K L : List Item → Type 0) → Goes s t n c middle L (jobs.Statement body around ∷ []) (item.Statement body ∷ []) → Goes s t n middle last K (jobs.Statement other around ∷ []) (item.Statement other ∷ []) → Counts s c last (two_way_jobs s.at e (jobs.Statement body around) (jobs.Statement other around) 0 l)

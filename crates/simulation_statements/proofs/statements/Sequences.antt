@@ -13,10 +13,10 @@ use Rattle.lower_templates.specs.declared.worklist.pending_works.Surroundings.{S
 use Rattle.lower_functions.specs.Statements.PlainStatements.{all_statements}
 use Rattle.semantics.specs.SourceMachine.Items as item
 use Rattle.semantics.specs.SourceMachine.Items.{Item}
-use Rattle.semantics.specs.SourceMachine.Scopes.{open_scopes, behind_loop, behind_turn}
+use Rattle.semantics.specs.SourceMachine.Scopes.{open_scopes, past_loop, past_iteration}
 use Rattle.semantics.specs.SourceMachine.StatementItems.{statements}
 use Rattle.simulation_terms.specs.SimulationRelation.Activations.{Activation}
-use Rattle.simulation_terms.specs.SimulationRelation.Follows.{own}
+use Rattle.simulation_terms.specs.SimulationRelation.Simulates.{own}
 use Rattle.simulation_terms.specs.Worklists.TemplateParts.{IsOfUnit}
 use Rattle.simulation_terms.proofs.worklists.Assignments.{nothing_done}
 use Rattle.simulation_terms.specs.Scopes.Scopes.{HasScopes, AllHaveScopes}
@@ -50,9 +50,9 @@ listed (tree.And first rest) around p =
 
 pub quiet_within : (s : SettingView) (t : Activation) (n : ℕ) (around : Surroundings) (looping : Enclosure) (known : List ℕ) (xs items : List Item) → IsQuiet xs → Within s t n around looping known items → Within s t n around looping known (xs ++ items)
 quiet_within s t n around looping known xs items quiet k =
-    subst (λ ys. Context s t n around looping known ys (behind_loop (xs ++ items)) (behind_turn (xs ++ items))) (sym (quiet.scopes items))
-    (subst (λ ys. Context s t n around looping known (open_scopes items) ys (behind_turn (xs ++ items))) (sym (quiet.after_loop items))
-    (subst (λ ys. Context s t n around looping known (open_scopes items) (behind_loop items) ys) (sym (quiet.after_turn items)) k))
+    subst (λ ys. Context s t n around looping known ys (past_loop (xs ++ items)) (past_iteration (xs ++ items))) (sym (quiet.scopes items))
+    (subst (λ ys. Context s t n around looping known (open_scopes items) ys (past_iteration (xs ++ items))) (sym (quiet.after_loop items))
+    (subst (λ ys. Context s t n around looping known (open_scopes items) (past_loop items) ys) (sym (quiet.after_turn items)) k))
 
 -- the scopes and the switches of a statement stand in the tree
 abbrev pub HasParts : SettingView → StatementTree → ℕ → Position → Type 0

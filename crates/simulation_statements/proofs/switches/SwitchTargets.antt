@@ -15,8 +15,8 @@ use Rattle.semantics.specs.SourceMachine.Items.{Item, Select}
 use Rattle.semantics.specs.SourceMachine.LabelSearch.{Sought, case, case_of}
 use Rattle.semantics.specs.TemplateMachine.TemplateExits.{exit_taken}
 use Rattle.simulation_terms.specs.SimulationRelation.Activations.{Activation}
-use Rattle.simulation_terms.specs.SimulationRelation.Follows as follows
-use Rattle.simulation_terms.specs.SimulationRelation.Follows.{SameSwitched, SameCase, Follows}
+use Rattle.simulation_terms.specs.SimulationRelation.Simulates as simulates
+use Rattle.simulation_terms.specs.SimulationRelation.Simulates.{SameSwitched, SameCase, Simulates}
 use Rattle.simulation_terms.proofs.simulation_relation.Constructions.{gives_select}
 use Rattle.simulation_statements.specs.Switches.ValueEdges.{AreArms, HasEdge, of_case, of_none}
 use Rattle.simulation_statements.specs.Switches.SwitchTargets.{IsTarget, HasTargets}
@@ -37,17 +37,17 @@ module _ (t : Activation) (n d : ℕ) (object : Option NamedObject) (base : Opti
   chosen : (value : ℤ) (exits : List ExitView) (l : Sought) → HasEdge arms base fallback (values cases) 0 value exits l → IsChosen value exits l
   chosen value exits _ (of_case i a there takes) =
       subst (λ k. IsChosen value exits (case k)) (from_none i)
-      (record { way = Case (record { value = value; object = base }); label = a.to; same_case = follows.matched i base same; takes = takes; target = targets.cases i a there })
-  chosen value exits _ (of_none takes) = record { way = Other (values cases); label = fallback; same_case = follows.unmatched (values cases); takes = takes; target = targets.others }
+      (record { way = Case (record { value = value; object = base }); label = a.to; same_case = simulates.matched i base same; takes = takes; target = targets.cases i a there })
+  chosen value exits _ (of_none takes) = record { way = Other (values cases); label = fallback; same_case = simulates.unmatched (values cases); takes = takes; target = targets.others }
 
-  pub follows_by : (at : Place) (kind : IntType) (ps : List PieceView) → AreArms cases arms → Follows t n (suc d) (Select at object cases body ∷ items) (End (record { at = at; does = Switch d kind }) (dispatch_exits arms cases base fallback) ∷ ps)
-  follows_by at kind ps are =
+  pub simulates_by : (at : Place) (kind : IntType) (ps : List PieceView) → AreArms cases arms → Simulates t n (suc d) (Select at object cases body ∷ items) (End (record { at = at; does = Switch d kind }) (dispatch_exits arms cases base fallback) ∷ ps)
+  simulates_by at kind ps are =
       let exits = dispatch_exits arms cases base fallback in
       let choice : (value : ℤ) → IsChosen value exits (case_of cases 0 value) = λ value. chosen value exits (case_of cases 0 value) (has_edge cases arms base fallback are value) in
       gives_select n d at kind object cases body items exits ps
       (λ value. record { way = (choice value).way; label = (choice value).label; to = (choice value).target.to; there = (choice value).target.there; same = (choice value).same_case; lands = (choice value).target.lands; takes = (choice value).takes; leads = (choice value).target.leads })
-      (λ value. (choice value).target.follows)
+      (λ value. (choice value).target.simulates)
 
-pub switch_follows : (t : Activation) (n d : ℕ) (at : Place) (kind : IntType) (object : Option NamedObject) (base : Option ℕ) (cases : List CaseLabel) (arms : List CaseArm) (fallback : ℕ) (body : StatementTree) (items : List Item) (ps : List PieceView) → AreArms cases arms → SameSwitched t object base → HasTargets t n d body items arms fallback
-    → Follows t n (suc d) (Select at object cases body ∷ items) (End (record { at = at; does = Switch d kind }) (dispatch_exits arms cases base fallback) ∷ ps)
-switch_follows t n d at kind object base cases arms fallback body items ps are same targets = follows_by t n d object base cases arms fallback body items same targets at kind ps are
+pub switch_simulates : (t : Activation) (n d : ℕ) (at : Place) (kind : IntType) (object : Option NamedObject) (base : Option ℕ) (cases : List CaseLabel) (arms : List CaseArm) (fallback : ℕ) (body : StatementTree) (items : List Item) (ps : List PieceView) → AreArms cases arms → SameSwitched t object base → HasTargets t n d body items arms fallback
+    → Simulates t n (suc d) (Select at object cases body ∷ items) (End (record { at = at; does = Switch d kind }) (dispatch_exits arms cases base fallback) ∷ ps)
+switch_simulates t n d at kind object base cases arms fallback body items ps are same targets = simulates_by t n d object base cases arms fallback body items same targets at kind ps are

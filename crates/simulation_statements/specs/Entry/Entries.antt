@@ -10,7 +10,7 @@ use Rattle.semantics.specs.SourceMachine.SourceStates.{function_at}
 use Rattle.semantics.specs.TemplateMachine.TemplateStates.{Templates}
 use Rattle.semantics.specs.TemplateMachine.TemplateSteps.{template_begin, steps_from}
 use Rattle.simulation_terms.specs.SmallSteps.Alike.{Agree}
-use Rattle.simulation_terms.specs.SimulationRelation.Follows.{CallsThere, Reached, AllFollow}
+use Rattle.simulation_terms.specs.SimulationRelation.Simulates.{CallsThere, Reached, AllSimulate}
 use Rattle.simulation_terms.specs.Scopes.Chains.{AreApart}
 use Rattle.simulation_terms.specs.Scopes.SuitedStatements.{not_enclosed, AllSuitIn}
 
@@ -35,9 +35,9 @@ abbrev pub EntryIsNotCalled : Templates → Type 0
 EntryIsNotCalled t = (h : ℕ) → Reached t h → CallsThere (t.of h).pieces t.unit.entry → ⊥
 
 -- each function that a reached one calls follows in its template
-abbrev pub FunctionsAreFollowed : Type 0
-FunctionsAreFollowed = (t : Templates) → EntryIsNotCalled t → AreMade t → AllFollow t
+abbrev pub FunctionsAreSimulated : Type 0
+FunctionsAreSimulated = (t : Templates) → EntryIsNotCalled t → AreMade t → AllSimulate t
 
 -- each run of the unit is one of the templates of its functions
-abbrev pub EntriesAreFollowed : Type 0
-EntriesAreFollowed = (t : Templates) (f : FunctionView) → IsEntry t f → EntryIsNotCalled t → AreMade t → (draws : List ℤ) (turns : ℕ) → (steps : ℕ) × Agree (Run t.unit draws turns) (steps_from t steps (template_begin t draws))
+abbrev pub EntriesAreSimulated : Type 0
+EntriesAreSimulated = (t : Templates) (f : FunctionView) → IsEntry t f → EntryIsNotCalled t → AreMade t → (draws : List ℤ) (turns : ℕ) → (steps : ℕ) × Agree (Run t.unit draws turns) (steps_from t steps (template_begin t draws))

@@ -15,7 +15,7 @@ use Rattle.semantics.specs.SourceMachine.LabelSearch.{from_label}
 use Rattle.semantics.specs.SourceMachine.Scopes.{open_scopes}
 use Rattle.semantics.specs.SourceMachine.SourceStates.{function_at}
 use Rattle.simulation_terms.specs.SimulationRelation.Activations.{Activation}
-use Rattle.simulation_terms.specs.SimulationRelation.Follows.{Leads, Follows}
+use Rattle.simulation_terms.specs.SimulationRelation.Simulates.{Leads, Simulates}
 use Rattle.simulation_terms.specs.Worklists.TemplateParts.{IsOfUnit, IsKnown, Stands}
 use Rattle.simulation_terms.specs.Scopes.Scopes.{IsScope, AllHaveScopes}
 use Rattle.simulation_terms.specs.Scopes.Chains.{Chain, AreApart}
@@ -34,6 +34,6 @@ pub record HasLabels (t : Activation) (s : SettingView) (f : FunctionView) : Typ
   pub found : (l : ℕ) → HasLabel f l → IsThere (from_label t.unit f l)
 
 -- where a label lies for some turns, a `goto` follows for two more
-abbrev pub GotosFollow : Type 0
-GotosFollow = (t : Activation) (s : SettingView) → IsOfUnit t s → (f : FunctionView) → HasLabels t s f → (n l : ℕ) (around : Surroundings) (items to : List Item) (there : List PieceView) → Chain s around.scope (open_scopes items) → l < f.labels → from_label t.unit f l ≡ Some to → Leads t l there → Follows t n 0 to there
-    → (p : Plan) → p.jobs ≡ [] → (ps : List PieceView) (r : Plan) → Makes s p (jobs.Statement (Goto l) around ∷ []) ps r → IsKnown t r → (rest : List PieceView) → Stands t (ps ++ rest) → Follows t (suc (suc n)) 0 (Statement (Goto l) ∷ items) (ps ++ rest)
+abbrev pub GotosSimulate : Type 0
+GotosSimulate = (t : Activation) (s : SettingView) → IsOfUnit t s → (f : FunctionView) → HasLabels t s f → (n l : ℕ) (around : Surroundings) (items to : List Item) (there : List PieceView) → Chain s around.scope (open_scopes items) → l < f.labels → from_label t.unit f l ≡ Some to → Leads t l there → Simulates t n 0 to there
+    → (p : Plan) → p.jobs ≡ [] → (ps : List PieceView) (r : Plan) → Makes s p (jobs.Statement (Goto l) around ∷ []) ps r → IsKnown t r → (rest : List PieceView) → Stands t (ps ++ rest) → Simulates t (suc (suc n)) 0 (Statement (Goto l) ∷ items) (ps ++ rest)

@@ -14,7 +14,7 @@ use Rattle.semantics.specs.SourceMachine.Items.{Item, Select}
 use Rattle.semantics.specs.SourceMachine.LabelSearch.{Sought, case, other, found}
 use Rattle.semantics.specs.SourceMachine.Scopes.{leap_in}
 use Rattle.simulation_terms.specs.SimulationRelation.Activations.{Activation}
-use Rattle.simulation_terms.specs.SimulationRelation.Follows.{Leads, SameSwitched, Follows}
+use Rattle.simulation_terms.specs.SimulationRelation.Simulates.{Leads, SameSwitched, Simulates}
 use Rattle.simulation_statements.specs.Switches.ValueEdges.{AreArms}
 
 -- a label of a switch and that of its edge: where the source goes on follows behind it
@@ -23,7 +23,7 @@ pub record IsTarget (t : Activation) (n d : ℕ) (body : StatementTree) (items :
   pub there : List PieceView
   pub lands : landing l (found t.unit l body items) items ≡ Some to
   pub leads : Leads t label there
-  pub follows : Follows t n d (leap_in items to) there
+  pub simulates : Simulates t n d (leap_in items to) there
 
 -- each case has its target, and so have all other values
 pub record HasTargets (t : Activation) (n d : ℕ) (body : StatementTree) (items : List Item) (arms : List CaseArm) (fallback : ℕ) : Type 0 where
@@ -31,6 +31,6 @@ pub record HasTargets (t : Activation) (n d : ℕ) (body : StatementTree) (items
   pub others : IsTarget t n d body items other fallback
 
 -- then the switch follows in the piece that dispatches
-abbrev pub SwitchesFollow : Type 0
-SwitchesFollow = (t : Activation) (n d : ℕ) (at : Place) (kind : IntType) (object : Option NamedObject) (base : Option ℕ) (cases : List CaseLabel) (arms : List CaseArm) (fallback : ℕ) (body : StatementTree) (items : List Item) (ps : List PieceView) → AreArms cases arms → SameSwitched t object base → HasTargets t n d body items arms fallback
-    → Follows t n (suc d) (Select at object cases body ∷ items) (End (record { at = at; does = Switch d kind }) (dispatch_exits arms cases base fallback) ∷ ps)
+abbrev pub SwitchesSimulate : Type 0
+SwitchesSimulate = (t : Activation) (n d : ℕ) (at : Place) (kind : IntType) (object : Option NamedObject) (base : Option ℕ) (cases : List CaseLabel) (arms : List CaseArm) (fallback : ℕ) (body : StatementTree) (items : List Item) (ps : List PieceView) → AreArms cases arms → SameSwitched t object base → HasTargets t n d body items arms fallback
+    → Simulates t n (suc d) (Select at object cases body ∷ items) (End (record { at = at; does = Switch d kind }) (dispatch_exits arms cases base fallback) ∷ ps)

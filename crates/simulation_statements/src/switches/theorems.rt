@@ -1,5 +1,5 @@
 //! The label that a value selects, and the edge of the pieces that is taken with it.
-ghost use Rattle.simulation_statements.specs.Switches.SwitchTargets.{SwitchesFollow};
+ghost use Rattle.simulation_statements.specs.Switches.SwitchTargets.{SwitchesSimulate};
 ghost use Rattle.simulation_statements.specs.Switches.ValueEdges.{ValuesHaveEdges};
 
 /// Where a switch has an arm for each of its case labels, a value takes the edge of the case that it selects, the first
@@ -10,6 +10,6 @@ pub fn values_have_edges()
 
 /// Where behind the edge of each case, and behind that of all other values, follows what the source goes on with, the
 /// switch follows in the piece that dispatches.
-pub fn switches_follow()
-    ensures { SwitchesFollow }
+pub fn switches_simulate()
+    ensures { SwitchesSimulate }
 {}

@@ -16,7 +16,7 @@ use Rattle.semantics.specs.CfgMachine.FlowStates.{and_value, values_of}
 use Rattle.semantics.specs.CfgMachine.FlowActs.{calling}
 use Rattle.semantics.specs.SourceMachine.Operations as op
 use Rattle.semantics.specs.SourceMachine.Operations.{newest, target_size, pushing_result}
-use Rattle.semantics.specs.TemplateMachine.TemplateStates.{Templates, Standing}
+use Rattle.semantics.specs.TemplateMachine.TemplateStates.{Templates, TemplateState}
 use Rattle.semantics.specs.TemplateMachine.TemplateActs.{in_flow, from_flow, perform}
 use Rattle.simulation_terms.specs.Instructions.Acts as acts
 use Rattle.simulation_terms.specs.Instructions.Acts.{Holds, SameReply, temps_from, behind_call}
@@ -88,13 +88,13 @@ results m wanted f.Abort arguments w = stopped false _ _
 results m wanted function arguments w = some_result _
 
 module _ (t : Templates) where
-  put_result : (s : Standing) (d : ℕ) (vs : List Scalar) (b : Bool) (reply : Reply (Option Scalar)) → Holds vs s.temps → length vs ≡ d → Results b reply
+  put_result : (s : TemplateState) (d : ℕ) (vs : List Scalar) (b : Bool) (reply : Reply (Option Scalar)) → Holds vs s.temps → length vs ≡ d → Results b reply
       → SameReply s (cond b (suc d) d) (pushing_result vs reply) (behind (calling (in_flow s) (cond b (Some d) None) reply) (from_flow s))
   put_result s d vs _ _ holds e (some v w) = acts.both_go (v ∷ vs) (put_at s.temps d v) w (subst (λ k. Holds (v ∷ vs) (put_at s.temps k v)) e (holds_put v vs s.temps holds)) (ap (λ k. suc k) e)
   put_result s d vs _ _ holds e (nothing w) = acts.both_go vs s.temps w holds e
   put_result s d vs _ _ holds e (stopped b why w) = acts.both_stop why w
 
-  pub calls_agree : (function : LibFn) (d count : ℕ) (target : Option Ty) (site : Option ℕ) (vs : List Scalar) (s : Standing) → Holds vs s.temps → length vs ≡ d + count
+  pub calls_agree : (function : LibFn) (d count : ℕ) (target : Option Ty) (site : Option ℕ) (vs : List Scalar) (s : TemplateState) → Holds vs s.temps → length vs ≡ d + count
       → SameReply s (behind_call function d) (op.perform t.unit (op.Library function count target) vs s.world) (perform t (act.Library (result_temp function d) function (temps_from d count) site (target_size t.unit target)) s)
   calls_agree function d count target site vs s holds e =
       let rest = below vs s.temps d count holds e in

@@ -9,9 +9,9 @@ use Rattle.lower_functions.specs.Statements.PlainStatements.{in_scope}
 use Rattle.lower_functions.specs.Statements.Loops.{in_loop}
 use Rattle.semantics.specs.SourceMachine.Items as item
 use Rattle.semantics.specs.SourceMachine.Items.{Item}
-use Rattle.semantics.specs.SourceMachine.Scopes.{is_in, all_of, open_scopes, without, inwards, behind_loop, behind_turn}
+use Rattle.semantics.specs.SourceMachine.Scopes.{is_in, all_of, open_scopes, without, inwards, past_loop, past_iteration}
 use Rattle.simulation_terms.specs.SimulationRelation.Activations.{Activation}
-use Rattle.simulation_terms.specs.SimulationRelation.Follows.{Leads, Follows}
+use Rattle.simulation_terms.specs.SimulationRelation.Simulates.{Leads, Simulates}
 use Rattle.simulation_terms.specs.Scopes.Scopes.{IsScope}
 use Rattle.simulation_terms.specs.Scopes.SuitedStatements.{AreNew, Enclosure, by_loop}
 use Rattle.simulation_terms.specs.Scopes.Chains as chains
@@ -89,7 +89,7 @@ module _ (s : SettingView) (t : Activation) where
         within = λ x e. in_more x objects (all_of scopes) (l.within x e);
         there = l.there;
         leads = l.leads;
-        follows = l.follows;
+        simulates = l.simulates;
       }
 
   pub in_block : (n : ℕ) (around : Surroundings) (looping : Enclosure) (known objects : List ℕ) (number : ℕ) (items : List Item) → AreNew objects known → IsScope s number around.scope objects → Within s t n around looping known items → Within s t n (in_scope around number) looping (objects ++ known) (item.Leaves objects ∷ items)
@@ -97,13 +97,13 @@ module _ (s : SettingView) (t : Activation) where
     within = λ x e. in_either x objects (all_of (open_scopes items)) known (k.within x) e;
     chain = chains.inside number around.scope objects (open_scopes items) is k.chain;
     labels = k.labels;
-    on_break = λ e. lands_inside n known objects (open_scopes items) (behind_loop items) around.scope number around.on_break k.within new is (k.on_break e);
-    on_continue = λ e. lands_inside n known objects (open_scopes items) (behind_turn items) around.scope number around.on_continue k.within new is (k.on_continue e);
+    on_break = λ e. lands_inside n known objects (open_scopes items) (past_loop items) around.scope number around.on_break k.within new is (k.on_break e);
+    on_continue = λ e. lands_inside n known objects (open_scopes items) (past_iteration items) around.scope number around.on_continue k.within new is (k.on_continue e);
   }
 
   -- ---- loops
 
-  lands_here : (n : ℕ) (scopes : List (List ℕ)) (to : List Item) (from l : ℕ) (there : List PieceView) → open_scopes to ≡ scopes → Leads t l there → Follows t n 0 to there → Lands s t n scopes to from (record { label = l; scope = from })
+  lands_here : (n : ℕ) (scopes : List (List ℕ)) (to : List Item) (from l : ℕ) (there : List PieceView) → open_scopes to ≡ scopes → Leads t l there → Simulates t n 0 to there → Lands s t n scopes to from (record { label = l; scope = from })
   lands_here n scopes to from l there same leads f = record {
     objects = [];
     up = contexts.here from;
@@ -112,15 +112,15 @@ module _ (s : SettingView) (t : Activation) where
     within = λ x e. subst (λ xs. is_in x (all_of xs) ≡ true) same e;
     there = there;
     leads = leads;
-    follows = f;
+    simulates = f;
   }
 
   -- in the body of a loop, behind which such items are left: its ends stand where control goes on
-  pub in_body : (n : ℕ) (around : Surroundings) (looping : Enclosure) (known : List ℕ) (items inside turn : List Item) (on_break on_continue : ℕ) (behind back : List PieceView) → open_scopes inside ≡ open_scopes items → open_scopes turn ≡ open_scopes items → behind_loop inside ≡ items → behind_turn inside ≡ turn
-      → Leads t on_break behind → Leads t on_continue back → Follows t n 0 items behind → Follows t n 0 turn back → Within s t n around looping known items → Within s t n (in_loop around on_break on_continue) by_loop known inside
+  pub in_body : (n : ℕ) (around : Surroundings) (looping : Enclosure) (known : List ℕ) (items inside turn : List Item) (on_break on_continue : ℕ) (behind back : List PieceView) → open_scopes inside ≡ open_scopes items → open_scopes turn ≡ open_scopes items → past_loop inside ≡ items → past_iteration inside ≡ turn
+      → Leads t on_break behind → Leads t on_continue back → Simulates t n 0 items behind → Simulates t n 0 turn back → Within s t n around looping known items → Within s t n (in_loop around on_break on_continue) by_loop known inside
   in_body n around looping known items inside turn on_break on_continue behind back same also after_loop after_turn to_break to_continue f g k =
-      subst (λ scopes. Context s t n (in_loop around on_break on_continue) by_loop known scopes (behind_loop inside) (behind_turn inside)) (sym same)
-      (subst (λ xs. Context s t n (in_loop around on_break on_continue) by_loop known (open_scopes items) xs (behind_turn inside)) (sym after_loop)
+      subst (λ scopes. Context s t n (in_loop around on_break on_continue) by_loop known scopes (past_loop inside) (past_iteration inside)) (sym same)
+      (subst (λ xs. Context s t n (in_loop around on_break on_continue) by_loop known (open_scopes items) xs (past_iteration inside)) (sym after_loop)
       (subst (λ xs. Context s t n (in_loop around on_break on_continue) by_loop known (open_scopes items) items xs) (sym after_turn)
       (record {
         within = k.within;

@@ -12,7 +12,7 @@ use Rattle.lower_template_theorems.proofs.worklists.Derivations.{parted}
 use Rattle.lower_template_theorems.proofs.growth.GrowingWorks.{grows, jobs_none}
 use Rattle.semantics.specs.SourceMachine.Items.{Item}
 use Rattle.simulation_terms.specs.SimulationRelation.Activations.{Activation}
-use Rattle.simulation_terms.specs.SimulationRelation.Follows.{Follows}
+use Rattle.simulation_terms.specs.SimulationRelation.Simulates.{Simulates}
 use Rattle.simulation_terms.proofs.simulation_relation.FewerTurns.{less}
 use Rattle.simulation_terms.specs.Worklists.TemplateParts.{IsKnown, Stands}
 use Rattle.simulation_terms.proofs.worklists.Runs.{Runs, known_before, stands_behind, opened, joined, split}
@@ -26,10 +26,10 @@ module _ (s : SettingView) (t : Activation) where
   -- ---- fewer turns
 
   lands_less : (n : ℕ) (scopes : List (List ℕ)) (to : List Item) (from : ℕ) (landing : Landing) → Lands s t (suc n) scopes to from landing → Lands s t n scopes to from landing
-  lands_less n scopes to from landing l = record { objects = l.objects; up = l.up; leaves = l.leaves; stays = l.stays; within = l.within; there = l.there; leads = l.leads; follows = less n 0 to l.there l.follows }
+  lands_less n scopes to from landing l = record { objects = l.objects; up = l.up; leaves = l.leaves; stays = l.stays; within = l.within; there = l.there; leads = l.leads; simulates = less n 0 to l.there l.simulates }
 
   pub reaches_less : (n l : ℕ) (to : List Item) → Reaches t (suc n) l to → Reaches t n l to
-  reaches_less n l to x = record { there = x.there; leads = x.leads; follows = less n 0 to x.there x.follows }
+  reaches_less n l to x = record { there = x.there; leads = x.leads; simulates = less n 0 to x.there x.simulates }
 
   pub labels_less : (n : ℕ) → LabelsReachBefore t (suc n) → LabelsReachBefore t n
   labels_less zero all = tt
@@ -48,7 +48,7 @@ module _ (s : SettingView) (t : Activation) where
 
   -- so many scopes were begun before and are begun behind, and something is known of the items behind
   abbrev pub GoesFrom : ℕ → Position → (List Item → Type 0) → Plan → List Job → List Item → Type 0
-  GoesFrom n last K p js is = (ps : List PieceView) (r : Plan) → Makes s p js ps r → IsKnown t r → (items : List Item) (rest : List PieceView) → Stands t (ps ++ rest) → K items → Follows t n 0 items rest → Follows t n 0 (is ++ items) (ps ++ rest)
+  GoesFrom n last K p js is = (ps : List PieceView) (r : Plan) → Makes s p js ps r → IsKnown t r → (items : List Item) (rest : List PieceView) → Stands t (ps ++ rest) → K items → Simulates t n 0 items rest → Simulates t n 0 (is ++ items) (ps ++ rest)
 
   pub record Goes (n : ℕ) (first last : Position) (K : List Item → Type 0) (js : List Job) (is : List Item) : Type 0 where
     pub from : (p : Plan) → p.jobs ≡ [] → position p ≡ first → GoesFrom n last K p js is
@@ -72,14 +72,14 @@ module _ (s : SettingView) (t : Activation) where
         let grown = grows s x.between ks x.back r x.second in
         let later = other.from x.between (jobs_none s p js x.front x.between x.first none) (one.ends p none begun x.front x.between x.first) x.back r x.second known items rest (stands_behind t x.front (x.back ++ rest) here) k f in
         let all = one.from p none begun x.front x.between x.first (known_before t x.between r grown known) (hs ++ items) (x.back ++ rest) here (onwards items k) later in
-        joined s t n 0 ((is ++ hs) ++ items) ps x.front x.back rest x.all (subst (λ xs. Follows t n 0 xs (x.front ++ (x.back ++ rest))) (sym (append_assoc is hs items)) all);
+        joined s t n 0 ((is ++ hs) ++ items) ps x.front x.back rest x.all (subst (λ xs. Simulates t n 0 xs (x.front ++ (x.back ++ rest))) (sym (append_assoc is hs items)) all);
     ends = λ p none begun ps r m.
         let x = parted s p js ks ps r m in
         other.ends x.between (jobs_none s p js x.front x.between x.first none) (one.ends p none begun x.front x.between x.first) x.back r x.second;
   }
 
   -- a statement gives way to its parts
-  pub gives_way : (n : ℕ) (first last : Position) (K : List Item → Type 0) (j : Job) (i : Item) (is : List Item) → is_piece j ≡ false → ((items : List Item) (ps : List PieceView) → Follows t n 0 (is ++ items) ps → Follows t n 0 (i ∷ items) ps)
+  pub gives_way : (n : ℕ) (first last : Position) (K : List Item → Type 0) (j : Job) (i : Item) (is : List Item) → is_piece j ≡ false → ((items : List Item) (ps : List PieceView) → Simulates t n 0 (is ++ items) ps → Simulates t n 0 (i ∷ items) ps)
       → ((p : Plan) → p.jobs ≡ [] → position p ≡ first → GoesFrom n last K (planless (parts s j p)) (parts s j p).jobs is)
       → ((p : Plan) → p.jobs ≡ [] → position p ≡ first → (ps : List PieceView) (r : Plan) → Makes s (planless (parts s j p)) (parts s j p).jobs ps r → position r ≡ last)
       → Goes n first last K (j ∷ []) (i ∷ [])

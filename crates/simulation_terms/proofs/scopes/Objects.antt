@@ -13,8 +13,8 @@ use Rattle.lower_functions.specs.Statements.ScopeJumps.{entered, left, all_enter
 use Rattle.semantics.specs.SourceMachine.Items as item
 use Rattle.semantics.specs.SourceMachine.Items.{Item}
 use Rattle.simulation_terms.specs.SimulationRelation.Activations.{Activation}
-use Rattle.simulation_terms.specs.SimulationRelation.Follows as follows
-use Rattle.simulation_terms.specs.SimulationRelation.Follows.{Names, Follows, at_place, own}
+use Rattle.simulation_terms.specs.SimulationRelation.Simulates as simulates
+use Rattle.simulation_terms.specs.SimulationRelation.Simulates.{Names, Simulates, at_place, own}
 use Rattle.simulation_terms.proofs.simulation_relation.Constructions.{gives_enter, gives_leave, gives_no_enters, gives_no_leaves}
 use Rattle.simulation_terms.specs.Worklists.TemplateParts.{IsOfUnit, IsKnown, Stands}
 use Rattle.simulation_terms.proofs.worklists.Runs.{Runs, headed, none_made, stands_after}
@@ -84,16 +84,16 @@ named_from t q before (x ∷ xs) after known e =
 
 module _ (s : SettingView) (t : Activation) (fits : IsOfUnit t s) (n : ℕ) where
   -- a piece before others, where it gives one item for another
-  pub piece_before : (q : PieceView) (js : List Job) (is hs : List Item) (d middle next : ℕ) → ((items : List Item) (w : List PieceView) → Follows t n middle (hs ++ items) w → Follows t n d (is ++ items) (q ∷ w)) → Runs s t n js hs middle next → Runs s t n (jobs.Ready q ∷ js) is d next
+  pub piece_before : (q : PieceView) (js : List Job) (is hs : List Item) (d middle next : ℕ) → ((items : List Item) (w : List PieceView) → Simulates t n middle (hs ++ items) w → Simulates t n d (is ++ items) (q ∷ w)) → Runs s t n js hs middle next → Runs s t n (jobs.Ready q ∷ js) is d next
   piece_before q js is hs d middle next gives runs = record {
     from = λ p none ps r m known items rest stands f.
         let x = headed s p q js ps r m in
         let here = subst (λ xs. Stands t (xs ++ rest)) x.is stands in
-        subst (λ xs. Follows t n d (is ++ items) (xs ++ rest)) (sym x.is) (gives items (x.back ++ rest) (runs.from p none x.back r x.made known items rest (stands_after t q (x.back ++ rest) here) f));
+        subst (λ xs. Simulates t n d (is ++ items) (xs ++ rest)) (sym x.is) (gives items (x.back ++ rest) (runs.from p none x.back r x.made known items rest (stands_after t q (x.back ++ rest) here) f));
   }
 
-  empty_runs : (is : List Item) (d : ℕ) → ((items : List Item) (w : List PieceView) → Follows t n d items w → Follows t n d (is ++ items) w) → Runs s t n [] is d d
-  empty_runs is d gives = record { from = λ p none ps r m known items rest stands f. subst (λ xs. Follows t n d (is ++ items) (xs ++ rest)) (sym (none_made s p ps r m)) (gives items rest f) }
+  empty_runs : (is : List Item) (d : ℕ) → ((items : List Item) (w : List PieceView) → Simulates t n d items w → Simulates t n d (is ++ items) w) → Runs s t n [] is d d
+  empty_runs is d gives = record { from = λ p none ps r m known items rest stands f. subst (λ xs. Simulates t n d (is ++ items) (xs ++ rest)) (sym (none_made s p ps r m)) (gives items rest f) }
 
   -- objects are entered
   pub enters : (xs : List ℕ) (base d : ℕ) → NamedFrom t base xs → Runs s t n (object_jobs act.Enter (own t) xs base) (item.Enters xs ∷ []) d d
@@ -107,4 +107,4 @@ module _ (s : SettingView) (t : Activation) (fits : IsOfUnit t s) (n : ℕ) wher
 
   -- a label
   pub marks : (l d : ℕ) → Runs s t n (jobs.Ready (Mark l) ∷ []) [] d d
-  marks l d = piece_before (Mark l) [] [] [] d d d (λ items w f. follows.by_mark n d l items w f) (empty_runs [] d (λ items w f. f))
+  marks l d = piece_before (Mark l) [] [] [] d d d (λ items w f. simulates.by_mark n d l items w f) (empty_runs [] d (λ items w f. f))

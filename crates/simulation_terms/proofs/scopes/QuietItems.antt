@@ -7,7 +7,7 @@ use Rattle.lower_conditions.specs.Conditions.{ReadView, read_by}
 use Rattle.semantics.specs.SourceMachine.Items as item
 use Rattle.semantics.specs.SourceMachine.Items.{Item}
 use Rattle.semantics.specs.SourceMachine.ConditionItems as source
-use Rattle.semantics.specs.SourceMachine.Scopes.{open_scopes, behind_loop, behind_turn}
+use Rattle.semantics.specs.SourceMachine.Scopes.{open_scopes, past_loop, past_iteration}
 use Rattle.semantics.specs.SourceMachine.StatementItems.{statements}
 use Rattle.semantics.specs.SourceMachine.TermItems.{arguments}
 use Rattle.simulation_terms.specs.SimulationRelation.Activations.{Activation}
@@ -15,8 +15,8 @@ use Rattle.simulation_terms.specs.SimulationRelation.Activations.{Activation}
 -- nothing is opened or left by some items, and no end of a loop or turn is among them
 pub record IsQuiet (xs : List Item) : Type 0 where
   pub scopes : (items : List Item) → open_scopes (xs ++ items) ≡ open_scopes items
-  pub after_loop : (items : List Item) → behind_loop (xs ++ items) ≡ behind_loop items
-  pub after_turn : (items : List Item) → behind_turn (xs ++ items) ≡ behind_turn items
+  pub after_loop : (items : List Item) → past_loop (xs ++ items) ≡ past_loop items
+  pub after_turn : (items : List Item) → past_iteration (xs ++ items) ≡ past_iteration items
 
 pub statements_quiet : (rest : StatementTrees) → IsQuiet (statements rest)
 statements_quiet tree.NoMore = record { scopes = λ items. refl; after_loop = λ items. refl; after_turn = λ items. refl }

@@ -22,14 +22,14 @@ use Rattle.semantics.specs.SourceMachine.SourceSteps as turns
 use Rattle.semantics.specs.SourceMachine.SourceSteps.{is_entry}
 use Rattle.semantics.specs.SourceMachine.SourceRuns as source
 use Rattle.semantics.specs.TemplateMachine.TemplateStates as template
-use Rattle.semantics.specs.TemplateMachine.TemplateStates.{Templates, Standing}
+use Rattle.semantics.specs.TemplateMachine.TemplateStates.{Templates, TemplateState}
 use Rattle.semantics.specs.TemplateMachine.TemplateActs.{perform}
 use Rattle.semantics.specs.TemplateMachine.TemplateSteps as runs
 use Rattle.semantics.specs.TemplateMachine.TemplateSteps.{from_temp, up_to}
 use Rattle.simulation_terms.specs.Instructions.Acts.{Holds}
 use Rattle.simulation_terms.specs.SimulationRelation.Activations.{Activation, templates_of, activation}
-use Rattle.simulation_terms.specs.SimulationRelation.Follows as follows
-use Rattle.simulation_terms.specs.SimulationRelation.Follows.{pieces, Follows, AllFollow, IsCalled, CallsThere, Reached, behind_own}
+use Rattle.simulation_terms.specs.SimulationRelation.Simulates as simulates
+use Rattle.simulation_terms.specs.SimulationRelation.Simulates.{pieces, Simulates, AllSimulate, IsCalled, CallsThere, Reached, behind_own}
 use Rattle.simulation_terms.proofs.simulation_relation.FewerTurns.{less}
 use Rattle.simulation_terms.specs.SmallSteps.Alike as alike
 use Rattle.simulation_terms.specs.SmallSteps.Alike.{Waits, Alike, Next}
@@ -61,13 +61,13 @@ first_place place [] = place
 first_place place (f ∷ fs) = f.at
 
 -- the newest one waits at the same place, and uses the value in both machines or in none
-if_used_by : (t : Templates) (n : ℕ) (callers : List Frame) (below : List Scalar) (waiting : List template.Frame) → Waits t n callers below waiting → (caller : Frame) (others : List Frame) → callers ≡ caller ∷ others → (a : Act) (r : Standing)
+if_used_by : (t : Templates) (n : ℕ) (callers : List Frame) (below : List Scalar) (waiting : List template.Frame) → Waits t n callers below waiting → (caller : Frame) (others : List Frame) → callers ≡ caller ∷ others → (a : Act) (r : TemplateState)
     → runs.if_used t a r waiting ≡ cond caller.used (runs.instruction caller.at (perform t a r)) (runs.quiet r)
 if_used_by t n _ _ _ alike.none caller others is a r = absurd (not_empty caller others is)
 if_used_by t n _ _ _ (alike.more g names items vs temps ps at used callers below waiting reached f holds rest) caller others is a r =
     ap (λ b. cond b (runs.instruction at (perform t a r)) (runs.quiet r)) (ap first_used is) ∙ ap (λ place. cond caller.used (runs.instruction place (perform t a r)) (runs.quiet r)) (ap (first_place at) is)
 
-pub done_if_used : (t : Activation) (n : ℕ) (under : Below t n) (caller : Frame) (others : List Frame) → t.callers ≡ caller ∷ others → (a : Act) (r : Standing)
+pub done_if_used : (t : Activation) (n : ℕ) (under : Below t n) (caller : Frame) (others : List Frame) → t.callers ≡ caller ∷ others → (a : Act) (r : TemplateState)
     → runs.if_used (templates_of t) a r under.waiting ≡ cond caller.used (runs.instruction caller.at (perform (templates_of t) a r)) (runs.quiet r)
 done_if_used t n under caller others is a r = if_used_by (templates_of t) n t.callers under.values under.waiting under.waits caller others is a r
 
@@ -106,8 +106,8 @@ holds_newer (a ∷ args) vs temps (here, rest) = (subst (λ k. temps k ≡ Some 
     turned : (m n : ℕ) → m + n ≡ n + m
     turned m n = omega arith
 
-module _ (t : Activation) (n : ℕ) (under : Below t n) (all : AllFollow (templates_of t)) (names : ℕ → Option ℕ) (memory : Memory) (draws : List ℤ) (found also : List Violation) (count : ℕ) (old new : List Rule) (same : found ≡ also) where
-  pub called : (g : ℕ) (at : Place) (used : Bool) (f : FunctionView) (items : List Item) (temps : ℕ → Option Scalar) (ps : List PieceView) (ws : List Scalar) (d many : ℕ) → Parted ws d many → many ≡ f.parameters → IsCalled t.unit g used f → CallsThere (pieces t) g → Follows t n (behind_own used d) items ps → Holds ws temps
+module _ (t : Activation) (n : ℕ) (under : Below t n) (all : AllSimulate (templates_of t)) (names : ℕ → Option ℕ) (memory : Memory) (draws : List ℤ) (found also : List Violation) (count : ℕ) (old new : List Rule) (same : found ≡ also) where
+  pub called : (g : ℕ) (at : Place) (used : Bool) (f : FunctionView) (items : List Item) (temps : ℕ → Option Scalar) (ps : List PieceView) (ws : List Scalar) (d many : ℕ) → Parted ws d many → many ≡ f.parameters → IsCalled t.unit g used f → CallsThere (pieces t) g → Simulates t n (behind_own used d) items ps → Holds ws temps
       → Alike (templates_of t) n (source.running (record (src t n under names (item.Invoke at g many used ∷ items) ws memory draws) { world = record { memory = memory; draws = draws; violated = old } }) found count) (template.running (std t n under names (Call (record { place = at; function = g; depth = d; used = used }) ∷ ps) temps memory draws new) also)
       → Next (templates_of t) n (source.running (record (src t n under names (item.Invoke at g many used ∷ items) ws memory draws) { world = record { memory = memory; draws = draws; violated = old } }) found count) (source.turned_on found count (turns.turn_by t.unit (src t n under names (item.Invoke at g many used ∷ items) ws memory draws) (item.Invoke at g many used ∷ items)))
       (template.running (std t n under names (Call (record { place = at; function = g; depth = d; used = used }) ∷ ps) temps memory draws new) also)
@@ -118,9 +118,9 @@ module _ (t : Activation) (n : ℕ) (under : Below t n) (all : AllFollow (templa
       let caller : Frame = record { function = t.function; names = names; control = items; at = at; used = used } in
       let below = vs ++ under.values in
       let waiting : List template.Frame = record { function = t.function; rest = ps; temps = temps; names = names; depth = length vs; at = at; used = used } ∷ under.waiting in
-      let reached : Reached u g = follows.called t.function g under.reached stands in
+      let reached : Reached u g = simulates.called t.function g under.reached stands in
       let begins = all t.function g f caller t.callers under.reached stands is n in
-      let inside : Follows (activation u g (caller ∷ t.callers)) n many (prologue f many ++ body f) (t.of g).pieces = subst (λ k. Follows (activation u g (caller ∷ t.callers)) n k (prologue f k ++ body f) (t.of g).pieces) (sym is_many) begins in
+      let inside : Simulates (activation u g (caller ∷ t.callers)) n many (prologue f many ++ body f) (t.of g).pieces = subst (λ k. Simulates (activation u g (caller ∷ t.callers)) n k (prologue f k ++ body f) (t.of g).pieces) (sym is_many) begins in
       let r = template.running (std t n under names (Call (record { place = at; function = g; depth = length vs; used = used }) ∷ ps) temps memory draws new) also in
       let state : FunctionView → List Scalar → states.State = λ f values. record { function = g; names = empty_table; control = prologue f many ++ body f; values = values; frames = caller ∷ t.callers; world = record { memory = memory; draws = draws; violated = [] } } in
       subst (λ o. Next u n before (source.turned_on found count (turns.quiet (states.if_some (src t n under names items (args ++ vs) memory draws) o (λ f. steps.on (state f ((args ++ vs) ++ under.values)))))) r) (sym is.is)
@@ -158,7 +158,7 @@ module _ (t : Templates) (n g : ℕ) (names : ℕ → Option ℕ) (memory : Memo
       (nothing_left waiting temps)
 
   back_with : (used : Bool) (h : ℕ) (others : ℕ → Option ℕ) (items : List Item) (vs : List Scalar) (table : ℕ → Option Scalar) (ps : List PieceView) (at : Place) (callers : List Frame) (below : List Scalar) (waiting : List template.Frame) (rs : List Scalar) (temps : ℕ → Option Scalar)
-      → Reached t h → Follows (activation t h callers) n (behind_own used (length vs)) items ps → Holds vs table → Waits t n callers below waiting → Holds rs temps → length rs ≡ behind_own used 0
+      → Reached t h → Simulates (activation t h callers) n (behind_own used (length vs)) items ps → Holds vs table → Waits t n callers below waiting → Holds rs temps → length rs ≡ behind_own used 0
       → Back (record { function = h; names = others; control = items; at = at; used = used } ∷ callers) (vs ++ below) (record { function = h; rest = ps; temps = table; names = others; depth = length vs; at = at; used = used } ∷ waiting) rs temps
   back_with false h others items vs table ps at callers below waiting [] temps reached f holds rest held e =
       λ start. one_piece t n _ _ _ (λ e. refl) start (alike.both_run _ _ _ _ _ (alike.related h others items vs (up_to (length vs) table temps) ps memory draws [] [] callers below waiting reached (alike.plain items vs _ ps f (holds_back vs (length vs) table temps (omega arith) holds)) rest) (ap (λ xs. xs ++ []) same))

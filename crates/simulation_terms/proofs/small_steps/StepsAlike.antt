@@ -30,7 +30,7 @@ use Rattle.semantics.specs.SourceMachine.ObjectSteps as steps
 use Rattle.semantics.specs.SourceMachine.CallSteps as calls
 use Rattle.semantics.specs.SourceMachine.SourceRuns as source
 use Rattle.semantics.specs.TemplateMachine.TemplateStates as template
-use Rattle.semantics.specs.TemplateMachine.TemplateStates.{Templates, Standing, scene}
+use Rattle.semantics.specs.TemplateMachine.TemplateStates.{Templates, TemplateState, scene}
 use Rattle.semantics.specs.TemplateMachine.TemplateActs.{perform, in_flow, from_flow, pointed, addressed, on_local, from_scene, changed}
 use Rattle.semantics.specs.TemplateMachine.TemplateSteps as runs
 use Rattle.semantics.specs.TemplateMachine.TemplateSteps.{steps_from}
@@ -38,7 +38,7 @@ use Rattle.simulation_terms.specs.Instructions.Acts as acts
 use Rattle.simulation_terms.specs.Instructions.Acts.{Holds, SameReply, SameStore}
 use Rattle.simulation_terms.proofs.instructions.HeldValues.{holds_put}
 use Rattle.simulation_terms.specs.SimulationRelation.Activations.{Activation, templates_of}
-use Rattle.simulation_terms.specs.SimulationRelation.Follows.{Names, Follows, Reached, change_act}
+use Rattle.simulation_terms.specs.SimulationRelation.Simulates.{Names, Simulates, Reached, change_act}
 use Rattle.simulation_terms.specs.SmallSteps.Alike as alike
 use Rattle.simulation_terms.specs.SmallSteps.Alike.{Lined, Waits, Related, Alike, Next, moves_next, rest_of}
 use Rattle.simulation_terms.proofs.small_steps.ValuesBelow.{raised}
@@ -115,8 +115,8 @@ module _ (t : Activation) (n : ℕ) (c : Below t n) where
   entered_if s local f None = entered_by t s local f
   entered_if s local f (Some i) = states.stuck_at s
 
-  pub lined : (d : ℕ) (items : List Item) (vs : List Scalar) (temps : ℕ → Option Scalar) (ps : List PieceView) → Follows t n d items ps → Holds vs temps → length vs ≡ d → Lined t n items vs temps ps
-  lined d items vs temps ps f holds e = alike.plain items vs temps ps (subst (λ k. Follows t n k items ps) (sym e) f) holds
+  pub lined : (d : ℕ) (items : List Item) (vs : List Scalar) (temps : ℕ → Option Scalar) (ps : List PieceView) → Simulates t n d items ps → Holds vs temps → length vs ≡ d → Lined t n items vs temps ps
+  lined d items vs temps ps f holds e = alike.plain items vs temps ps (subst (λ k. Simulates t n k items ps) (sym e) f) holds
 
   -- where both machines stand, behind the head of a turn
   abbrev pub src : (ℕ → Option ℕ) → List Item → List Scalar → Memory → List ℤ → State
@@ -126,7 +126,7 @@ module _ (t : Activation) (n : ℕ) (c : Below t n) where
   abbrev scn : (ℕ → Option ℕ) → Memory → List ℤ → State
   scn names memory draws = record { function = t.function; names = names; control = []; values = []; frames = []; world = record { memory = memory; draws = draws; violated = [] } }
 
-  abbrev pub std : (ℕ → Option ℕ) → List PieceView → (ℕ → Option Scalar) → Memory → List ℤ → List Rule → Standing
+  abbrev pub std : (ℕ → Option ℕ) → List PieceView → (ℕ → Option Scalar) → Memory → List ℤ → List Rule → TemplateState
   std names ps temps memory draws new = record { function = t.function; rest = ps; temps = temps; names = names; frames = c.waiting; world = record { memory = memory; draws = draws; violated = new } }
 
   -- a turn that is no step
@@ -156,19 +156,19 @@ module _ (t : Activation) (n : ℕ) (c : Below t n) where
     pub halted : (why : Why) (w : World) → Alike u n (source.run_by found count (Some at) (stops why w)) (runs.run_by also (Some at) (stops why w))
     halted why w = alike.both_stopped why w.memory w.draws w.violated w.violated _ _ _ (ap (λ vs. vs ++ source.violations (Some at) w) same)
 
-    pub operated : (next : ℕ) (items : List Item) (vs : List Scalar) (temps : ℕ → Option Scalar) (ps : List PieceView) (one : Reply (List Scalar)) (other : Reply Standing) → SameReply (std names ps temps memory draws []) next one other → Follows t n next items ps
+    pub operated : (next : ℕ) (items : List Item) (vs : List Scalar) (temps : ℕ → Option Scalar) (ps : List PieceView) (one : Reply (List Scalar)) (other : Reply TemplateState) → SameReply (std names ps temps memory draws []) next one other → Simulates t n next items ps
         → Alike u n (source.run_by found count (Some at) (behind (raised c.values one) (λ vs w. steps.on (record (src names items [] memory draws) { values = vs; world = w })))) (runs.run_by also (Some at) other)
     operated next items vs temps ps _ _ (acts.both_go xs ts w holds e) f = ran items xs ts ps names w (lined next items xs ts ps f holds e)
     operated next items vs temps ps _ _ (acts.both_stop why w) f = halted why w
 
-    pub stored : (items : List Item) (vs all : List Scalar) (temps : ℕ → Option Scalar) (ps : List PieceView) (one : Reply (List Scalar)) (other : Reply Standing) → SameStore (std names ps temps memory draws []) vs one other → Follows t n (length vs) items ps → Holds vs temps
+    pub stored : (items : List Item) (vs all : List Scalar) (temps : ℕ → Option Scalar) (ps : List PieceView) (one : Reply (List Scalar)) (other : Reply TemplateState) → SameStore (std names ps temps memory draws []) vs one other → Simulates t n (length vs) items ps → Holds vs temps
         → Alike u n (source.run_by found count (Some at) (behind (raised c.values one) (λ vs w. steps.on (record (src names (Drop ∷ items) all memory draws) { values = vs; world = w })))) (runs.run_by also (Some at) other)
     stored items vs all temps ps _ _ (acts.both_go v w) f holds = ran (Drop ∷ items) (v ∷ vs) temps ps names w (alike.loose v items vs temps ps f holds)
     stored items vs all temps ps _ _ (acts.both_stop why w) f holds = halted why w
 
     -- ---- objects
 
-    pointing : (items : List Item) (vs : List Scalar) (temps : ℕ → Option Scalar) (ps : List PieceView) (offset : ℕ) (kind : Option Ty) (instance : Option ℕ) → Follows t n (suc (length vs)) items ps → Holds vs temps
+    pointing : (items : List Item) (vs : List Scalar) (temps : ℕ → Option Scalar) (ps : List PieceView) (offset : ℕ) (kind : Option Ty) (instance : Option ℕ) → Simulates t n (suc (length vs)) items ps → Holds vs temps
         → Alike u n
         (source.run_by found count (Some at) (states.if_some (src names items vs memory draws) kind (λ ctype. states.if_some (src names items vs memory draws) instance (λ i. steps.on (pushed (pointer (into i offset 0 (size_of t.unit ctype))) (src names items vs memory draws))))))
         (runs.run_by also (Some at) (behind (states.if_some (scn names memory draws) kind (λ ctype. states.if_some (scn names memory draws) instance (λ i. steps.on (pushed (pointer (into i offset 0 (size_of t.unit ctype))) (scn names memory draws))))) (pointed (std names ps temps memory draws []) (length vs))))
@@ -178,7 +178,7 @@ module _ (t : Activation) (n : ℕ) (c : Below t n) where
         let p = pointer (into i offset 0 (size_of t.unit ctype)) in
         ran items (p ∷ vs) (put_at temps (length vs) p) ps names (record { memory = memory; draws = draws; violated = [] }) (alike.plain items (p ∷ vs) (put_at temps (length vs) p) ps f (holds_put p vs temps holds))
 
-    pub pointed_to : (items : List Item) (vs : List Scalar) (temps : ℕ → Option Scalar) (ps : List PieceView) (base offset : ℕ) (o : ObjectRef) → Names t base (name_of_object o) → Follows t n (suc (length vs)) items ps → Holds vs temps
+    pub pointed_to : (items : List Item) (vs : List Scalar) (temps : ℕ → Option Scalar) (ps : List PieceView) (base offset : ℕ) (o : ObjectRef) → Names t base (name_of_object o) → Simulates t n (suc (length vs)) items ps → Holds vs temps
         → Alike u n (source.run_by found count (Some at) (steps.point_to t.unit (src names items vs memory draws) o offset)) (runs.run_by also (Some at) (perform u (act.Address (length vs) base offset) (std names ps temps memory draws [])))
     pointed_to items vs temps ps base offset o named f holds =
         subst (λ name. Alike u n (source.run_by found count (Some at) (steps.point_to t.unit (src names items vs memory draws) o offset)) (runs.run_by also (Some at) (template.if_some (std names ps temps memory draws []) name (addressed u (std names ps temps memory draws []) (length vs) offset)))) (sym named) (by o)
@@ -187,7 +187,7 @@ module _ (t : Activation) (n : ℕ) (c : Below t n) where
         by (object.Static m) = pointing items vs temps ps offset (type_of t.unit (src names items vs memory draws) (object.Static m)) (Some m) f holds
         by (object.Local m) = pointing items vs temps ps offset (type_of t.unit (src names items vs memory draws) (object.Local m)) (names m) f holds
 
-    literal_taken : (items : List Item) (vs : List Scalar) (temps : ℕ → Option Scalar) (ps : List PieceView) (i : ℕ) (there : Option LiteralView) → Follows t n (suc (length vs)) items ps → Holds vs temps
+    literal_taken : (items : List Item) (vs : List Scalar) (temps : ℕ → Option Scalar) (ps : List PieceView) (i : ℕ) (there : Option LiteralView) → Simulates t n (suc (length vs)) items ps → Holds vs temps
         → Alike u n
         (source.run_by found count (Some at) (states.if_some (src names items vs memory draws) there (λ l. steps.on (pushed (steps.literal_pointer t.unit i l) (src names items vs memory draws)))))
         (runs.run_by also (Some at) (behind (states.if_some (scn names memory draws) there (λ l. steps.on (pushed (steps.literal_pointer t.unit i l) (scn names memory draws)))) (pointed (std names ps temps memory draws []) (length vs))))
@@ -196,7 +196,7 @@ module _ (t : Activation) (n : ℕ) (c : Below t n) where
         let p = steps.literal_pointer t.unit i l in
         ran items (p ∷ vs) (put_at temps (length vs) p) ps names (record { memory = memory; draws = draws; violated = [] }) (alike.plain items (p ∷ vs) (put_at temps (length vs) p) ps f (holds_put p vs temps holds))
 
-    pub pointed_to_literal : (items : List Item) (vs : List Scalar) (temps : ℕ → Option Scalar) (ps : List PieceView) (base i : ℕ) → Names t base (Literal i) → Follows t n (suc (length vs)) items ps → Holds vs temps
+    pub pointed_to_literal : (items : List Item) (vs : List Scalar) (temps : ℕ → Option Scalar) (ps : List PieceView) (base i : ℕ) → Names t base (Literal i) → Simulates t n (suc (length vs)) items ps → Holds vs temps
         → Alike u n (source.run_by found count (Some at) (steps.point_to_literal t.unit (src names items vs memory draws) i)) (runs.run_by also (Some at) (perform u (act.Address (length vs) base 0) (std names ps temps memory draws [])))
     pointed_to_literal items vs temps ps base i named f holds =
         subst (λ name. Alike u n (source.run_by found count (Some at) (steps.point_to_literal t.unit (src names items vs memory draws) i)) (runs.run_by also (Some at) (template.if_some (std names ps temps memory draws []) name (addressed u (std names ps temps memory draws []) (length vs) 0)))) (sym named)
@@ -267,7 +267,7 @@ module _ (t : Activation) (n : ℕ) (c : Below t n) where
         subst (λ name. Alike u n one (runs.run_by also (Some place) (template.if_some r name (λ x. template.if_some r (template.local_of u r x) (λ m. behind (effect m) (from_scene r)))))) (sym named)
         (subst (λ g. Alike u n one (runs.run_by also (Some place) (template.if_some r (template.outcome_of g) (λ m. behind (effect m) (from_scene r))))) (sym is) go)
 
-    pub outcome_pointed_to : (items : List Item) (vs : List Scalar) (temps : ℕ → Option Scalar) (ps : List PieceView) (base : ℕ) (f : FunctionView) → function_at t.unit t.function ≡ Some f → Names t base Outcome → Follows t n (suc (length vs)) items ps → Holds vs temps
+    pub outcome_pointed_to : (items : List Item) (vs : List Scalar) (temps : ℕ → Option Scalar) (ps : List PieceView) (base : ℕ) (f : FunctionView) → function_at t.unit t.function ≡ Some f → Names t base Outcome → Simulates t n (suc (length vs)) items ps → Holds vs temps
         → Alike u n (source.run_by found count (Some at) (steps.point_to_outcome t.unit (src names items vs memory draws))) (runs.run_by also (Some at) (perform u (act.Address (length vs) base 0) (std names ps temps memory draws [])))
     outcome_pointed_to items vs temps ps base f is named go holds =
         let s = src names items vs memory draws in
@@ -307,7 +307,7 @@ module _ (t : Activation) (n : ℕ) (c : Below t n) where
     stored_there items vs temps ps (goes v w) l = ran items vs temps ps names w l
     stored_there items vs temps ps (stops why w) l = halted why w
 
-    pub bound : (items : List Item) (p : Scalar) (vs : List Scalar) (temps : ℕ → Option Scalar) (ps : List PieceView) (number depth : ℕ) (f : FunctionView) → function_at t.unit t.function ≡ Some f → number + suc depth ≡ length vs → Follows t n (length vs) items ps → Holds (p ∷ vs) temps
+    pub bound : (items : List Item) (p : Scalar) (vs : List Scalar) (temps : ℕ → Option Scalar) (ps : List PieceView) (number depth : ℕ) (f : FunctionView) → function_at t.unit t.function ≡ Some f → number + suc depth ≡ length vs → Simulates t n (length vs) items ps → Holds (p ∷ vs) temps
         → Alike u n (source.run_by found count (Some at) (calls.bind_parameter t.unit (src names items (p ∷ vs) memory draws) number depth)) (runs.run_by also (Some at) (perform u (act.Store (length vs) number (scalar_of (local_type f number)) None) (std names ps temps memory draws [])))
     bound items p vs temps ps number depth f is where_it_is go (top, holds) =
         let s = src names items (p ∷ vs) memory draws in

@@ -13,8 +13,8 @@ use Rattle.semantics.specs.SourceMachine.Items as item
 use Rattle.semantics.specs.SourceMachine.Items.{Item}
 use Rattle.semantics.specs.SourceMachine.ConditionItems as source
 use Rattle.simulation_terms.specs.SimulationRelation.Activations.{Activation}
-use Rattle.simulation_terms.specs.SimulationRelation.Follows as follows
-use Rattle.simulation_terms.specs.SimulationRelation.Follows.{own, Leads, Follows}
+use Rattle.simulation_terms.specs.SimulationRelation.Simulates as simulates
+use Rattle.simulation_terms.specs.SimulationRelation.Simulates.{own, Leads, Simulates}
 use Rattle.simulation_terms.proofs.simulation_relation.Constructions.{gives_hop}
 use Rattle.simulation_terms.specs.Worklists.TemplateParts.{IsOfUnit, Stands}
 use Rattle.simulation_terms.proofs.worklists.Runs.{Runs, stands_behind, stands_after}
@@ -56,8 +56,8 @@ itself l = omega arith
 
 module _ (s : SettingView) (t : Activation) (fits : IsOfUnit t s) (n : ℕ) where
   -- a jump of the function
-  pub hops : (d l : ℕ) (items : List Item) (w there : List PieceView) → Leads t l there → Follows t n d items there → Follows t n d (item.Hop ∷ items) (jumping s.at l ∷ w)
-  hops d l items w there to f = subst (λ at. Follows t n d (item.Hop ∷ items) (jumping at l ∷ w)) (sym fits.place) (gives_hop n d l items w there to f)
+  pub hops : (d l : ℕ) (items : List Item) (w there : List PieceView) → Leads t l there → Simulates t n d items there → Simulates t n d (item.Hop ∷ items) (jumping s.at l ∷ w)
+  hops d l items w there to f = subst (λ at. Simulates t n d (item.Hop ∷ items) (jumping at l ∷ w)) (sym fits.place) (gives_hop n d l items w there to f)
 
   abbrev Arms : TermTree → ℕ → Bool → Type 0
   Arms e d used = Runs s t n (lowered.arm e d used ∷ []) (source.arm used e ∷ []) d (behind_arm used d)
@@ -66,7 +66,7 @@ module _ (s : SettingView) (t : Activation) (fits : IsOfUnit t s) (n : ℕ) wher
   conditional_runs c a b d used l decides first second few = record {
     from = λ p none ps r m known items rest stands f.
         let q = jumping s.at (l + 3) in
-        let G : List PieceView → Type 0 = λ w. Stands t w → Follows t n d (source.conditional t.unit used c a b ++ items) w in
+        let G : List PieceView → Type 0 = λ w. Stands t w → Simulates t n d (source.conditional t.unit used c a b ++ items) w in
         from_piece s r rest p (Mark l) _ ps G m
         (λ b1 m1. from_work s r rest p (jobs.Condition c (lowered.decided (record { yes = l + 1; no = l + 2 }) d)) _ b1 (λ w. G (Mark l ∷ w)) none m1
         (λ fc pc b2 mc none_c m2. from_piece s r rest pc (Mark (l + 1)) _ b2 (λ w. G (Mark l ∷ (fc ++ w))) m2
@@ -86,8 +86,8 @@ module _ (s : SettingView) (t : Activation) (fits : IsOfUnit t s) (n : ℕ) wher
         let to_yes = led s t fits (l + 1) (l + 4) (l + 4) (fa ++ q ∷ (Mark (l + 2) ∷ (fb ++ Mark (l + 3) ∷ rest))) (first_less l) (itself (l + 4)) few at_yes in
         let to_no = led s t fits (l + 2) (l + 4) (l + 4) (fb ++ Mark (l + 3) ∷ rest) (second_less l) (itself (l + 4)) few at_no in
         let to_last = led s t fits (l + 3) (l + 4) (l + 4) rest (third_less l) (itself (l + 4)) few at_last in
-        let on_no = second.from pa none_a fb pb mb (known_between s t pb _ _ r m7 known) items (Mark (l + 3) ∷ rest) at_b (follows.by_mark n (behind_arm used d) (l + 3) items rest f) in
+        let on_no = second.from pa none_a fb pb mb (known_between s t pb _ _ r m7 known) items (Mark (l + 3) ∷ rest) at_b (simulates.by_mark n (behind_arm used d) (l + 3) items rest f) in
         let on_yes = first.from pc none_c fa pa ma (known_between s t pa _ _ r m4 known) (item.Hop ∷ items) (q ∷ (Mark (l + 2) ∷ (fb ++ Mark (l + 3) ∷ rest))) at_a (hops (behind_arm used d) (l + 3) items (Mark (l + 2) ∷ (fb ++ Mark (l + 3) ∷ rest)) rest to_last f) in
-        follows.by_mark n d l _ _
+        simulates.by_mark n d l _ _
         (decides p none fc pc mc (known_between s t pc _ _ r m2 known) (source.arm used a ∷ (item.Hop ∷ [])) (source.arm used b ∷ []) items (Mark (l + 1) ∷ (fa ++ q ∷ (Mark (l + 2) ∷ (fb ++ Mark (l + 3) ∷ rest)))) (fa ++ q ∷ (Mark (l + 2) ∷ (fb ++ Mark (l + 3) ∷ rest))) (fb ++ Mark (l + 3) ∷ rest) at_c to_yes to_no on_yes on_no)))))))))) stands;
   }

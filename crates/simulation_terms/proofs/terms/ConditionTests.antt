@@ -27,8 +27,8 @@ use Rattle.semantics.specs.SourceMachine.Items as item
 use Rattle.semantics.specs.SourceMachine.Items.{NamedSide, NamedTest}
 use Rattle.semantics.specs.SourceMachine.TermTests as source
 use Rattle.simulation_terms.specs.SimulationRelation.Activations.{Activation}
-use Rattle.simulation_terms.specs.SimulationRelation.Follows as follows
-use Rattle.simulation_terms.specs.SimulationRelation.Follows.{Names, SameSide, SameTest}
+use Rattle.simulation_terms.specs.SimulationRelation.Simulates as simulates
+use Rattle.simulation_terms.specs.SimulationRelation.Simulates.{Names, SameSide, SameTest}
 use Rattle.simulation_terms.specs.Worklists.TemplateParts.{IsOfUnit, IsKnown}
 use Rattle.simulation_terms.proofs.worklists.Runs.{known_before, known_name}
 
@@ -64,33 +64,33 @@ module _ (s : SettingView) (t : Activation) (fits : IsOfUnit t s) where
     pub tests : (q : Plan) → Grows found.after q → IsKnown t q → SameTest t x found.test (opposite_of found.test)
 
   untested : (p : Plan) → Same None (lowered.tested None p) p
-  untested p = record { jobs = refl; tests = λ q g known. follows.none }
+  untested p = record { jobs = refl; tests = λ q g known. simulates.none }
 
   same_object : (o : NamedObject) (rel : Rel) (named_right : NamedSide) (right : Side) (common : Option IntType) (p q : Plan) → Grows (with_name (name_of_object o.object) p) q → IsKnown t q → SameSide t named_right right
       → SameTest t (Some (source.test_between o rel named_right common)) (lowered.object_test o rel right common p).test (opposite_of (lowered.object_test o rel right common p).test)
   same_object o rel named_right right common p q g known same =
       let left = side.Object (length p.names) o.kind in
       subst (λ r. SameTest t (Some (source.test_between o rel named_right common)) (Some (record { left = left; rel = rel; right = right; common = common })) (Some (record { left = left; rel = r; right = right; common = common }))) (opposites_same rel)
-      (follows.some (source.test_between o rel named_right common) left right (follows.object o (length p.names) (name_there t (name_of_object o.object) p q g known)) same)
+      (simulates.some (source.test_between o rel named_right common) left right (simulates.object o (length p.names) (name_there t (name_of_object o.object) p q g known)) same)
 
   of_object : (o : NamedObject) (rel : Rel) (named_right : NamedSide) (right : Side) (common : Option IntType) (p : Plan) → SameSide t named_right right → Same (Some (source.test_between o rel named_right common)) (lowered.object_test o rel right common p) p
   of_object o rel named_right right common p same = record { jobs = keeps_jobs (name_of_object o.object) p; tests = λ q g known. same_object o rel named_right right common p q g known same }
 
   of_relation : (o : NamedObject) (rel : Rel) (common : IntType) (right : Option NamedObject) (value : Option ℤ) (p : Plan) → Same (source.test_with o rel common (source.right_side right value)) (lowered.test_with o rel common (lowered.side_of right value p).side (lowered.side_of right value p).after) p
   of_relation o rel common None None p = untested p
-  of_relation o rel common None (Some n) p = of_object o rel (item.number n) (side.Number n) (Some common) p (follows.number n)
+  of_relation o rel common None (Some n) p = of_object o rel (item.number n) (side.Number n) (Some common) p (simulates.number n)
   of_relation o rel common (Some other) value p =
       let first = with_name (name_of_object other.object) p in
       record {
         jobs = keeps_jobs (name_of_object o.object) first ∙ keeps_jobs (name_of_object other.object) p;
         tests = λ q g known. same_object o rel (item.named other) (side.Object (length p.names) other.kind) (Some common) first q g known
-            (follows.object other (length p.names) (name_there t (name_of_object other.object) p q (grows_on first (with_name (name_of_object o.object) first) q (grows_name (name_of_object o.object) first (grows_not first)) g) known));
+            (simulates.object other (length p.names) (name_there t (name_of_object other.object) p q (grows_on first (with_name (name_of_object o.object) first) q (grows_name (name_of_object o.object) first (grows_not first)) g) known));
       }
 
   of_turned_object : (n : ℤ) (rel : Rel) (o : Option NamedObject) (common : IntType) (p : Plan) → Same (source.turned_test (Some n) rel o common) (lowered.turned_object_test n rel o common p) p
   of_turned_object n rel None common p = untested p
   of_turned_object n rel (Some o) common p = subst (λ r. Same (Some (source.test_between o (tests.turned rel) (item.number n) (Some common))) (lowered.object_test o r (side.Number n) (Some common) p) p) (turned_same rel)
-      (of_object o (tests.turned rel) (item.number n) (side.Number n) (Some common) p (follows.number n))
+      (of_object o (tests.turned rel) (item.number n) (side.Number n) (Some common) p (simulates.number n))
 
   of_no_number : (rel : Rel) (o : Option NamedObject) (common : IntType) (right : TermTree) (p : Plan) → Same (source.turned_test None rel o common) (lowered.turned_test None rel right common p) p
   of_no_number rel None common right p = untested p
@@ -110,13 +110,13 @@ module _ (s : SettingView) (t : Activation) (fits : IsOfUnit t s) where
 
   of_null : (o : Option NamedObject) (rel : Rel) (p : Plan) → Same (source.null_test o rel) (lowered.null_test o rel p) p
   of_null None rel p = untested p
-  of_null (Some o) rel p = of_object o rel item.nothing side.Null None p follows.nothing
+  of_null (Some o) rel p = of_object o rel item.nothing side.Null None p simulates.nothing
 
   of_zero_kind : (o : NamedObject) (kind : declared.Scalar) (p : Plan) → Same (source.zero_test_of t.unit o kind) (lowered.zero_test_of o kind s.int_bytes p) p
   of_zero_kind o (scalar.Int kind) p =
       subst (λ bytes. Same (Some (source.test_between o Ne (item.number (pos 0)) (Some (common_with_int kind t.unit.model.int)))) (lowered.object_test o Ne (side.Number (pos 0)) (Some (common_with_int kind bytes)) p) p) (sym fits.int)
-      (of_object o Ne (item.number (pos 0)) (side.Number (pos 0)) (Some (common_with_int kind t.unit.model.int)) p (follows.number (pos 0)))
-  of_zero_kind o scalar.Pointer p = of_object o Ne item.nothing side.Null None p follows.nothing
+      (of_object o Ne (item.number (pos 0)) (side.Number (pos 0)) (Some (common_with_int kind t.unit.model.int)) p (simulates.number (pos 0)))
+  of_zero_kind o scalar.Pointer p = of_object o Ne item.nothing side.Null None p simulates.nothing
 
   of_zero : (o : Option NamedObject) (p : Plan) → Same (source.zero_test t.unit o) (lowered.own_test_of o s.int_bytes p) p
   of_zero None p = untested p

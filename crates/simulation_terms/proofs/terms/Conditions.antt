@@ -28,8 +28,8 @@ use Rattle.semantics.specs.SourceMachine.Items.{Item, Items, items_of, listed}
 use Rattle.semantics.specs.SourceMachine.ConditionItems as source
 use Rattle.semantics.specs.SourceMachine.TermTests as source_tests
 use Rattle.simulation_terms.specs.SimulationRelation.Activations.{Activation}
-use Rattle.simulation_terms.specs.SimulationRelation.Follows as follows
-use Rattle.simulation_terms.specs.SimulationRelation.Follows.{Leads, Follows}
+use Rattle.simulation_terms.specs.SimulationRelation.Simulates as simulates
+use Rattle.simulation_terms.specs.SimulationRelation.Simulates.{Leads, Simulates}
 use Rattle.simulation_terms.proofs.simulation_relation.Constructions.{gives_choice}
 use Rattle.simulation_terms.specs.Worklists.Rooms.{room, room_of_all}
 use Rattle.simulation_terms.specs.Worklists.TemplateParts.{IsOfUnit, IsKnown, Stands}
@@ -111,8 +111,8 @@ module _ (s : SettingView) (t : Activation) (fits : IsOfUnit t s) (n : ℕ) wher
 
   left_of : (sign : LogicalOp) (a b : TermTree) (decision : Decision) (right : ℕ) → Decided s t n a (to_targets decision (left_targets sign decision.targets right)) → (p : Plan) → p.jobs ≡ [] → (front : List PieceView) (between : Plan) → Makes s p (jobs.Condition a (to_targets decision (left_targets sign decision.targets right)) ∷ []) front between → IsKnown t between
       → (held failed items : List Item) (w on_right on_yes on_no : List PieceView) → Stands t (front ++ w) → Leads t right on_right → Leads t decision.targets.yes on_yes → Leads t decision.targets.no on_no
-      → Follows t n decision.depth (source.condition t.unit decision.is_test b held failed ++ items) on_right → Follows t n decision.depth (held ++ items) on_yes → Follows t n decision.depth (failed ++ items) on_no
-      → Follows t n decision.depth (logical_items t sign a b decision.is_test held failed ++ items) (front ++ w)
+      → Simulates t n decision.depth (source.condition t.unit decision.is_test b held failed ++ items) on_right → Simulates t n decision.depth (held ++ items) on_yes → Simulates t n decision.depth (failed ++ items) on_no
+      → Simulates t n decision.depth (logical_items t sign a b decision.is_test held failed ++ items) (front ++ w)
   left_of And a b decision right first p none front between m known held failed items w on_right on_yes on_no stands to_right to_yes to_no h f g =
       first p none front between m known (source.condition t.unit decision.is_test b held failed) failed items w on_right on_no stands to_right to_no h g
   left_of Or a b decision right first p none front between m known held failed items w on_right on_yes on_no stands to_right to_yes to_no h f g =
@@ -121,7 +121,7 @@ module _ (s : SettingView) (t : Activation) (fits : IsOfUnit t s) (n : ℕ) wher
   logical_from : (sign : LogicalOp) (a b : TermTree) (decision : Decision) (l : ℕ) (p : Plan) → p.jobs ≡ [] → l + 2 ≤ 2 ^ 32 - 1 → Decided s t n a (to_targets decision (left_targets sign decision.targets (l + 1))) → Decided s t n b decision
       → DecidesFrom s t n p (logical_jobs sign a b decision l) decision (logical_items t sign a b decision.is_test)
   logical_from sign a b decision l p none few first second ps r m known held failed items rest on_yes on_no stands to_yes to_no f g =
-      let G : List PieceView → Type 0 = λ w. Stands t w → Follows t n decision.depth (logical_items t sign a b decision.is_test held failed ++ items) w in
+      let G : List PieceView → Type 0 = λ w. Stands t w → Simulates t n decision.depth (logical_items t sign a b decision.is_test held failed ++ items) w in
       let left = to_targets decision (left_targets sign decision.targets (l + 1)) in
       from_piece s r rest p (Mark l) _ ps G m
       (λ b1 m1. from_work s r rest p (jobs.Condition a left) _ b1 (λ w. G (Mark l ∷ w)) none m1
@@ -132,7 +132,7 @@ module _ (s : SettingView) (t : Activation) (fits : IsOfUnit t s) (n : ℕ) wher
       let at_b = stands_after t (Mark (l + 1)) (fb ++ rest) at_right in
       let to_right = led s t fits (l + 1) (l + 2) (l + 2) (fb ++ rest) (one_less l 0) (itself (l + 2)) few at_right in
       let right = second pa none_a fb r mb known held failed items rest on_yes on_no at_b to_yes to_no f g in
-      follows.by_mark n decision.depth l _ _
+      simulates.by_mark n decision.depth l _ _
       (left_of sign a b decision (l + 1) first p none fa pa ma (known_between s t pa _ _ r m2 known) held failed items (Mark (l + 1) ∷ (fb ++ rest)) (fb ++ rest) on_yes on_no at_a to_right to_yes to_no right f g)))) stands
 
   pub logical_decided : (at : Place) (ctype : Ty) (parens : ℕ) (constant : Option ℤ) (sign : LogicalOp) (a b : TermTree) (decision : Decision) → ((l : ℕ) → Decided s t n a (to_targets decision (left_targets sign decision.targets l))) → Decided s t n b decision → Decided s t n (Typed at ctype parens constant (tree.Logical sign a b)) decision
@@ -144,8 +144,8 @@ module _ (s : SettingView) (t : Activation) (fits : IsOfUnit t s) (n : ℕ) wher
 
       by : (sign : LogicalOp) (p : Plan) → p.jobs ≡ [] → (ps : List PieceView) (r : Plan) → Makes s (planless (lowered.logical_condition sign a b decision p)) (lowered.logical_condition sign a b decision p).jobs ps r → IsKnown t r
           → ((l : ℕ) → Decided s t n a (to_targets decision (left_targets sign decision.targets l)))
-          → (held failed items : List Item) (rest on_yes on_no : List PieceView) → Stands t (ps ++ rest) → Leads t decision.targets.yes on_yes → Leads t decision.targets.no on_no → Follows t n decision.depth (held ++ items) on_yes → Follows t n decision.depth (failed ++ items) on_no
-          → Follows t n decision.depth (source.condition t.unit decision.is_test (Typed at ctype parens constant (tree.Logical sign a b)) held failed ++ items) (ps ++ rest)
+          → (held failed items : List Item) (rest on_yes on_no : List PieceView) → Stands t (ps ++ rest) → Leads t decision.targets.yes on_yes → Leads t decision.targets.no on_no → Simulates t n decision.depth (held ++ items) on_yes → Simulates t n decision.depth (failed ++ items) on_no
+          → Simulates t n decision.depth (source.condition t.unit decision.is_test (Typed at ctype parens constant (tree.Logical sign a b)) held failed ++ items) (ps ++ rest)
       by And p none ps r m known first =
           let few = few_labels s t p (jobs.Condition (Typed at ctype parens constant (tree.Logical And a b)) decision) 2 _ ps r (logical_grows And a b decision p) m known in
           logical_from And a b decision p.labels (planless (lowered.logical_condition And a b decision p)) refl few (first (p.labels + 1)) second ps r (subst (λ js. Makes s (planless (lowered.logical_condition And a b decision p)) js ps r) (logical_planned And a b decision p none) m) known
@@ -164,7 +164,7 @@ module _ (s : SettingView) (t : Activation) (fits : IsOfUnit t s) (n : ℕ) wher
       let dc = lowered.tested_or_not (record { yes = l + 1; no = l + 2 }) decision.depth true in
       let hit = source.condition t.unit false a held failed in
       let miss = source.condition t.unit false b held failed in
-      let G : List PieceView → Type 0 = λ w. Stands t w → Follows t n decision.depth (source.condition t.unit true c hit miss ++ items) w in
+      let G : List PieceView → Type 0 = λ w. Stands t w → Simulates t n decision.depth (source.condition t.unit true c hit miss ++ items) w in
       from_piece s r rest p (Mark l) _ ps G m
       (λ b1 m1. from_work s r rest p (jobs.Condition c dc) _ b1 (λ w. G (Mark l ∷ w)) none m1
       (λ fc pc b2 mc none_c m2. from_piece s r rest pc (Mark (l + 1)) _ b2 (λ w. G (Mark l ∷ (fc ++ w))) m2
@@ -180,7 +180,7 @@ module _ (s : SettingView) (t : Activation) (fits : IsOfUnit t s) (n : ℕ) wher
       let to_miss = led s t fits (l + 2) (l + 3) (l + 3) (fb ++ rest) (two_less l) (itself (l + 3)) few at_miss in
       let on_miss = second pa none_a fb r mb known held failed items rest on_yes on_no at_b to_yes to_no f g in
       let on_hit = first pc none_c fa pa ma (known_between s t pa _ _ r m4 known) held failed items (Mark (l + 2) ∷ (fb ++ rest)) on_yes on_no at_a to_yes to_no f g in
-      follows.by_mark n decision.depth l _ _
+      simulates.by_mark n decision.depth l _ _
       (decides p none fc pc mc (known_between s t pc _ _ r m2 known) hit miss items (Mark (l + 1) ∷ (fa ++ Mark (l + 2) ∷ (fb ++ rest))) (fa ++ Mark (l + 2) ∷ (fb ++ rest)) (fb ++ rest) at_c to_hit to_miss on_hit on_miss)))))) stands
 
   pub choice_decided : (at : Place) (ctype : Ty) (parens : ℕ) (constant : Option ℤ) (c a b : TermTree) (decision : Decision) → ((targets : Targets) → Decided s t n c (lowered.tested_or_not targets decision.depth true)) → Decided s t n a (arms decision) → Decided s t n b (arms decision) → Decided s t n (Typed at ctype parens constant (tree.Conditional c a b)) decision
@@ -206,7 +206,7 @@ module _ (s : SettingView) (t : Activation) (fits : IsOfUnit t s) (n : ℕ) wher
       let tests = same.tests (planless all) grown (known_between s t (planless all) js ps r made known) in
       then_ends s t n (jobs.Value e d ∷ []) (item.Value e ∷ []) d (suc d) (planless all) refl (value.from (planless all) refl) q ps r made known (item.Choose (term_at e) (source_tests.test_if t.unit decision.is_test e) (items_of held) (items_of failed) ∷ items) rest stands
       (λ w. gives_choice n d decision.targets.yes decision.targets.no (term_at e) (scalar_of (term_type e)) (source_tests.test_if t.unit decision.is_test e) found.test (opposite_of found.test) (items_of held) (items_of failed) items w on_yes on_no tests to_yes to_no
-      (subst (λ xs. Follows t n d (xs ++ items) on_yes) (sym (listed_same held)) f) (subst (λ xs. Follows t n d (xs ++ items) on_no) (sym (listed_same failed)) g))
+      (subst (λ xs. Simulates t n d (xs ++ items) on_yes) (sym (listed_same held)) f) (subst (λ xs. Simulates t n d (xs ++ items) on_no) (sym (listed_same failed)) g))
 
   -- a line is read
   line_tested : (c : lowered.LineCallView) (wants : Bool) (k : ℕ) (decision : Decision) → Reads s t n c.arguments k → Fits decision.depth k → (p : Plan) → p.jobs ≡ []
@@ -217,14 +217,14 @@ module _ (s : SettingView) (t : Activation) (fits : IsOfUnit t s) (n : ℕ) wher
       let all = lowered.read_condition (record { call = c; wants_line = true }) decision p in
       let made = subst (λ js. Makes s (planless all) js ps r) (ap (λ js. js) (one_more_job (argument_jobs c.arguments d) (jobs.Ready q) _ (argued_jobs c.arguments d [] p none))) m in
       condition_read s t fits n c.at c.arguments d k decision.targets.no decision.targets.yes (planless all) refl reads.three reads.few enough (reads.runs d (fewer d k (room_of_all c.arguments) reads.few enough)) (items_of failed) (items_of held) ps r made known items rest on_no on_yes stands to_no to_yes
-      (subst (λ xs. Follows t n d (xs ++ items) on_no) (sym (listed_same failed)) g) (subst (λ xs. Follows t n d (xs ++ items) on_yes) (sym (listed_same held)) f)
+      (subst (λ xs. Simulates t n d (xs ++ items) on_no) (sym (listed_same failed)) g) (subst (λ xs. Simulates t n d (xs ++ items) on_yes) (sym (listed_same held)) f)
   line_tested c false k decision reads enough p none ps r m known held failed items rest on_yes on_no stands to_yes to_no f g =
       let d = decision.depth in
       let q = reading c.at None d (behind d 1) (behind d 2) decision.targets.yes decision.targets.no in
       let all = lowered.read_condition (record { call = c; wants_line = false }) decision p in
       let made = subst (λ js. Makes s (planless all) js ps r) (one_more_job (argument_jobs c.arguments d) (jobs.Ready q) _ (argued_jobs c.arguments d [] p none)) m in
       condition_read s t fits n c.at c.arguments d k decision.targets.yes decision.targets.no (planless all) refl reads.three reads.few enough (reads.runs d (fewer d k (room_of_all c.arguments) reads.few enough)) (items_of held) (items_of failed) ps r made known items rest on_yes on_no stands to_yes to_no
-      (subst (λ xs. Follows t n d (xs ++ items) on_yes) (sym (listed_same held)) f) (subst (λ xs. Follows t n d (xs ++ items) on_no) (sym (listed_same failed)) g)
+      (subst (λ xs. Simulates t n d (xs ++ items) on_yes) (sym (listed_same held)) f) (subst (λ xs. Simulates t n d (xs ++ items) on_no) (sym (listed_same failed)) g)
 
   leaf_by : (e : TermTree) (decision : Decision) → Fits decision.depth (room e) → (o : Option ReadView) → (o ≡ None → Valued s t n e decision.depth) → ((x : ReadView) → o ≡ Some x → Reads s t n x.call.arguments (room e)) → (p : Plan) → p.jobs ≡ []
       → DecidesFrom s t n (planless (lowered.leaf_of s e decision o p)) (lowered.leaf_of s e decision o p).jobs decision (λ held failed. source.leaf_by t.unit decision.is_test e o (items_of held) (items_of failed))
@@ -235,5 +235,5 @@ module _ (s : SettingView) (t : Activation) (fits : IsOfUnit t s) (n : ℕ) wher
       → (read_by e ≡ None → Valued s t n e decision.depth) → ((x : ReadView) → read_by e ≡ Some x → Reads s t n x.call.arguments (room e)) → Decided s t n e decision
   leaf_decided e decision same_works same_items enough value reads = decided_by e decision
       (λ p none ps r m known held failed items rest on_yes on_no stands to_yes to_no f g.
-      subst (λ xs. Follows t n decision.depth (xs ++ items) (ps ++ rest)) (sym (same_items held failed))
+      subst (λ xs. Simulates t n decision.depth (xs ++ items) (ps ++ rest)) (sym (same_items held failed))
       (leaf_by e decision enough (read_by e) value reads p none ps r (subst (λ q. Makes s (planless q) q.jobs ps r) (same_works p) m) known held failed items rest on_yes on_no stands to_yes to_no f g))

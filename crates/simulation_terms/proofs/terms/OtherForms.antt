@@ -45,7 +45,7 @@ use Rattle.semantics.specs.SourceMachine.ConditionItems as source
 use Rattle.semantics.specs.SourceMachine.ConditionItems.{term_items}
 use Rattle.simulation_terms.specs.Instructions.Acts as acts
 use Rattle.simulation_terms.specs.SimulationRelation.Activations.{Activation}
-use Rattle.simulation_terms.specs.SimulationRelation.Follows.{at_place, Follows, CallsThere, behind_own, pieces}
+use Rattle.simulation_terms.specs.SimulationRelation.Simulates.{at_place, Simulates, CallsThere, behind_own, pieces}
 use Rattle.simulation_terms.proofs.simulation_relation.Constructions.{gives_value, gives_unused, gives_drop, gives_own_call}
 use Rattle.simulation_terms.specs.Worklists.Rooms.{room, room_of_place, room_of_all, larger, both_rooms}
 use Rattle.simulation_terms.specs.Worklists.SuitedTerms.{Suits, SuitAll, IsOwnCall}
@@ -304,7 +304,7 @@ module _ (s : SettingView) (t : Activation) (fits : IsOfUnit t s) (n : ℕ) (at 
       runs p.labels (planless all) refl few ps r (subst (λ js. Makes s (planless all) js ps r) (line_jobs at args d p none) m) known items rest stands f)
 
   dropped_from : (p : Plan) → p.jobs ≡ [] → (js : List Job) (is : List Item) (d : ℕ) → RunsFrom s t n p js is d (suc d) → RunsFrom s t n p js (is ++ item.Drop ∷ []) d d
-  dropped_from p none js is d runs ps r m known items rest stands f = subst (λ xs. Follows t n d xs (ps ++ rest)) (sym (append_assoc is (item.Drop ∷ []) items)) (runs ps r m known (item.Drop ∷ items) rest stands (gives_drop n d items rest f))
+  dropped_from p none js is d runs ps r m known items rest stands f = subst (λ xs. Simulates t n d xs (ps ++ rest)) (sym (append_assoc is (item.Drop ∷ []) items)) (runs ps r m known (item.Drop ∷ items) rest stands (gives_drop n d items rest f))
 
   of_line_call : (args : TermTrees) (target : Option Ty) → AboutAll s t n args → About s t n (Typed at ctype parens constant (tree.Library Fgets args target))
   of_line_call args target about =
@@ -356,7 +356,7 @@ module _ (s : SettingView) (t : Activation) (fits : IsOfUnit t s) (n : ℕ) (at 
       let many = argument_count args in
       then s t n (argument_jobs args d) (jobs.Ready (own_piece function d is_used) ∷ []) (arguments args) (item.Invoke at function many is_used ∷ []) d (d + many) (behind_own is_used d) (about d suits enough)
       (piece_stands s t n (own_piece function d is_used) (item.Invoke at function many is_used ∷ []) (d + many) (behind_own is_used d)
-      (λ items rest stands f. subst (λ k. Follows t n (d + k) (item.Invoke at function k is_used ∷ items) (own_piece function d is_used ∷ rest)) call.many (gives_own_call n d function at is_used call.function items rest call.called (calls_there function d is_used rest stands) f)))
+      (λ items rest stands f. subst (λ k. Simulates t n (d + k) (item.Invoke at function k is_used ∷ items) (own_piece function d is_used ∷ rest)) call.many (gives_own_call n d function at is_used call.function items rest call.called (calls_there function d is_used rest stands) f)))
 
   pub of_call : (function : ℕ) (args : TermTrees) (is_used : Bool) → AboutAll s t n args → About s t n (Typed at ctype parens constant (tree.Call function args is_used))
   of_call function args is_used about =

@@ -36,7 +36,7 @@ use Rattle.semantics.specs.SourceMachine.ConditionItems.{term_items}
 use Rattle.simulation_terms.specs.Instructions.Acts as acts
 use Rattle.simulation_terms.specs.Instructions.Acts.{IsAct}
 use Rattle.simulation_terms.specs.SimulationRelation.Activations.{Activation}
-use Rattle.simulation_terms.specs.SimulationRelation.Follows.{Names, Follows, at_place}
+use Rattle.simulation_terms.specs.SimulationRelation.Simulates.{Names, Simulates, at_place}
 use Rattle.simulation_terms.proofs.simulation_relation.Constructions.{gives_address, gives_object, gives_literal}
 use Rattle.simulation_terms.specs.Worklists.Rooms.{room, room_of_place, room_of_all}
 use Rattle.simulation_terms.specs.Worklists.SuitedTerms.{Suits}
@@ -83,7 +83,7 @@ module _ (s : SettingView) (t : Activation) (fits : IsOfUnit t s) (n : ℕ) wher
 
   -- ---- lvalues
 
-  pub named_address : (l : LvalueTree) (x : NameView) (i : Item) (at : Place) → (address_items t.unit l ≡ i ∷ []) → ((d : ℕ) (p : Plan) → parts s (jobs.Address l d) p ≡ base_address at x d p) → ((d base : ℕ) (items : List Item) (rest : List PieceView) → Names t base x → Follows t n (suc d) items rest → Follows t n d (i ∷ items) (at_place at (act.Address d base 0) ∷ rest)) → (d : ℕ) → Addressed s t n l d
+  pub named_address : (l : LvalueTree) (x : NameView) (i : Item) (at : Place) → (address_items t.unit l ≡ i ∷ []) → ((d : ℕ) (p : Plan) → parts s (jobs.Address l d) p ≡ base_address at x d p) → ((d base : ℕ) (items : List Item) (rest : List PieceView) → Names t base x → Simulates t n (suc d) items rest → Simulates t n d (i ∷ items) (at_place at (act.Address d base 0) ∷ rest)) → (d : ℕ) → Addressed s t n l d
   named_address l x i at is planned gives d = unfolds s t n (jobs.Address l d) (item.Address l) (address_items t.unit l) d (suc d) refl (gives_address n d l)
       (λ p none. subst (λ xs. RunsFrom s t n (planless (parts s (jobs.Address l d) p)) (parts s (jobs.Address l d) p).jobs xs d (suc d)) (sym is) (subst (λ q. RunsFrom s t n (planless q) q.jobs (i ∷ []) d (suc d)) (sym (planned d p)) (by p none)))
     where

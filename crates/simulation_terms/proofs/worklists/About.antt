@@ -15,7 +15,7 @@ use Rattle.semantics.specs.SourceMachine.Items.{Item}
 use Rattle.semantics.specs.SourceMachine.TermItems.{address_items, arguments, argument_count}
 use Rattle.semantics.specs.SourceMachine.ConditionItems.{term_items, condition}
 use Rattle.simulation_terms.specs.SimulationRelation.Activations.{Activation}
-use Rattle.simulation_terms.specs.SimulationRelation.Follows.{Leads, Follows}
+use Rattle.simulation_terms.specs.SimulationRelation.Simulates.{Leads, Simulates}
 use Rattle.simulation_terms.proofs.simulation_relation.Constructions.{gives_value, gives_unused, gives_address}
 use Rattle.simulation_terms.specs.Worklists.Rooms.{room, room_of_place, room_of_all}
 use Rattle.simulation_terms.specs.Worklists.SuitedTerms.{Suits, SuitsAsPlace, SuitAll}
@@ -47,7 +47,7 @@ module _ (s : SettingView) (t : Activation) (n : ℕ) where
   -- items that go one of two ways
   abbrev pub DecidesFrom : Plan → List Job → Decision → (List Item → List Item → List Item) → Type 0
   DecidesFrom p js decision is = (ps : List PieceView) (r : Plan) → Makes s p js ps r → IsKnown t r → (held failed items : List Item) (rest on_yes on_no : List PieceView) → Stands t (ps ++ rest) → Leads t decision.targets.yes on_yes → Leads t decision.targets.no on_no
-      → Follows t n decision.depth (held ++ items) on_yes → Follows t n decision.depth (failed ++ items) on_no → Follows t n decision.depth (is held failed ++ items) (ps ++ rest)
+      → Simulates t n decision.depth (held ++ items) on_yes → Simulates t n decision.depth (failed ++ items) on_no → Simulates t n decision.depth (is held failed ++ items) (ps ++ rest)
 
   abbrev pub Decided : TermTree → Decision → Type 0
   Decided e decision = (p : Plan) → p.jobs ≡ [] → DecidesFrom p (jobs.Condition e decision ∷ []) decision (condition t.unit decision.is_test e)

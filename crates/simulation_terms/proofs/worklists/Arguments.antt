@@ -20,7 +20,7 @@ use Rattle.semantics.specs.SourceMachine.Operations as op
 use Rattle.semantics.specs.SourceMachine.TermItems.{arguments, argument_count, left_if}
 use Rattle.simulation_terms.specs.Instructions.Acts.{temps_from, behind_call}
 use Rattle.simulation_terms.specs.SimulationRelation.Activations.{Activation}
-use Rattle.simulation_terms.specs.SimulationRelation.Follows.{at_place}
+use Rattle.simulation_terms.specs.SimulationRelation.Simulates.{at_place}
 use Rattle.simulation_terms.proofs.simulation_relation.Constructions.{gives_call}
 use Rattle.simulation_terms.specs.Worklists.Rooms.{room, room_of_all}
 use Rattle.simulation_terms.specs.Worklists.TemplateParts.{IsOfUnit}

@@ -22,7 +22,7 @@ use Rattle.semantics.specs.SourceMachine.Operations.{Operation}
 use Rattle.simulation_terms.specs.Instructions.Acts as acts
 use Rattle.simulation_terms.specs.Instructions.Acts.{IsAct, IsActBehind}
 use Rattle.simulation_terms.specs.SimulationRelation.Activations.{Activation}
-use Rattle.simulation_terms.specs.SimulationRelation.Follows.{at_place, Follows}
+use Rattle.simulation_terms.specs.SimulationRelation.Simulates.{at_place, Simulates}
 use Rattle.simulation_terms.proofs.simulation_relation.Constructions.{gives_store, gives_again}
 use Rattle.simulation_terms.proofs.worklists.Runs.{Runs, then, does, piece_first, none_made}
 use Rattle.simulation_terms.proofs.worklists.About.{Valued, Addressed}
@@ -77,7 +77,7 @@ compound_shift_items l a at here size back is = item.Address l ∷ (item.Value a
 module _ (s : SettingView) (t : Activation) (n : ℕ) where
   -- nothing is done
   pub nothing_done : (d : ℕ) → Runs s t n [] [] d d
-  nothing_done d = record { from = λ p none ps r m known items rest stands f. subst (λ xs. Follows t n d items (xs ++ rest)) (sym (none_made s p ps r m)) f }
+  nothing_done d = record { from = λ p none ps r m known items rest stands f. subst (λ xs. Simulates t n d items (xs ++ rest)) (sym (none_made s p ps r m)) f }
 
   -- a store whose value is dropped
   pub stores : (d : ℕ) (at : Place) (kind : declared.Scalar) → Runs s t n (jobs.Ready (at_place at (act.Store d (suc d) kind None)) ∷ []) (item.Do at (op.Store kind) ∷ (item.Drop ∷ [])) (suc (suc d)) d

@@ -5,7 +5,7 @@ use Rattle.lower_templates.specs.Worklist.Pieces.{PieceView, Do, DoIfUsed, End, 
 use Rattle.lower_template_theorems.specs.PendingLabels.Marks.{one, all_marked}
 use Rattle.semantics.specs.TemplateMachine.TemplateExits.{behind_mark}
 use Rattle.simulation_terms.specs.SimulationRelation.Activations.{Activation}
-use Rattle.simulation_terms.specs.SimulationRelation.Follows.{Leads, pieces}
+use Rattle.simulation_terms.specs.SimulationRelation.Simulates.{Leads, pieces}
 use Rattle.simulation_terms.specs.Worklists.TemplateParts.{Stands}
 
 here : (l : ℕ) (ps : List PieceView) → behind_mark l (Mark l ∷ ps) ≡ Some ps

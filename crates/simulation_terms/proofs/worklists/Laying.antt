@@ -13,7 +13,7 @@ use Rattle.lower_template_theorems.proofs.growth.Growth.{grows_on}
 use Rattle.lower_template_theorems.proofs.growth.GrowingWorks.{grows, jobs_none, planless_grows}
 use Rattle.semantics.specs.SourceMachine.Items.{Item}
 use Rattle.simulation_terms.specs.SimulationRelation.Activations.{Activation}
-use Rattle.simulation_terms.specs.SimulationRelation.Follows.{Follows, Leads}
+use Rattle.simulation_terms.specs.SimulationRelation.Simulates.{Simulates, Leads}
 use Rattle.simulation_terms.specs.Worklists.TemplateParts.{IsOfUnit, IsKnown, Stands}
 use Rattle.simulation_terms.proofs.worklists.Runs.{Runs, headed, none_made, known_before}
 use Rattle.simulation_terms.proofs.worklists.Labels.{leads}
@@ -53,5 +53,5 @@ module _ (s : SettingView) (t : Activation) where
       below l k m a b c = omega (arith, a, b, c)
 
   -- one work before others
-  pub run : (n : ℕ) (j : Job) (i : Item) (d next : ℕ) → Runs s t n (j ∷ []) (i ∷ []) d next → (p : Plan) → p.jobs ≡ [] → (front : List PieceView) (between : Plan) → Makes s p (j ∷ []) front between → IsKnown t between → (items : List Item) (w : List PieceView) → Stands t (front ++ w) → Follows t n next items w → Follows t n d (i ∷ items) (front ++ w)
+  pub run : (n : ℕ) (j : Job) (i : Item) (d next : ℕ) → Runs s t n (j ∷ []) (i ∷ []) d next → (p : Plan) → p.jobs ≡ [] → (front : List PieceView) (between : Plan) → Makes s p (j ∷ []) front between → IsKnown t between → (items : List Item) (w : List PieceView) → Stands t (front ++ w) → Simulates t n next items w → Simulates t n d (i ∷ items) (front ++ w)
   run n j i d next runs p none front between m known items w stands f = runs.from p none front between m known items w stands f

@@ -17,7 +17,7 @@ use Rattle.semantics.specs.SourceMachine.Items.{Item, Items, listed}
 use Rattle.semantics.specs.SourceMachine.Operations as op
 use Rattle.semantics.specs.SourceMachine.TermItems.{arguments, argument_count}
 use Rattle.simulation_terms.specs.SimulationRelation.Activations.{Activation}
-use Rattle.simulation_terms.specs.SimulationRelation.Follows.{Leads, Follows}
+use Rattle.simulation_terms.specs.SimulationRelation.Simulates.{Leads, Simulates}
 use Rattle.simulation_terms.proofs.simulation_relation.Constructions.{gives_read, gives_line}
 use Rattle.simulation_terms.specs.Worklists.Rooms.{room_of_all}
 use Rattle.simulation_terms.specs.Worklists.TemplateParts.{IsOfUnit, IsKnown, Stands}
@@ -61,11 +61,11 @@ module _ (s : SettingView) (t : Activation) (fits : IsOfUnit t s) (n : ℕ) wher
       → Runs s t n (jobs.Ready (reading at (Some d) d x y l l) ∷ (jobs.Ready (Mark l) ∷ [])) (item.Do at (op.Library Fgets 3 target) ∷ []) (suc (suc (suc d))) (suc d)
   read_and_marked at target d x y l is_x is_y few = record {
     from = λ p none ps r m known items rest stands f.
-        from_piece s r rest p (reading at (Some d) d x y l l) (jobs.Ready (Mark l) ∷ []) ps (λ w. Stands t w → Follows t n (suc (suc (suc d))) (item.Do at (op.Library Fgets 3 target) ∷ items) w) m
-        (λ back m. from_piece s r rest p (Mark l) [] back (λ w. Stands t (reading at (Some d) d x y l l ∷ w) → Follows t n (suc (suc (suc d))) (item.Do at (op.Library Fgets 3 target) ∷ items) (reading at (Some d) d x y l l ∷ w)) m
-        (λ back m. from_none s r rest p back (λ w. Stands t (reading at (Some d) d x y l l ∷ (Mark l ∷ w)) → Follows t n (suc (suc (suc d))) (item.Do at (op.Library Fgets 3 target) ∷ items) (reading at (Some d) d x y l l ∷ (Mark l ∷ w))) m
-        (λ stands. subst (λ x. Follows t n (suc (suc (suc d))) (item.Do at (op.Library Fgets 3 target) ∷ items) (reading at (Some d) d x y l l ∷ (Mark l ∷ rest))) is_x
-        (subst (λ y. Follows t n (suc (suc (suc d))) (item.Do at (op.Library Fgets 3 target) ∷ items) (reading at (Some d) d (suc d) y l l ∷ (Mark l ∷ rest))) is_y
+        from_piece s r rest p (reading at (Some d) d x y l l) (jobs.Ready (Mark l) ∷ []) ps (λ w. Stands t w → Simulates t n (suc (suc (suc d))) (item.Do at (op.Library Fgets 3 target) ∷ items) w) m
+        (λ back m. from_piece s r rest p (Mark l) [] back (λ w. Stands t (reading at (Some d) d x y l l ∷ w) → Simulates t n (suc (suc (suc d))) (item.Do at (op.Library Fgets 3 target) ∷ items) (reading at (Some d) d x y l l ∷ w)) m
+        (λ back m. from_none s r rest p back (λ w. Stands t (reading at (Some d) d x y l l ∷ (Mark l ∷ w)) → Simulates t n (suc (suc (suc d))) (item.Do at (op.Library Fgets 3 target) ∷ items) (reading at (Some d) d x y l l ∷ (Mark l ∷ w))) m
+        (λ stands. subst (λ x. Simulates t n (suc (suc (suc d))) (item.Do at (op.Library Fgets 3 target) ∷ items) (reading at (Some d) d x y l l ∷ (Mark l ∷ rest))) is_x
+        (subst (λ y. Simulates t n (suc (suc (suc d))) (item.Do at (op.Library Fgets 3 target) ∷ items) (reading at (Some d) d (suc d) y l l ∷ (Mark l ∷ rest))) is_y
         (gives_read n d l at target items (Mark l ∷ rest) rest (led s t fits l (l + 1) (l + 1) rest (one_less l) (itself (l + 1)) few (stands_after t (reading at (Some d) d x y l l) (Mark l ∷ rest) stands)) f))))) stands;
   }
     where
@@ -89,12 +89,12 @@ module _ (s : SettingView) (t : Activation) (fits : IsOfUnit t s) (n : ℕ) wher
   -- the arguments stand, and a line is read on one of two ways
   pub condition_read : (at : Place) (args : TermTrees) (d k none_label some_label : ℕ) (p : Plan) → p.jobs ≡ [] → argument_count args ≡ 3 → room_of_all args ≤ k → Fits d k → Argued s t n args d → (unread read : Items)
       → (ps : List PieceView) (r : Plan) → Makes s p (argument_jobs args d ++ jobs.Ready (reading at None d (behind d 1) (behind d 2) none_label some_label) ∷ []) ps r → IsKnown t r → (items : List Item) (rest on_none on_some : List PieceView) → Stands t (ps ++ rest)
-      → Leads t none_label on_none → Leads t some_label on_some → Follows t n d (listed unread ++ items) on_none → Follows t n d (listed read ++ items) on_some
-      → Follows t n d ((arguments args ++ item.ReadLine at unread read ∷ []) ++ items) (ps ++ rest)
+      → Leads t none_label on_none → Leads t some_label on_some → Simulates t n d (listed unread ++ items) on_none → Simulates t n d (listed read ++ items) on_some
+      → Simulates t n d ((arguments args ++ item.ReadLine at unread read ∷ []) ++ items) (ps ++ rest)
   condition_read at args d k none_label some_label p none three few enough given unread read ps r m known items rest on_none on_some stands to_none to_some f g =
       let q = reading at None d (behind d 1) (behind d 2) none_label some_label in
-      subst (λ xs. Follows t n d xs (ps ++ rest)) (sym (append_assoc (arguments args) (item.ReadLine at unread read ∷ []) items))
+      subst (λ xs. Simulates t n d xs (ps ++ rest)) (sym (append_assoc (arguments args) (item.ReadLine at unread read ∷ []) items))
       (then_ends s t n (argument_jobs args d) (arguments args) d (suc (suc (suc d))) p none (subst (λ k. RunsFrom s t n p (argument_jobs args d) (arguments args) d k) (three_more d (argument_count args) three) (given.from p none)) q ps r m known (item.ReadLine at unread read ∷ items) rest stands
-      (λ w. subst (λ x. Follows t n (suc (suc (suc d))) (item.ReadLine at unread read ∷ items) (reading at None d x (behind d 2) none_label some_label ∷ w)) (second_there d k args three few enough)
-      (subst (λ y. Follows t n (suc (suc (suc d))) (item.ReadLine at unread read ∷ items) (reading at None d (suc d) y none_label some_label ∷ w)) (third_there d k args three few enough)
+      (λ w. subst (λ x. Simulates t n (suc (suc (suc d))) (item.ReadLine at unread read ∷ items) (reading at None d x (behind d 2) none_label some_label ∷ w)) (second_there d k args three few enough)
+      (subst (λ y. Simulates t n (suc (suc (suc d))) (item.ReadLine at unread read ∷ items) (reading at None d (suc d) y none_label some_label ∷ w)) (third_there d k args three few enough)
       (gives_line n d none_label some_label at unread read items w on_none on_some to_none to_some f g))))

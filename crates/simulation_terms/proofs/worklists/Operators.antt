@@ -22,7 +22,7 @@ use Rattle.semantics.specs.SourceMachine.TermItems.{operating, order_of}
 use Rattle.simulation_terms.specs.Instructions.Acts as acts
 use Rattle.simulation_terms.specs.Instructions.Acts.{IsAct}
 use Rattle.simulation_terms.specs.SimulationRelation.Activations.{Activation}
-use Rattle.simulation_terms.specs.SimulationRelation.Follows.{at_place}
+use Rattle.simulation_terms.specs.SimulationRelation.Simulates.{at_place}
 use Rattle.simulation_terms.specs.Worklists.Rooms.{larger, both_rooms}
 use Rattle.simulation_terms.specs.Worklists.TemplateParts.{IsOfUnit}
 use Rattle.simulation_terms.proofs.worklists.Runs.{Runs, then, does}

@@ -20,7 +20,7 @@ use Rattle.semantics.specs.SourceMachine.Items.{Item}
 use Rattle.semantics.specs.SourceMachine.Operations.{Operation}
 use Rattle.simulation_terms.specs.Instructions.Acts.{IsAct}
 use Rattle.simulation_terms.specs.SimulationRelation.Activations.{Activation}
-use Rattle.simulation_terms.specs.SimulationRelation.Follows.{Names, Follows, at_place}
+use Rattle.simulation_terms.specs.SimulationRelation.Simulates.{Names, Simulates, at_place}
 use Rattle.simulation_terms.proofs.simulation_relation.Constructions.{gives_step, gives_drop}
 use Rattle.simulation_terms.specs.Worklists.TemplateParts.{IsKnown, Stands}
 
@@ -108,13 +108,13 @@ module _ (s : SettingView) where
   module _ (t : Activation) (n : ℕ) where
     -- where works come to pieces, items follow in these, whatever comes behind
     abbrev pub RunsFrom : Plan → List Job → List Item → ℕ → ℕ → Type 0
-    RunsFrom p js is d next = (ps : List PieceView) (r : Plan) → Makes s p js ps r → IsKnown t r → (items : List Item) (rest : List PieceView) → Stands t (ps ++ rest) → Follows t n next items rest → Follows t n d (is ++ items) (ps ++ rest)
+    RunsFrom p js is d next = (ps : List PieceView) (r : Plan) → Makes s p js ps r → IsKnown t r → (items : List Item) (rest : List PieceView) → Stands t (ps ++ rest) → Simulates t n next items rest → Simulates t n d (is ++ items) (ps ++ rest)
 
     pub record Runs (js : List Job) (is : List Item) (d next : ℕ) : Type 0 where
       pub from : (p : Plan) → p.jobs ≡ [] → RunsFrom p js is d next
 
-    pub joined : (d : ℕ) (items : List Item) (ps front back rest : List PieceView) → ps ≡ front ++ back → Follows t n d items (front ++ (back ++ rest)) → Follows t n d items (ps ++ rest)
-    joined d items ps front back rest e f = subst (λ xs. Follows t n d items (xs ++ rest)) (sym e) (subst (λ xs. Follows t n d items xs) (sym (append_assoc front back rest)) f)
+    pub joined : (d : ℕ) (items : List Item) (ps front back rest : List PieceView) → ps ≡ front ++ back → Simulates t n d items (front ++ (back ++ rest)) → Simulates t n d items (ps ++ rest)
+    joined d items ps front back rest e f = subst (λ xs. Simulates t n d items (xs ++ rest)) (sym e) (subst (λ xs. Simulates t n d items xs) (sym (append_assoc front back rest)) f)
 
     pub split : (ps front back rest : List PieceView) → ps ≡ front ++ back → Stands t (ps ++ rest) → Stands t (front ++ (back ++ rest))
     split ps front back rest e stands = subst (Stands t) (append_assoc front back rest) (subst (λ xs. Stands t (xs ++ rest)) e stands)
@@ -127,33 +127,33 @@ module _ (s : SettingView) where
         let grown = grows s x.between ks x.back r x.second in
         let later = second.from x.between (jobs_none s p js x.front x.between x.first none) x.back r x.second known items rest (stands_behind t x.front (x.back ++ rest) here) f in
         let all = first x.front x.between x.first (known_before t x.between r grown known) (hs ++ items) (x.back ++ rest) here later in
-        joined d ((is ++ hs) ++ items) ps x.front x.back rest x.all (subst (λ xs. Follows t n d xs (x.front ++ (x.back ++ rest))) (sym (append_assoc is hs items)) all)
+        joined d ((is ++ hs) ++ items) ps x.front x.back rest x.all (subst (λ xs. Simulates t n d xs (x.front ++ (x.back ++ rest))) (sym (append_assoc is hs items)) all)
 
     pub then : (js ks : List Job) (is hs : List Item) (d middle next : ℕ) → Runs js is d middle → Runs ks hs middle next → Runs (js ++ ks) (is ++ hs) d next
     then js ks is hs d middle next first second = record { from = λ p none. then_from js ks is hs d middle next p none (first.from p none) second }
 
     -- some works, and then a piece behind which nothing follows here
     pub then_ends : (js : List Job) (is : List Item) (d middle : ℕ) (p : Plan) → p.jobs ≡ [] → RunsFrom p js is d middle → (q : PieceView) (ps : List PieceView) (r : Plan) → Makes s p (js ++ jobs.Ready q ∷ []) ps r → IsKnown t r → (items : List Item) (rest : List PieceView) → Stands t (ps ++ rest)
-        → ((w : List PieceView) → Follows t n middle items (q ∷ w)) → Follows t n d (is ++ items) (ps ++ rest)
+        → ((w : List PieceView) → Simulates t n middle items (q ∷ w)) → Simulates t n d (is ++ items) (ps ++ rest)
     then_ends js is d middle p none first q ps r m known items rest stands last =
         let x = parted s p js (jobs.Ready q ∷ []) ps r m in
         let y = headed x.between q [] x.back r x.second in
         let here = split ps x.front x.back rest x.all stands in
         let grown = grows s x.between (jobs.Ready q ∷ []) x.back r x.second in
-        let later = subst (λ xs. Follows t n middle items (xs ++ rest)) (sym y.is) (last (y.back ++ rest)) in
+        let later = subst (λ xs. Simulates t n middle items (xs ++ rest)) (sym y.is) (last (y.back ++ rest)) in
         joined d (is ++ items) ps x.front x.back rest x.all (first x.front x.between x.first (known_before t x.between r grown known) items (x.back ++ rest) here later)
 
     -- one piece
-    pub piece_first : (q : PieceView) (is : List Item) (d next : ℕ) → ((items : List Item) (rest : List PieceView) → Follows t n next items rest → Follows t n d (is ++ items) (q ∷ rest)) → Runs (jobs.Ready q ∷ []) is d next
-    piece_first q is d next gives = record { from = λ p none ps r m known items rest stands f. let x = headed p q [] ps r m in subst (λ xs. Follows t n d (is ++ items) (xs ++ rest)) (sym (x.is ∙ ap (λ xs. q ∷ xs) (none_made p x.back r x.made))) (gives items rest f) }
+    pub piece_first : (q : PieceView) (is : List Item) (d next : ℕ) → ((items : List Item) (rest : List PieceView) → Simulates t n next items rest → Simulates t n d (is ++ items) (q ∷ rest)) → Runs (jobs.Ready q ∷ []) is d next
+    piece_first q is d next gives = record { from = λ p none ps r m known items rest stands f. let x = headed p q [] ps r m in subst (λ xs. Simulates t n d (is ++ items) (xs ++ rest)) (sym (x.is ∙ ap (λ xs. q ∷ xs) (none_made p x.back r x.made))) (gives items rest f) }
 
     -- one piece, of which is known where it stands
-    pub piece_stands : (q : PieceView) (is : List Item) (d next : ℕ) → ((items : List Item) (rest : List PieceView) → Stands t (q ∷ rest) → Follows t n next items rest → Follows t n d (is ++ items) (q ∷ rest)) → Runs (jobs.Ready q ∷ []) is d next
+    pub piece_stands : (q : PieceView) (is : List Item) (d next : ℕ) → ((items : List Item) (rest : List PieceView) → Stands t (q ∷ rest) → Simulates t n next items rest → Simulates t n d (is ++ items) (q ∷ rest)) → Runs (jobs.Ready q ∷ []) is d next
     piece_stands q is d next gives = record {
       from = λ p none ps r m known items rest stands f.
           let x = headed p q [] ps r m in
           let alone = x.is ∙ ap (λ xs. q ∷ xs) (none_made p x.back r x.made) in
-          subst (λ xs. Follows t n d (is ++ items) (xs ++ rest)) (sym alone) (gives items rest (subst (λ xs. Stands t (xs ++ rest)) alone stands) f);
+          subst (λ xs. Simulates t n d (is ++ items) (xs ++ rest)) (sym alone) (gives items rest (subst (λ xs. Stands t (xs ++ rest)) alone stands) f);
     }
 
     -- an instruction
@@ -164,12 +164,12 @@ module _ (s : SettingView) where
     pub dropped : (js : List Job) (is : List Item) (d : ℕ) → Runs js is d (suc d) → Runs js (is ++ item.Drop ∷ []) d d
     dropped js is d runs = record {
       from = λ p none ps r m known items rest stands f.
-          subst (λ xs. Follows t n d xs (ps ++ rest)) (sym (append_assoc is (item.Drop ∷ []) items)) (runs.from p none ps r m known (item.Drop ∷ items) rest stands (gives_drop n d items rest f));
+          subst (λ xs. Simulates t n d xs (ps ++ rest)) (sym (append_assoc is (item.Drop ∷ []) items)) (runs.from p none ps r m known (item.Drop ∷ items) rest stands (gives_drop n d items rest f));
     }
 
     -- an item gives way to others
     abbrev pub Unfolds : Item → List Item → ℕ → Type 0
-    Unfolds i is d = (items : List Item) (ps : List PieceView) → Follows t n d (is ++ items) ps → Follows t n d (i ∷ items) ps
+    Unfolds i is d = (items : List Item) (ps : List PieceView) → Simulates t n d (is ++ items) ps → Simulates t n d (i ∷ items) ps
 
     -- and a work to its parts
     pub unfolds : (j : Job) (i : Item) (is : List Item) (d next : ℕ) → is_piece j ≡ false → Unfolds i is d → ((p : Plan) → p.jobs ≡ [] → RunsFrom (planless (parts s j p)) (parts s j p).jobs is d next) → Runs (j ∷ []) (i ∷ []) d next

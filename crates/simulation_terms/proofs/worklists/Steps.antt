@@ -16,7 +16,7 @@ use Rattle.semantics.specs.SourceMachine.Items.{Item}
 use Rattle.semantics.specs.SourceMachine.Operations as op
 use Rattle.simulation_terms.specs.Instructions.Acts as acts
 use Rattle.simulation_terms.specs.SimulationRelation.Activations.{Activation}
-use Rattle.simulation_terms.specs.SimulationRelation.Follows.{at_place}
+use Rattle.simulation_terms.specs.SimulationRelation.Simulates.{at_place}
 use Rattle.simulation_terms.proofs.worklists.Runs.{Runs, then, does}
 use Rattle.simulation_terms.proofs.worklists.About.{Addressed}
 use Rattle.simulation_terms.proofs.worklists.Assignments.{conversion_jobs, copies, converts, stores, keeps}

@@ -17,7 +17,7 @@ use Rattle.semantics.specs.SourceMachine.Operations as op
 use Rattle.lower_expressions.specs.Calls.{gives, result_temp}
 use Rattle.semantics.specs.CfgMachine.FlowStates.{values_of}
 use Rattle.semantics.specs.SourceMachine.Operations.{Operation, LeftFirst, RightFirst, newest, target_size}
-use Rattle.semantics.specs.TemplateMachine.TemplateStates.{Templates, Standing}
+use Rattle.semantics.specs.TemplateMachine.TemplateStates.{Templates, TemplateState}
 use Rattle.semantics.specs.TemplateMachine.TemplateActs as template
 
 -- the values stand in temporaries, the oldest one in the first; the newest one comes first in the list
@@ -49,21 +49,21 @@ pub data IsAct : Operation → Act → ℕ → ℕ → Type 0 where
   convert : (d : ℕ) (old new : declared.Scalar) → IsAct (op.Convert new) (act.Convert d d old new) (suc d) (suc d)
 
 -- both go on in the same world, and the values stand in the temporaries; or both stop alike
-pub data SameReply (s : Standing) (count : ℕ) : Reply (List Scalar) → Reply Standing → Type 0 where
+pub data SameReply (s : TemplateState) (count : ℕ) : Reply (List Scalar) → Reply TemplateState → Type 0 where
   both_go : (vs : List Scalar) (temps : ℕ → Option Scalar) (w : World) → Holds vs temps → length vs ≡ count → SameReply s count (goes vs w) (goes (record s { temps = temps; world = w }) w)
   both_stop : (why : Why) (w : World) → SameReply s count (stops why w) (stops why w)
 
 -- an operation and its instruction do the same
 abbrev pub OperationsAreActs : Type 0
-OperationsAreActs = (t : Templates) (operation : Operation) (a : Act) (d next : ℕ) (vs : List Scalar) (s : Standing) → IsAct operation a d next → Holds vs s.temps → length vs ≡ d → SameReply s next (op.perform t.unit operation vs s.world) (template.perform t a s)
+OperationsAreActs = (t : Templates) (operation : Operation) (a : Act) (d next : ℕ) (vs : List Scalar) (s : TemplateState) → IsAct operation a d next → Holds vs s.temps → length vs ≡ d → SameReply s next (op.perform t.unit operation vs s.world) (template.perform t a s)
 
 -- where the value of an assignment is not used, it stands in no temporary
-pub data SameStore (s : Standing) (vs : List Scalar) : Reply (List Scalar) → Reply Standing → Type 0 where
+pub data SameStore (s : TemplateState) (vs : List Scalar) : Reply (List Scalar) → Reply TemplateState → Type 0 where
   both_go : (v : Scalar) (w : World) → SameStore s vs (goes (v ∷ vs) w) (goes (record s { world = w }) w)
   both_stop : (why : Why) (w : World) → SameStore s vs (stops why w) (stops why w)
 
 abbrev pub StoresAreActs : Type 0
-StoresAreActs = (t : Templates) (kind : declared.Scalar) (v p : Scalar) (vs : List Scalar) (s : Standing) → Holds (v ∷ (p ∷ vs)) s.temps → SameStore s vs (op.perform t.unit (op.Store kind) (v ∷ (p ∷ vs)) s.world) (template.perform t (act.Store (length vs) (suc (length vs)) kind None) s)
+StoresAreActs = (t : Templates) (kind : declared.Scalar) (v p : Scalar) (vs : List Scalar) (s : TemplateState) → Holds (v ∷ (p ∷ vs)) s.temps → SameStore s vs (op.perform t.unit (op.Store kind) (v ∷ (p ∷ vs)) s.world) (template.perform t (act.Store (length vs) (suc (length vs)) kind None) s)
 
 -- an operation on a copy of the newest value, where so many are pending below it: the instruction leaves that value and puts
 -- the result behind it
@@ -74,7 +74,7 @@ pub data IsActBehind : Operation → Act → ℕ → Type 0 where
 
 -- where the newest value is pending twice and stands in one temporary, they do the same
 abbrev pub CopiesAreActs : Type 0
-CopiesAreActs = (t : Templates) (operation : Operation) (a : Act) (v : Scalar) (vs : List Scalar) (s : Standing) → IsActBehind operation a (length vs) → Holds (v ∷ vs) s.temps → SameReply s (suc (suc (length vs))) (op.perform t.unit operation (v ∷ (v ∷ vs)) s.world) (template.perform t a s)
+CopiesAreActs = (t : Templates) (operation : Operation) (a : Act) (v : Scalar) (vs : List Scalar) (s : TemplateState) → IsActBehind operation a (length vs) → Holds (v ∷ vs) s.temps → SameReply s (suc (suc (length vs))) (op.perform t.unit operation (v ∷ (v ∷ vs)) s.world) (template.perform t a s)
 
 -- ---- calls of the library
 
@@ -89,7 +89,7 @@ behind_call function d = cond (gives function) (suc d) d
 
 -- the arguments stand in the temporaries from one on, and there the result is put
 abbrev pub CallsAreActs : Type 0
-CallsAreActs = (t : Templates) (function : LibFn) (d count : ℕ) (target : Option Ty) (site : Option ℕ) (vs : List Scalar) (s : Standing) → Holds vs s.temps → length vs ≡ d + count
+CallsAreActs = (t : Templates) (function : LibFn) (d count : ℕ) (target : Option Ty) (site : Option ℕ) (vs : List Scalar) (s : TemplateState) → Holds vs s.temps → length vs ≡ d + count
     → SameReply s (behind_call function d) (op.perform t.unit (op.Library function count target) vs s.world) (template.perform t (act.Library (result_temp function d) function (temps_from d count) site (target_size t.unit target)) s)
 
 -- so many of the newest values stand in as many temporaries

@@ -7,10 +7,10 @@ use Rattle.lower_templates.specs.declared.worklist.pending_works.Landing.{Landin
 use Rattle.lower_templates.specs.declared.worklist.pending_works.Surroundings.{Surroundings}
 use Rattle.semantics.specs.SourceMachine.Items.{Item}
 use Rattle.semantics.specs.SourceMachine.LabelSearch.{from_label}
-use Rattle.semantics.specs.SourceMachine.Scopes.{is_in, all_of, open_scopes, without, inwards, behind_loop, behind_turn}
+use Rattle.semantics.specs.SourceMachine.Scopes.{is_in, all_of, open_scopes, without, inwards, past_loop, past_iteration}
 use Rattle.semantics.specs.SourceMachine.SourceStates.{function_at}
 use Rattle.simulation_terms.specs.SimulationRelation.Activations.{Activation}
-use Rattle.simulation_terms.specs.SimulationRelation.Follows.{Leads, Follows}
+use Rattle.simulation_terms.specs.SimulationRelation.Simulates.{Leads, Simulates}
 use Rattle.simulation_terms.specs.Scopes.Chains.{Chain}
 use Rattle.simulation_terms.specs.Scopes.Scopes.{IsScope}
 use Rattle.simulation_terms.specs.Scopes.SuitedStatements.{Enclosure}
@@ -31,7 +31,7 @@ AreIn (x ∷ xs) known = (is_in x known ≡ true) × AreIn xs known
 pub record Reaches (t : Activation) (n label : ℕ) (to : List Item) : Type 0 where
   pub there : List PieceView
   pub leads : Leads t label there
-  pub follows : Follows t n 0 to there
+  pub simulates : Simulates t n 0 to there
 
 -- what is left to do from each label of the function that runs on follows behind its mark
 abbrev pub LabelsReach : Activation → ℕ → Type 0
@@ -54,7 +54,7 @@ module _ (s : SettingView) (t : Activation) where
     pub within : (x : ℕ) → is_in x (all_of (open_scopes to)) ≡ true → is_in x (all_of scopes) ≡ true
     pub there : List PieceView
     pub leads : Leads t landing.label there
-    pub follows : Follows t n 0 to there
+    pub simulates : Simulates t n 0 to there
 
   -- where items stand: the scopes that are open, in a loop or switch its ends, and where labels lead for fewer turns
   pub record Context (n : ℕ) (around : Surroundings) (enclosed : Enclosure) (known : List ℕ) (scopes : List (List ℕ)) (after_loop after_turn : List Item) : Type 0 where
@@ -65,4 +65,4 @@ module _ (s : SettingView) (t : Activation) where
     pub on_continue : enclosed.continues ≡ true → Lands n scopes after_turn around.scope around.on_continue
 
   abbrev pub Within : ℕ → Surroundings → Enclosure → List ℕ → List Item → Type 0
-  Within n around enclosed known items = Context n around enclosed known (open_scopes items) (behind_loop items) (behind_turn items)
+  Within n around enclosed known items = Context n around enclosed known (open_scopes items) (past_loop items) (past_iteration items)

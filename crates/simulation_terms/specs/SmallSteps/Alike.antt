@@ -16,20 +16,20 @@ use Rattle.semantics.specs.SourceMachine.SourceStates.{State, function_at}
 use Rattle.semantics.specs.SourceMachine.SourceRuns as source
 use Rattle.semantics.specs.SourceMachine.SourceRuns.{SourceRun, Run, body_of}
 use Rattle.semantics.specs.TemplateMachine.TemplateStates as template
-use Rattle.semantics.specs.TemplateMachine.TemplateStates.{Templates, Standing, TemplateRun}
+use Rattle.semantics.specs.TemplateMachine.TemplateStates.{Templates, TemplateState, TemplateRun}
 use Rattle.semantics.specs.TemplateMachine.TemplateSteps.{template_begin, steps_from}
 use Rattle.simulation_terms.specs.Instructions.Acts.{Holds, IsActBehind}
 use Rattle.simulation_terms.specs.SimulationRelation.Activations.{Activation, activation, entry_of}
-use Rattle.simulation_terms.specs.SimulationRelation.Follows.{pieces, Follows, Reached, AllFollow, behind_own, at_place}
+use Rattle.simulation_terms.specs.SimulationRelation.Simulates.{pieces, Simulates, Reached, AllSimulate, behind_own, at_place}
 
 -- the items follow in the pieces, and the values stand in the temporaries; or the newest value does not, and is dropped
 -- next; or a truth that is pushed next stands there already; or the newest value is there twice and stands in one
 -- temporary, and an operation takes it next
 pub data Lined (t : Activation) (n : ℕ) : List Item → List Scalar → (ℕ → Option Scalar) → List PieceView → Type 0 where
-  plain : (items : List Item) (vs : List Scalar) (temps : ℕ → Option Scalar) (ps : List PieceView) → Follows t n (length vs) items ps → Holds vs temps → Lined t n items vs temps ps
-  loose : (v : Scalar) (items : List Item) (vs : List Scalar) (temps : ℕ → Option Scalar) (ps : List PieceView) → Follows t n (length vs) items ps → Holds vs temps → Lined t n (Drop ∷ items) (v ∷ vs) temps ps
-  put : (b : Bool) (items : List Item) (vs : List Scalar) (temps : ℕ → Option Scalar) (ps : List PieceView) → Follows t n (suc (length vs)) items ps → Holds (truth b ∷ vs) temps → Lined t n (Truth b ∷ items) vs temps ps
-  twice : (v : Scalar) (at : Place) (operation : Operation) (a : Act) (items : List Item) (vs : List Scalar) (temps : ℕ → Option Scalar) (ps : List PieceView) → IsActBehind operation a (length vs) → Follows t n (suc (suc (length vs))) items ps → Holds (v ∷ vs) temps → Lined t n (Do at operation ∷ items) (v ∷ (v ∷ vs)) temps (at_place at a ∷ ps)
+  plain : (items : List Item) (vs : List Scalar) (temps : ℕ → Option Scalar) (ps : List PieceView) → Simulates t n (length vs) items ps → Holds vs temps → Lined t n items vs temps ps
+  loose : (v : Scalar) (items : List Item) (vs : List Scalar) (temps : ℕ → Option Scalar) (ps : List PieceView) → Simulates t n (length vs) items ps → Holds vs temps → Lined t n (Drop ∷ items) (v ∷ vs) temps ps
+  put : (b : Bool) (items : List Item) (vs : List Scalar) (temps : ℕ → Option Scalar) (ps : List PieceView) → Simulates t n (suc (length vs)) items ps → Holds (truth b ∷ vs) temps → Lined t n (Truth b ∷ items) vs temps ps
+  twice : (v : Scalar) (at : Place) (operation : Operation) (a : Act) (items : List Item) (vs : List Scalar) (temps : ℕ → Option Scalar) (ps : List PieceView) → IsActBehind operation a (length vs) → Simulates t n (suc (suc (length vs))) items ps → Holds (v ∷ vs) temps → Lined t n (Do at operation ∷ items) (v ∷ (v ∷ vs)) temps (at_place at a ∷ ps)
 
 -- the functions that wait, the newest first, with all values that are pending in them: in each its items follow behind
 -- the call, and its own values stand in the temporaries before the call's first one
@@ -37,7 +37,7 @@ pub data Waits (t : Templates) (n : ℕ) : List states.Frame → List Scalar →
   none : Waits t n [] [] []
   more : (g : ℕ) (names : ℕ → Option ℕ) (items : List Item) (vs : List Scalar) (temps : ℕ → Option Scalar) (ps : List PieceView) (at : Place) (used : Bool) (callers : List states.Frame) (below : List Scalar) (waiting : List template.Frame)
       → Reached t g
-      → Follows (activation t g callers) n (behind_own used (length vs)) items ps
+      → Simulates (activation t g callers) n (behind_own used (length vs)) items ps
       → Holds vs temps
       → Waits t n callers below waiting
       → Waits t n (record { function = g; names = names; control = items; at = at; used = used } ∷ callers) (vs ++ below)
@@ -45,7 +45,7 @@ pub data Waits (t : Templates) (n : ℕ) : List states.Frame → List Scalar →
 
 -- the same function runs, the same ones wait, objects name the same instances, and the worlds are the same, but for what
 -- the last step has violated
-pub data Related (t : Templates) (n : ℕ) : State → Standing → Type 0 where
+pub data Related (t : Templates) (n : ℕ) : State → TemplateState → Type 0 where
   related : (g : ℕ) (names : ℕ → Option ℕ) (items : List Item) (vs : List Scalar) (temps : ℕ → Option Scalar) (ps : List PieceView) (memory : Memory) (draws : List ℤ) (old new : List Rule) (callers : List states.Frame) (below : List Scalar) (waiting : List template.Frame)
       → Reached t g
       → Lined (activation t g callers) n items vs temps ps
@@ -56,7 +56,7 @@ pub data Related (t : Templates) (n : ℕ) : State → Standing → Type 0 where
 
 -- both go on alike for so many turns, or have stopped alike
 pub data Alike (t : Templates) (n : ℕ) : SourceRun → TemplateRun → Type 0 where
-  both_run : (s : State) (r : Standing) (found also_found : List Violation) (steps : ℕ) → Related t n s r → found ≡ also_found → Alike t n (source.running s found steps) (template.running r also_found)
+  both_run : (s : State) (r : TemplateState) (found also_found : List Violation) (steps : ℕ) → Related t n s r → found ≡ also_found → Alike t n (source.running s found steps) (template.running r also_found)
   both_stopped : (why : Why) (memory : Memory) (draws : List ℤ) (old new : List Rule) (found also_found : List Violation) (steps : ℕ) → found ≡ also_found → Alike t n (source.stopped why (record { memory = memory; draws = draws; violated = old }) found steps) (template.stopped why (record { memory = memory; draws = draws; violated = new }) also_found)
 
 -- an item is a step, or calls
@@ -101,8 +101,8 @@ pub record Next (t : Templates) (n : ℕ) (before after : SourceRun) (b : Templa
   pub rests : moves_next before ≡ false → rest_of b ≡ [] → steps ≡ 0
 
 -- a turn of the source is so many pieces, where all functions that are called follow
-abbrev pub TurnsAreFollowed : Type 0
-TurnsAreFollowed = (t : Templates) → AllFollow t → (n : ℕ) (a : SourceRun) (b : TemplateRun) → Alike t (suc n) a b → Next t n a (source.next t.unit a) b
+abbrev pub TurnsAreSimulated : Type 0
+TurnsAreSimulated = (t : Templates) → AllSimulate t → (n : ℕ) (a : SourceRun) (b : TemplateRun) → Alike t (suc n) a b → Next t n a (source.next t.unit a) b
 
 -- both have come to the same memory with the same draws left, have violated the same, and have stopped for the same
 -- cause or not at all
@@ -114,5 +114,5 @@ pub record Agree (s : SourceRun) (r : TemplateRun) : Type 0 where
 
 -- where the body of the entry follows in the pieces of its template, and each function that is called in those of its own,
 -- each run of the unit is one of the templates
-abbrev pub RunsAreFollowed : Type 0
-RunsAreFollowed = (t : Templates) → AllFollow t → ((n : ℕ) → Follows (entry_of t) n 0 (body_of (function_at t.unit t.unit.entry)) (pieces (entry_of t))) → (draws : List ℤ) (turns : ℕ) → (steps : ℕ) × Agree (Run t.unit draws turns) (steps_from t steps (template_begin t draws))
+abbrev pub RunsAreSimulated : Type 0
+RunsAreSimulated = (t : Templates) → AllSimulate t → ((n : ℕ) → Simulates (entry_of t) n 0 (body_of (function_at t.unit t.unit.entry)) (pieces (entry_of t))) → (draws : List ℤ) (turns : ℕ) → (steps : ℕ) × Agree (Run t.unit draws turns) (steps_from t steps (template_begin t draws))

@@ -9,7 +9,7 @@ use Rattle.c_layout.specs.declared.library_functions.LibFn.{LibFn}
 use Rattle.lower_templates.specs.Worklist.TermKinds.{struct_number, lvalue_type}
 use Rattle.lower_expressions.specs.Calls.{gives, reads_line}
 use Rattle.semantics.specs.SourceMachine.TermItems.{argument_count}
-use Rattle.simulation_terms.specs.SimulationRelation.Follows.{IsCalled}
+use Rattle.simulation_terms.specs.SimulationRelation.Simulates.{IsCalled}
 
 -- a call whose value is used gives one
 abbrev pub Gives : Bool → LibFn → Type 0

@@ -9,7 +9,7 @@ use Rattle.lower_template_theorems.specs.PendingLabels.Marks.{all_marked}
 use Rattle.semantics.specs.SourceMachine.CallSteps.{epilogue}
 use Rattle.semantics.specs.SourceMachine.SourceStates.{Frame}
 use Rattle.simulation_terms.specs.SimulationRelation.Activations.{Activation}
-use Rattle.simulation_terms.specs.SimulationRelation.Follows.{Names, Leads, Follows, own, pieces}
+use Rattle.simulation_terms.specs.SimulationRelation.Simulates.{Names, Leads, Simulates, own, pieces}
 
 -- what a template is made from is of the unit, and each label is marked at most once
 pub record IsOfUnit (t : Activation) (s : SettingView) : Type 0 where
@@ -33,4 +33,4 @@ pub record Stands (t : Activation) (ps : List PieceView) : Type 0 where
 -- last label, where it gives its result
 pub data Ends (s : SettingView) (t : Activation) (f : FunctionView) : Type 0 where
   stops : s.is_entry ≡ true → t.callers ≡ [] → Ends s t f
-  goes_back : s.is_entry ≡ false → s.parameters ≡ numbers_from 0 f.parameters → (caller : Frame) (callers : List Frame) → t.callers ≡ caller ∷ callers → (there : List PieceView) → Leads t s.end there → ((n : ℕ) → Follows t n 0 (epilogue f caller) there) → Ends s t f
+  goes_back : s.is_entry ≡ false → s.parameters ≡ numbers_from 0 f.parameters → (caller : Frame) (callers : List Frame) → t.callers ≡ caller ∷ callers → (there : List PieceView) → Leads t s.end there → ((n : ℕ) → Simulates t n 0 (epilogue f caller) there) → Ends s t f

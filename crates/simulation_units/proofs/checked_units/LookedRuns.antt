@@ -13,7 +13,7 @@ use Rattle.simulation_units.specs.Units.UnitRuns.{Agree, AgreeUnlessStuck, UnitR
 use Rattle.simulation_units.specs.CheckedUnits.LookedRuns.{PassesLooks, LookedUnitsAreNeverStuck, LookedRunsAreProgramRuns}
 
 pub never_stuck : LooksMark → LooksScope → LooksStand → RunsAreNeverStuck → LookedUnitsAreNeverStuck
-never_stuck mark scope stand never u passes = never u (record { jumps = stand u passes.marked; marked = mark u passes.marked; scoped = scope u passes.scoped })
+never_stuck mark scope stand never u passes = never u (record { jumps = stand u passes.well_typed; well_typed = mark u passes.well_typed; scoped = scope u passes.scoped })
 
 -- why a run has stopped says that it has
 not_stuck : LookedUnitsAreNeverStuck → (u : UnitView) → PassesLooks u → (draws : List ℤ) (n : ℕ) (r : SourceRun) → Run u draws n ≡ r → why_of r ≡ Some Stuck → ⊥

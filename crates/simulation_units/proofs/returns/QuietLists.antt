@@ -30,39 +30,39 @@ module _ (u : UnitView) (g : ℕ) (callers : List Frame) where
   at_once items now names values w found steps = (0, quiet_turns.there (state items names values w) found steps now)
 
   -- an item behind which they end where they do without it
-  abbrev pub Settled : Item → Type 0
-  Settled i = (rest : List Item) → Ends rest → Ends (i ∷ rest)
+  abbrev pub Normalized : Item → Type 0
+  Normalized i = (rest : List Item) → Ends rest → Ends (i ∷ rest)
 
   pub data AllSettle : List Item → Type 0 where
     none : AllSettle []
     first : (i : Item) (items : List Item) → moves_first i ≡ true → AllSettle (i ∷ items)
-    more : (i : Item) (items : List Item) → Settled i → AllSettle items → AllSettle (i ∷ items)
+    more : (i : Item) (items : List Item) → Normalized i → AllSettle items → AllSettle (i ∷ items)
 
   pub settle : (items : List Item) → AllSettle items → (rest : List Item) → Ends rest → Ends (items ++ rest)
   settle _ none rest ends = ends
   settle _ (first i items now) rest ends = at_once (i ∷ (items ++ rest)) now
-  settle _ (more i items settled later) rest ends = settled (items ++ rest) (settle items later rest ends)
+  settle _ (more i items normalized later) rest ends = normalized (items ++ rest) (settle items later rest ends)
 
   pub both : (xs ys : List Item) → AllSettle xs → AllSettle ys → AllSettle (xs ++ ys)
   both _ ys none b = b
   both _ ys (first i items now) b = first i (items ++ ys) now
-  both _ ys (more i items settled later) b = more i (items ++ ys) settled (both items ys later b)
+  both _ ys (more i items normalized later) b = more i (items ++ ys) normalized (both items ys later b)
 
   -- ---- items that give way to others
 
-  pub value : (e : TermTree) → AllSettle (term_items u true e) → Settled (item.Value e)
+  pub value : (e : TermTree) → AllSettle (term_items u true e) → Normalized (item.Value e)
   value e all rest ends = λ names values w found steps. one_turn (item.Value e ∷ rest) refl names values w found steps (settle (term_items u true e) all rest ends names values _ _ _)
 
-  pub unused : (e : TermTree) → AllSettle (term_items u false e) → Settled (item.Unused e)
+  pub unused : (e : TermTree) → AllSettle (term_items u false e) → Normalized (item.Unused e)
   unused e all rest ends = λ names values w found steps. one_turn (item.Unused e ∷ rest) refl names values w found steps (settle (term_items u false e) all rest ends names values _ _ _)
 
-  pub address : (l : LvalueTree) → AllSettle (address_items u l) → Settled (item.Address l)
+  pub address : (l : LvalueTree) → AllSettle (address_items u l) → Normalized (item.Address l)
   address l all rest ends = λ names values w found steps. one_turn (item.Address l ∷ rest) refl names values w found steps (settle (address_items u l) all rest ends names values _ _ _)
 
-  pub drop : Settled item.Drop
+  pub drop : Normalized item.Drop
   drop rest ends = λ names values w found steps. one_turn (item.Drop ∷ rest) refl names values w found steps (ends names _ _ _ _)
 
-  pub again : Settled item.Again
+  pub again : Normalized item.Again
   again rest ends = by
     where
       by : Ends (item.Again ∷ rest)

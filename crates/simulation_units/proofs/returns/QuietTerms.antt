@@ -28,7 +28,7 @@ use Rattle.semantics.specs.SourceMachine.ConditionItems.{term_items, condition, 
 use Rattle.semantics.specs.SourceMachine.SourceStates.{Frame}
 use Rattle.simulation_terms.proofs.terms.PlainForms.{some_none, some_same, read_from}
 use Rattle.simulation_units.proofs.returns.QuietLists as quiet
-use Rattle.simulation_units.proofs.returns.QuietLists.{Settled, AllSettle, value, unused, address, drop, again, both, if_is_used}
+use Rattle.simulation_units.proofs.returns.QuietLists.{Normalized, AllSettle, value, unused, address, drop, again, both, if_is_used}
 
 module _ (u : UnitView) (g : ℕ) (callers : List Frame) where
   -- what is proved of a term

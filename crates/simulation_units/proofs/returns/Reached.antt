@@ -13,15 +13,15 @@ use Rattle.semantics.specs.TemplateMachine.TemplateStates as template
 use Rattle.semantics.specs.TemplateMachine.TemplateStates.{Templates, TemplateRun}
 use Rattle.semantics.specs.TemplateMachine.TemplateSteps as runs
 use Rattle.semantics.specs.TemplateMachine.TemplateSteps.{template_begin, steps_from}
-use Rattle.simulation_layout.specs.Normalized.SettledRuns.{AtReturn, ReturnsWith}
+use Rattle.simulation_layout.specs.Normalized.NormalizedRuns.{AtReturn, ReturnsWith}
 use Rattle.simulation_terms.specs.SimulationRelation.Activations.{Activation, entry_of}
-use Rattle.simulation_terms.specs.SimulationRelation.Follows as follows
-use Rattle.simulation_terms.specs.SimulationRelation.Follows.{Follows, AllFollow, pieces}
+use Rattle.simulation_terms.specs.SimulationRelation.Simulates as simulates
+use Rattle.simulation_terms.specs.SimulationRelation.Simulates.{Simulates, AllSimulate, pieces}
 use Rattle.simulation_terms.specs.SmallSteps.Alike as alike
 use Rattle.simulation_terms.specs.SmallSteps.Alike.{Lined, Waits, Alike, Next, moves, moves_next, rest_of}
 use Rattle.simulation_terms.proofs.simulation_relation.FewerTurns.{less}
 use Rattle.simulation_terms.proofs.small_steps.CallsAlike.{wait_less}
-use Rattle.simulation_terms.proofs.small_steps.TurnsFollow.{follow, begun, steps_on}
+use Rattle.simulation_terms.proofs.small_steps.TurnsSimulate.{simulate, begun, steps_on}
 use Rattle.simulation_units.specs.Returns.QuietTurns as quiet_turns
 use Rattle.simulation_units.specs.Returns.QuietTurns.{Comes}
 use Rattle.simulation_units.specs.Returns.Returns.{AtEnd, EndsWith}
@@ -58,49 +58,49 @@ still : false ≡ true → ⊥
 still e = cc
 
 -- nothing is left to do either, unless a turn is no step
-nothing_there : {t : Activation} (n d : ℕ) (items : List Item) (ps : List PieceView) → Follows t (suc n) d items ps → ps ≡ [] → moves items ≡ true → items ≡ []
-nothing_there n _ _ _ (follows.goes_back _ _ _ _) empty now = refl
-nothing_there n _ _ _ (follows.finish _ _ _ _ _) empty now = refl
-nothing_there n _ _ _ (follows.by_mark _ _ _ _ _ _) empty now = absurd (some_left empty)
-nothing_there n _ _ _ (follows.value _ _ _ _ _ _) empty now = absurd (still now)
-nothing_there n _ _ _ (follows.unused _ _ _ _ _ _) empty now = absurd (still now)
-nothing_there n _ _ _ (follows.address _ _ _ _ _ _) empty now = absurd (still now)
-nothing_there n _ _ _ (follows.statement _ _ _ _ _ _) empty now = absurd (still now)
-nothing_there n _ _ _ (follows.in_while _ _ _ _ _ _ _) empty now = absurd (still now)
-nothing_there n _ _ _ (follows.in_do _ _ _ _ _ _ _) empty now = absurd (still now)
-nothing_there n _ _ _ (follows.in_for _ _ _ _ _ _ _ _) empty now = absurd (still now)
-nothing_there n _ _ _ (follows.turn_end _ _ _ _ _) empty now = absurd (still now)
-nothing_there n _ _ _ (follows.loop_end _ _ _ _ _) empty now = absurd (still now)
-nothing_there n _ _ _ (follows.break_out _ _ _ _ _) empty now = absurd (still now)
-nothing_there n _ _ _ (follows.next_turn _ _ _ _ _) empty now = absurd (still now)
-nothing_there n _ _ _ (follows.go_to _ _ _ _ _ _ _ _ _ _) empty now = absurd (still now)
-nothing_there n _ _ _ (follows.leave_function _ _ _ _ _ _ _) empty now = absurd (still now)
-nothing_there n _ _ _ (follows.end_body _ _ _ _ _ _ _) empty now = absurd (still now)
-nothing_there n _ _ _ (follows.does _ _ _ _ _ _ _ _ _ _) empty now = absurd (some_left empty)
-nothing_there n _ _ _ (follows.stores _ _ _ _ _ _ _) empty now = absurd (some_left empty)
-nothing_there n _ _ _ (follows.again _ _ _ _ _ _ _ _ _) empty now = absurd (some_left empty)
-nothing_there n _ _ _ (follows.calls_library _ _ _ _ _ _ _ _ _ _) empty now = absurd (some_left empty)
-nothing_there n _ _ _ (follows.drop _ _ _ _ _) empty now = absurd (still now)
-nothing_there n _ _ _ (follows.object _ _ _ _ _ _ _ _ _ _) empty now = absurd (some_left empty)
-nothing_there n _ _ _ (follows.literal _ _ _ _ _ _ _ _ _) empty now = absurd (some_left empty)
-nothing_there n _ _ _ (follows.on_object _ _ _ _ _ _ _ _ _ _) empty now = absurd (some_left empty)
-nothing_there n _ _ _ (follows.enters_none _ _ _ _ _) empty now = absurd (still now)
-nothing_there n _ _ _ (follows.enters _ _ _ _ _ _ _ _ _) empty now = absurd (some_left empty)
-nothing_there n _ _ _ (follows.leaves_none _ _ _ _ _) empty now = absurd (still now)
-nothing_there n _ _ _ (follows.leaves _ _ _ _ _ _ _ _ _) empty now = absurd (some_left empty)
-nothing_there n _ _ _ (follows.choose _ _ _ _ _ _ _ _ _ _ _ _ _ _ _ _ _ _ _ _ _ _ _ _ _ _ _ _) empty now = absurd (some_left empty)
-nothing_there n _ _ _ (follows.read_line _ _ _ _ _ _ _ _ _ _ _ _ _ _ _) empty now = absurd (some_left empty)
-nothing_there n _ _ _ (follows.read_value _ _ _ _ _ _ _ _ _ _) empty now = absurd (some_left empty)
-nothing_there n _ _ _ (follows.select _ _ _ _ _ _ _ _ _ _ _ _) empty now = absurd (some_left empty)
-nothing_there n _ _ _ (follows.hop _ _ _ _ _ _ _ _) empty now = absurd (some_left empty)
-nothing_there n _ _ _ (follows.calls _ _ _ _ _ _ _ _ _ _ _) empty now = absurd (some_left empty)
-nothing_there n _ _ _ (follows.binds _ _ _ _ _ _ _ _ _ _ _) empty now = absurd (some_left empty)
-nothing_there n _ _ _ (follows.enters_outcome _ _ _ _ _ _ _ _ _ _) empty now = absurd (some_left empty)
-nothing_there n _ _ _ (follows.outcome _ _ _ _ _ _ _ _ _ _) empty now = absurd (some_left empty)
-nothing_there n _ _ _ (follows.leaves_outcome _ _ _ _ _ _ _ _ _ _ _) empty now = absurd (some_left empty)
-nothing_there n _ _ _ (follows.used_outcome _ _ _ _ _ _ _ _ _ _ _ _ _ _) empty now = absurd (some_left empty)
-nothing_there n _ _ _ (follows.does_if_used _ _ _ _ _ _ _ _ _ _ _ _ _ _) empty now = absurd (some_left empty)
-nothing_there n _ _ _ (follows.by_unused _ _ _ _ _ _ _ _ _ _) empty now = absurd (some_left empty)
+nothing_there : {t : Activation} (n d : ℕ) (items : List Item) (ps : List PieceView) → Simulates t (suc n) d items ps → ps ≡ [] → moves items ≡ true → items ≡ []
+nothing_there n _ _ _ (simulates.goes_back _ _ _ _) empty now = refl
+nothing_there n _ _ _ (simulates.finish _ _ _ _ _) empty now = refl
+nothing_there n _ _ _ (simulates.by_mark _ _ _ _ _ _) empty now = absurd (some_left empty)
+nothing_there n _ _ _ (simulates.value _ _ _ _ _ _) empty now = absurd (still now)
+nothing_there n _ _ _ (simulates.unused _ _ _ _ _ _) empty now = absurd (still now)
+nothing_there n _ _ _ (simulates.address _ _ _ _ _ _) empty now = absurd (still now)
+nothing_there n _ _ _ (simulates.statement _ _ _ _ _ _) empty now = absurd (still now)
+nothing_there n _ _ _ (simulates.in_while _ _ _ _ _ _ _) empty now = absurd (still now)
+nothing_there n _ _ _ (simulates.in_do _ _ _ _ _ _ _) empty now = absurd (still now)
+nothing_there n _ _ _ (simulates.in_for _ _ _ _ _ _ _ _) empty now = absurd (still now)
+nothing_there n _ _ _ (simulates.turn_end _ _ _ _ _) empty now = absurd (still now)
+nothing_there n _ _ _ (simulates.loop_end _ _ _ _ _) empty now = absurd (still now)
+nothing_there n _ _ _ (simulates.break_out _ _ _ _ _) empty now = absurd (still now)
+nothing_there n _ _ _ (simulates.next_turn _ _ _ _ _) empty now = absurd (still now)
+nothing_there n _ _ _ (simulates.go_to _ _ _ _ _ _ _ _ _ _) empty now = absurd (still now)
+nothing_there n _ _ _ (simulates.leave_function _ _ _ _ _ _ _) empty now = absurd (still now)
+nothing_there n _ _ _ (simulates.end_body _ _ _ _ _ _ _) empty now = absurd (still now)
+nothing_there n _ _ _ (simulates.does _ _ _ _ _ _ _ _ _ _) empty now = absurd (some_left empty)
+nothing_there n _ _ _ (simulates.stores _ _ _ _ _ _ _) empty now = absurd (some_left empty)
+nothing_there n _ _ _ (simulates.again _ _ _ _ _ _ _ _ _) empty now = absurd (some_left empty)
+nothing_there n _ _ _ (simulates.calls_library _ _ _ _ _ _ _ _ _ _) empty now = absurd (some_left empty)
+nothing_there n _ _ _ (simulates.drop _ _ _ _ _) empty now = absurd (still now)
+nothing_there n _ _ _ (simulates.object _ _ _ _ _ _ _ _ _ _) empty now = absurd (some_left empty)
+nothing_there n _ _ _ (simulates.literal _ _ _ _ _ _ _ _ _) empty now = absurd (some_left empty)
+nothing_there n _ _ _ (simulates.on_object _ _ _ _ _ _ _ _ _ _) empty now = absurd (some_left empty)
+nothing_there n _ _ _ (simulates.enters_none _ _ _ _ _) empty now = absurd (still now)
+nothing_there n _ _ _ (simulates.enters _ _ _ _ _ _ _ _ _) empty now = absurd (some_left empty)
+nothing_there n _ _ _ (simulates.leaves_none _ _ _ _ _) empty now = absurd (still now)
+nothing_there n _ _ _ (simulates.leaves _ _ _ _ _ _ _ _ _) empty now = absurd (some_left empty)
+nothing_there n _ _ _ (simulates.choose _ _ _ _ _ _ _ _ _ _ _ _ _ _ _ _ _ _ _ _ _ _ _ _ _ _ _ _) empty now = absurd (some_left empty)
+nothing_there n _ _ _ (simulates.read_line _ _ _ _ _ _ _ _ _ _ _ _ _ _ _) empty now = absurd (some_left empty)
+nothing_there n _ _ _ (simulates.read_value _ _ _ _ _ _ _ _ _ _) empty now = absurd (some_left empty)
+nothing_there n _ _ _ (simulates.select _ _ _ _ _ _ _ _ _ _ _ _) empty now = absurd (some_left empty)
+nothing_there n _ _ _ (simulates.hop _ _ _ _ _ _ _ _) empty now = absurd (some_left empty)
+nothing_there n _ _ _ (simulates.calls _ _ _ _ _ _ _ _ _ _ _) empty now = absurd (some_left empty)
+nothing_there n _ _ _ (simulates.binds _ _ _ _ _ _ _ _ _ _ _) empty now = absurd (some_left empty)
+nothing_there n _ _ _ (simulates.enters_outcome _ _ _ _ _ _ _ _ _ _) empty now = absurd (some_left empty)
+nothing_there n _ _ _ (simulates.outcome _ _ _ _ _ _ _ _ _ _) empty now = absurd (some_left empty)
+nothing_there n _ _ _ (simulates.leaves_outcome _ _ _ _ _ _ _ _ _ _ _) empty now = absurd (some_left empty)
+nothing_there n _ _ _ (simulates.used_outcome _ _ _ _ _ _ _ _ _ _ _ _ _ _) empty now = absurd (some_left empty)
+nothing_there n _ _ _ (simulates.does_if_used _ _ _ _ _ _ _ _ _ _ _ _ _ _) empty now = absurd (some_left empty)
+nothing_there n _ _ _ (simulates.by_unused _ _ _ _ _ _ _ _ _ _) empty now = absurd (some_left empty)
 
 -- both name the same
 at_return : (t : Templates) (Q : (ℕ → Option ℕ) → Type 0) (n : ℕ) (callers : List Frame) (below : List Scalar) (waiting : List template.Frame) (names : ℕ → Option ℕ) → Waits t n callers below waiting → AtEnd Q callers names → AtReturn Q waiting names
@@ -123,7 +123,7 @@ turns_later : (t : Templates) (r : SourceRun) (m : ℕ) → source.turns_from t.
 turns_later t r zero = refl
 turns_later t r (suc m) = ap (source.next t.unit) (turns_later t r m)
 
-module _ (t : Templates) (all : AllFollow t) where
+module _ (t : Templates) (all : AllSimulate t) where
   -- where no pieces are left, turns that are no step lead to where nothing is left to do
   returns_behind : (Q : (ℕ → Option ℕ) → Type 0) (k : ℕ) (r : SourceRun) (b : TemplateRun) → Comes t.unit k r → ((m : ℕ) → EndsWith Q (source.turns_from t.unit r m)) → (n : ℕ) → Alike t (n + suc k) r b → rest_of b ≡ [] → ReturnsWith Q b
   returns_behind Q _ _ b (quiet_turns.has_stopped why w found steps) ends n both empty = stopped both
@@ -135,14 +135,14 @@ module _ (t : Templates) (all : AllFollow t) where
       plus_one : (n : ℕ) → n + 1 ≡ suc n
       plus_one n = omega arith
   returns_behind Q _ _ b (quiet_turns.quiet k r quiet later) ends n both empty =
-      let x = follow t all (n + suc k) r b (subst (λ k. Alike t k r b) (plus_suc n (suc k)) both) in
+      let x = simulate t all (n + suc k) r b (subst (λ k. Alike t k r b) (plus_suc n (suc k)) both) in
       let same : steps_from t x.steps b ≡ b = ap (λ k. steps_from t k b) (x.rests quiet empty) in
       returns_behind Q k (source.next t.unit r) b later (λ m. subst (EndsWith Q) (sym (turns_later t r m)) (ends (suc m))) n (subst (λ b. Alike t (n + suc k) (source.next t.unit r) b) same x.both) empty
     where
       plus_suc : (n m : ℕ) → n + suc m ≡ suc (n + m)
       plus_suc n m = omega arith
 
-  module _ (start : (n : ℕ) → Follows (entry_of t) n 0 (body_of (function_at t.unit t.unit.entry)) (pieces (entry_of t))) (draws : List ℤ) where
+  module _ (start : (n : ℕ) → Simulates (entry_of t) n 0 (body_of (function_at t.unit t.unit.entry)) (pieces (entry_of t))) (draws : List ℤ) where
     -- so many turns later at most, the templates are a piece further
     record Further (n i : ℕ) (most : ℕ) (b : TemplateRun) : Type 0 where
       turn : ℕ
@@ -181,7 +181,7 @@ module _ (t : Templates) (all : AllFollow t) where
         stands : (r a : SourceRun) (b : TemplateRun) → r ≡ a → r ≡ source.stopped why w found steps → Alike t (n + 1) a b → Alike t n a (runs.next t b)
         stands r a b e f both = subst (λ x. Alike t n x (runs.next t b)) (sym f ∙ e) (stays b (subst (λ x. Alike t (n + 1) x b) (sym (sym f ∙ e)) both))
     further _ i _ b (quiet_turns.there s found steps now) is n both =
-        let x = follow t all n (Run t.unit draws i) b (subst (λ k. Alike t k (Run t.unit draws i) b) (plus_one n) both) in
+        let x = simulate t all n (Run t.unit draws i) b (subst (λ k. Alike t k (Run t.unit draws i) b) (plus_one n) both) in
         by x x.steps refl
       where
         plus_one : (n : ℕ) → n + 1 ≡ suc n
@@ -197,7 +197,7 @@ module _ (t : Templates) (all : AllFollow t) where
         by x zero e = absurd (both_ways (subst (λ r. moves_next r ≡ true) is now) (x.moved e))
         by x (suc k) e = later_on n i (suc i) (i + 1) b (same_one i) (moved n i b x k e)
     further _ i _ b (quiet_turns.quiet k r quiet later) is n both =
-        let x = follow t all (n + suc k) (Run t.unit draws i) b (subst (λ k. Alike t k (Run t.unit draws i) b) (plus_suc n (suc k)) both) in
+        let x = simulate t all (n + suc k) (Run t.unit draws i) b (subst (λ k. Alike t k (Run t.unit draws i) b) (plus_suc n (suc k)) both) in
         by (λ z. further k (suc i) (source.next t.unit r) b later (ap (source.next t.unit) is) n z) x x.steps refl
       where
         plus_suc : (n m : ℕ) → n + suc m ≡ suc (n + m)
@@ -294,8 +294,8 @@ module _ (t : Templates) (all : AllFollow t) where
     pub source_stands : (j : ℕ) → (turn : ℕ) × Alike t 0 (Run t.unit draws turn) (steps_from t j (template_begin t draws))
     source_stands j = let x = (reached j).at 0 in (x.turn, x.both)
 
-    pub returns_followed : (Q : (ℕ → Option ℕ) → Type 0) → ((n : ℕ) → EndsWith Q (Run t.unit draws n)) → (j : ℕ) → ReturnsWith Q (steps_from t j (template_begin t draws))
-    returns_followed Q ends j =
+    pub returns_simulated : (Q : (ℕ → Option ℕ) → Type 0) → ((n : ℕ) → EndsWith Q (Run t.unit draws n)) → (j : ℕ) → ReturnsWith Q (steps_from t j (template_begin t draws))
+    returns_simulated Q ends j =
         let r = reached j in
         let b = steps_from t j (template_begin t draws) in
         let x = r.at (suc (total r.bound)) in

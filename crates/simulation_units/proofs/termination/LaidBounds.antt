@@ -4,13 +4,13 @@ use Rattle.std.proofs.lemmas.Bool.{eqb-true}
 use Rattle.lower_templates.specs.Worklist.Pieces.{ExitView, PieceView, Mark}
 use Rattle.lower_templates.specs.Views.ProgramViews.{EdgeView}
 use Rattle.semantics.specs.TemplateMachine.TemplateExits.{behind_mark}
-use Rattle.simulation_layout.specs.InlinedLayout.Copies.{Opened, Copy}
+use Rattle.simulation_layout.specs.InlinedLayout.Copies.{Inlined, Copy}
 use Rattle.simulation_layout.specs.InlinedLayout.Layouts as laid
 use Rattle.simulation_layout.specs.InlinedLayout.Layouts.{AreLed, edges_at, Laid}
 use Rattle.simulation_units.specs.Termination.BoundedTemplates.{ExitsGoOn, GoOn, HasBound, EnterLater, EdgesGoOn}
 use Rattle.simulation_units.proofs.termination.Lists.{last_behind, has_bound}
 
-module _ (o : Opened) where
+module _ (o : Inlined) where
   le_itself : (k : ℕ) → k ≤ k
   le_itself k = omega arith
 

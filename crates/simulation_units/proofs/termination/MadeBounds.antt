@@ -4,11 +4,11 @@ use Rattle.c_layout.specs.CheckedUnits.{UnitView}
 use Rattle.lower_templates.specs.Worklist.Acts.{Step}
 use Rattle.lower_templates.specs.Worklist.Pieces.{ExitView, PieceView, Do, DoIfUsed, End, Mark, Call, TemplateView}
 use Rattle.lower_objects.specs.declared.counts.function_counts.FunctionCounts.{FunctionCounts}
-use Rattle.lower_tables.specs.Counts.SettledTemplates.{NamesView, is_silent, renamed, renamed_exits}
+use Rattle.lower_tables.specs.Counts.NormalizedTemplates.{NamesView, is_silent, renamed, renamed_exits}
 use Rattle.lower_tables.specs.Counts.Preparations.{Reaches, further, Calls, Counts, counts}
 use Rattle.semantics.specs.TemplateMachine.TemplateExits.{behind_mark}
-use Rattle.simulation_layout.specs.Normalized.SettledRuns.{Settles}
-use Rattle.simulation_layout.proofs.normalized.SettledPieces.{from, own, settled_from, led}
+use Rattle.simulation_layout.specs.Normalized.NormalizedRuns.{Settles}
+use Rattle.simulation_layout.proofs.normalized.NormalizedPieces.{from, own, normalized_from, led}
 use Rattle.simulation_layout.proofs.normalized.QuietFunctions.{Quiet, AreIdle, idle_template, silent_is_quiet}
 use Rattle.simulation_units.specs.Termination.BoundedTemplates.{AreLast, ExitsGoOn, GoOn, IsBounded, HasBound}
 use Rattle.simulation_units.proofs.termination.Lists.{itself, last_behind, last_next, compared, has_bound}
@@ -150,7 +150,7 @@ module _ (u : UnitView) (made settles : ℕ → TemplateView) (known : (n : ℕ)
         by rest found (inl is) = is
         by rest found (inr more) =
             let (i, b, to) = led k.table (made n) k.once e.to rest found in
-            let there : behind_mark (renamed names e.to) (settles n).pieces ≡ Some (remains i b rest) = ap (λ (t : TemplateView). behind_mark (renamed names e.to) t.pieces) k.is_settled ∙ to in
+            let there : behind_mark (renamed names e.to) (settles n).pieces ≡ Some (remains i b rest) = ap (λ (t : TemplateView). behind_mark (renamed names e.to) t.pieces) k.is_normalized ∙ to in
             absurd (no_more (length (remains i b rest)) (length (remains j false ps)) (length (remains i b rest)) (last_shorter (remains i b rest) (remains j false ps) (one (remains i b rest) there)) (more_left k.table names s exits ps j rest i b more) refl)
 
     go_on : (j : ℕ) (b : Bool) (ps : List PieceView) → AreLast ps (made n).pieces → AllReached u ps → GoOn (IsBounded settles depth) (settles n).pieces (remains j b ps) → GoOn (HasBound made) (made n).pieces ps
@@ -178,7 +178,7 @@ module _ (u : UnitView) (made settles : ℕ → TemplateView) (known : (n : ℕ)
     one_bound : IsBounded settles (suc depth) n → HasBound made n
     one_bound is =
         has_bound made n (go_on 0 false (made n).pieces (itself (made n).pieces) (all_reached n r)
-        (subst (λ ps. GoOn (IsBounded settles depth) (settles n).pieces ps) (ap (λ (t : TemplateView). t.pieces) k.is_settled ∙ settled_from k.table (made n) k.once) is))
+        (subst (λ ps. GoOn (IsBounded settles depth) (settles n).pieces ps) (ap (λ (t : TemplateView). t.pieces) k.is_normalized ∙ normalized_from k.table (made n) k.once) is))
 
   pub made_bound : (depth n : ℕ) → Reaches u n → IsBounded settles depth n → HasBound made n
   made_bound zero n r is = absurd is

@@ -15,12 +15,12 @@ use Rattle.lower_templates.specs.Worklist.Pieces.{ExitView, PieceView, Do, DoIfU
 use Rattle.semantics.specs.CfgMachine.FlowEdges.{is_taken}
 use Rattle.semantics.specs.CfgMachine.FlowStates.{values_of}
 use Rattle.semantics.specs.SourceMachine.SourceRuns.{violations}
-use Rattle.semantics.specs.TemplateMachine.TemplateStates.{Templates, Frame, Standing, TemplateRun, running, stopped, with_world, if_some, on, going_on}
+use Rattle.semantics.specs.TemplateMachine.TemplateStates.{Templates, Frame, TemplateState, TemplateRun, running, stopped, with_world, if_some, on, going_on}
 use Rattle.semantics.specs.TemplateMachine.TemplateActs.{perform}
 use Rattle.semantics.specs.TemplateMachine.TemplateExits.{behind_mark, at_label, on_way, exit_taken, along, on_exit, put_if, line_read, end_block}
 use Rattle.semantics.specs.TemplateMachine.TemplateSteps as runs
 use Rattle.semantics.specs.TemplateMachine.TemplateSteps.{from_temp, up_to, run_by, next, steps_from, template_begin}
-use Rattle.simulation_layout.specs.Normalized.SettledRuns.{templates}
+use Rattle.simulation_layout.specs.Normalized.NormalizedRuns.{templates}
 use Rattle.simulation_layout.proofs.normalized.SameActs.{changed_in, over, same_act, same_way}
 use Rattle.simulation_units.specs.Termination.BoundedTemplates.{AreLast, ExitsGoOn, GoOn, IsBounded}
 use Rattle.simulation_units.proofs.termination.Lists.{itself}
@@ -39,7 +39,7 @@ module _ (u : UnitView) (of : ℕ → TemplateView) where
   one_step : (r : TemplateRun) → Ends (next t r) → Ends r
   one_step r e = (suc e.0, e.1)
 
-  abbrev stand : ℕ → List PieceView → (ℕ → Option Scalar) → (ℕ → Option ℕ) → List Frame → World → Standing
+  abbrev stand : ℕ → List PieceView → (ℕ → Option Scalar) → (ℕ → Option ℕ) → List Frame → World → TemplateState
   stand g rest temps names frames w = record { function = g; rest = rest; temps = temps; names = names; frames = frames; world = w }
 
   -- it ends wherever it stands before such pieces
@@ -49,16 +49,16 @@ module _ (u : UnitView) (of : ℕ → TemplateView) where
   -- ---- one instruction
 
   module _ (g : ℕ) (ps : List PieceView) (fs : List Frame) (ends : (rest : List PieceView) → AreLast rest ps → EndsFrom g rest fs) (found : List Violation) (at : Place) where
-    abbrev Ran : Reply Standing → Type 0
+    abbrev Ran : Reply TemplateState → Type 0
     Ran x = Ends (run_by found (Some at) x)
 
-    abbrev here : (ℕ → Option Scalar) → (ℕ → Option ℕ) → World → Standing
+    abbrev here : (ℕ → Option Scalar) → (ℕ → Option ℕ) → World → TemplateState
     here temps names w = stand g ps temps names fs w
 
     acted : (a : Act) (temps : ℕ → Option Scalar) (names : ℕ → Option ℕ) (w : World) → Ran (perform t a (here temps names w))
     acted a temps names w = let s = here temps names w in subst Ran (sym (same_act u of of s ps fs refl a)) (by (perform t a s))
       where
-        by : (x : Reply Standing) → Ran (over (changed_in (here temps names w)) x)
+        by : (x : Reply TemplateState) → Ran (over (changed_in (here temps names w)) x)
         by (goes r v) = ends ps (itself ps) r.temps r.names v (found ++ violations (Some at) v)
         by (stops why v) = (0, tt)
 
@@ -89,7 +89,7 @@ module _ (u : UnitView) (of : ℕ → TemplateView) where
         let s = here temps names w in
         subst (λ x. Ran (behind x (λ s w. at_label t s e.to))) (sym (same_way u of of s ps fs refl e.taken)) (by (on_way t s e.taken))
       where
-        by : (x : Reply Standing) → Ran (behind (over (changed_in (here temps names w)) x) (λ s w. at_label t s e.to))
+        by : (x : Reply TemplateState) → Ran (behind (over (changed_in (here temps names w)) x) (λ s w. at_label t s e.to))
         by (goes r v) = labelled e.to lead r.temps r.names r.world
         by (stops why v) = (0, tt)
 

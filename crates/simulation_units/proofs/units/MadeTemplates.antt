@@ -18,7 +18,7 @@ module _ {u : UnitView} {ts : List (Option TemplateView)} {table : List (Option 
   pub made_by : (n : ℕ) (o : Option (Option TemplateView)) → slice_get ts n ≡ o → TemplateView
   made_by n None e = no_template
   made_by n (Some None) e = no_template
-  made_by n (Some (Some s)) e = (p.are_settled n s e).template
+  made_by n (Some (Some s)) e = (p.are_normalized n s e).template
 
   pub made : ℕ → TemplateView
   made n = made_by n (slice_get ts n) refl
@@ -27,7 +27,7 @@ module _ {u : UnitView} {ts : List (Option TemplateView)} {table : List (Option 
   unfolding made_by
   fresh_by n None e s is = absurd (let d : ⊥ = cc in d)
   fresh_by n (Some None) e s is = absurd (let d : ⊥ = cc in d)
-  fresh_by n (Some (Some r)) e s is = let x = p.are_settled n r e in record { function = x.function; is_template = x.is_template; few = x.few }
+  fresh_by n (Some (Some r)) e s is = let x = p.are_normalized n r e in record { function = x.function; is_template = x.is_template; few = x.few }
 
   pub fresh : (n : ℕ) → Reaches u n → IsFresh u n (made n)
   unfolding made

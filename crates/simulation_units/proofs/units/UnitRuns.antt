@@ -30,22 +30,22 @@ use Rattle.source_items.specs.Returns.StandingJumps.{UnitJumpsStand}
 use Rattle.source_items.specs.Returns.ReturnedFunctions.{CalledFunctionsLeaveAll}
 use Rattle.semantics.specs.TemplateMachine.TemplateStates.{Templates, TemplateRun}
 use Rattle.semantics.specs.TemplateMachine.TemplateSteps.{template_begin, steps_from}
-use Rattle.simulation_layout.specs.Normalized.SettledRuns.{templates, ReturnsWith, NamesNothing}
+use Rattle.simulation_layout.specs.Normalized.NormalizedRuns.{templates, ReturnsWith, NamesNothing}
 use Rattle.simulation_layout.specs.InlinedLayout.LaidRuns as laid
 use Rattle.simulation_terms.specs.SimulationRelation.Activations.{entry_of}
-use Rattle.simulation_terms.specs.SimulationRelation.Follows.{Follows, AllFollow, Reached, entry, called, pieces}
+use Rattle.simulation_terms.specs.SimulationRelation.Simulates.{Simulates, AllSimulate, Reached, entry, called, pieces}
 use Rattle.simulation_terms.specs.SmallSteps.Alike as followed
 use Rattle.simulation_units.specs.Preconditions.RegularFunctions.{RegularFunctionsSuit}
-use Rattle.simulation_statements.specs.Entry.Entries.{IsMade, IsEntry, AreMade, EntryIsNotCalled, FunctionsAreFollowed, EntriesAreFollowed}
-use Rattle.simulation_units.specs.Returns.Returns.{AtEnd, EndsWith, ReturnsAreFollowed}
+use Rattle.simulation_statements.specs.Entry.Entries.{IsMade, IsEntry, AreMade, EntryIsNotCalled, FunctionsAreSimulated, EntriesAreSimulated}
+use Rattle.simulation_units.specs.Returns.Returns.{AtEnd, EndsWith, ReturnsAreSimulated}
 use Rattle.simulation_layout.specs.Units.CheckedRuns as fit
 use Rattle.simulation_layout.specs.Units.CheckedRuns.{IsPlainlyMade, CheckedRunsAreTheSame}
 use Rattle.simulation_units.specs.Units.UnitRuns.{IsProgramOf, AgreeUnlessStuck}
 use Rattle.simulation_units.proofs.units.MadeTemplates.{IsFresh, made, fresh}
 
 -- the body of an entry follows in its template
-abbrev pub EntriesFollow : Type 0
-EntriesFollow = (t : Templates) (f : FunctionView) → IsEntry t f → (n : ℕ) → Follows (entry_of t) n 0 (body_of (function_at t.unit t.unit.entry)) (pieces (entry_of t))
+abbrev pub EntriesSimulate : Type 0
+EntriesSimulate = (t : Templates) (f : FunctionView) → IsEntry t f → (n : ℕ) → Simulates (entry_of t) n 0 (body_of (function_at t.unit t.unit.entry)) (pieces (entry_of t))
 
 -- all that is composed
 pub record Laws : Type 0 where
@@ -58,10 +58,10 @@ pub record Laws : Type 0 where
   pub jumps : RegularJumpsStand
   pub not_called : EntriesAreNotCalled
   pub leave : CalledFunctionsLeaveAll
-  pub start : EntriesFollow
-  pub functions : FunctionsAreFollowed
-  pub entries : EntriesAreFollowed
-  pub returns : ReturnsAreFollowed
+  pub start : EntriesSimulate
+  pub functions : FunctionsAreSimulated
+  pub entries : EntriesAreSimulated
+  pub returns : ReturnsAreSimulated
   pub same : CheckedRunsAreTheSame
 
 -- ---- runs that agree with runs that agree
@@ -154,11 +154,11 @@ module _ (laws : Laws) (u : UnitView) (limits : Limits) (program : Flow) (o : Is
   first_made : IsEntry t o.is.entry
   first_made = is_made u.entry o.is.entry true (itself u.entry) begun o.is.is_counted.is_entry
 
-  pub all_follow : AllFollow t
-  all_follow = laws.functions t never are_made
+  pub all_simulate : AllSimulate t
+  all_simulate = laws.functions t never are_made
 
-  pub entry_follows : (n : ℕ) → Follows (entry_of t) n 0 (body_of (function_at t.unit t.unit.entry)) (pieces (entry_of t))
-  entry_follows n = laws.start t o.is.entry first_made n
+  pub entry_simulates : (n : ℕ) → Simulates (entry_of t) n 0 (body_of (function_at t.unit t.unit.entry)) (pieces (entry_of t))
+  entry_simulates n = laws.start t o.is.entry first_made n
 
   -- ---- runs
 

@@ -8,13 +8,13 @@ use Rattle.semantics.specs.CfgMachine.FlowSteps.{flow_steps}
 use Rattle.semantics.specs.CfgMachine.FlowStarts.{flow_begin}
 use Rattle.memory_model.specs.Effects.Worlds.{World, Stuck, Violation}
 use Rattle.semantics.specs.SourceMachine.SourceRuns.{stopped, Run}
-use Rattle.source_preservation.specs.UnitChecks.LookedUnits.{is_marked}
+use Rattle.source_preservation.specs.UnitChecks.LookedUnits.{is_well_typed}
 use Rattle.source_preservation.specs.UnitChecks.LookedScopes.{is_scoped}
 use Rattle.simulation_units.specs.Units.UnitRuns.{IsProgramOf, Agree}
 
 -- a unit that passes both looks
 pub record PassesLooks (u : UnitView) : Type 0 where
-  pub marked : is_marked u ≡ true
+  pub well_typed : is_well_typed u ≡ true
   pub scoped : is_scoped u ≡ true
 
 -- none of its runs is ever stuck

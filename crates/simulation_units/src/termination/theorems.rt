@@ -3,14 +3,14 @@ ghost use Rattle.simulation_units.specs.Termination.EndedRuns.{UnitsWithoutLoops
 
 use crate::calls::entries_are_not_called;
 use crate::preconditions::regular_functions_suit;
-use crate::returns::returns_are_followed;
+use crate::returns::returns_are_simulated;
 use simulation_layout::function_checks::{
     functions_are_labelled, functions_are_regular, names_are_there, scopes_are_apart,
     switches_are_on_integers,
 };
 use simulation_layout::jump_checks::regular_jumps_stand;
 use simulation_layout::units::checked_runs_are_the_same;
-use simulation_statements::entry::{entries_are_followed, functions_are_followed};
+use simulation_statements::entry::{entries_are_simulated, functions_are_simulated};
 use source_items::returns::called_functions_leave_all;
 
 /// Where a checked unit whose functions are regular is lowered to a well-formed program in which no edge enters a block from
@@ -27,8 +27,8 @@ pub fn units_without_loops_end()
     regular_jumps_stand();
     entries_are_not_called();
     called_functions_leave_all();
-    entries_are_followed();
-    functions_are_followed();
-    returns_are_followed();
+    entries_are_simulated();
+    functions_are_simulated();
+    returns_are_simulated();
     checked_runs_are_the_same();
 }

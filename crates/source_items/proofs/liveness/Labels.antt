@@ -88,7 +88,7 @@ module _ (u : UnitView) (l : Sought) (f : FunctionView) (is_entry : Bool) where
         let in_one : Finds f is_entry rest (found u l one (item.Hop ∷ rest)) = found_sits one (item.Hop ∷ rest) breaks continues jumps.0 scoped.1 (hop_encloses u f is_entry breaks continues rest enclosed) (tt, sit) in
         either_found (Within rest) (found u l one (item.Hop ∷ rest)) (found u l two rest) in_one (found_sits two rest breaks continues jumps.1 scoped.2 enclosed sit)
     found_sits (tree.While c s) rest breaks continues jumps scoped enclosed sit =
-        let end : List Item = item.Hop ∷ (item.TurnEnd ∷ (item.WhileTurn c s ∷ (item.LoopEnd ∷ rest))) in
+        let end : List Item = item.Hop ∷ (item.IterationEnd ∷ (item.WhileIteration c s ∷ (item.LoopEnd ∷ rest))) in
         let around : Encloses f is_entry true true end = record { here = enclosed.here; at_break = λ e. enclosed.here; at_continue = λ e. enclosed.here } in
         found_sits s end true true jumps scoped.1 around (tt, (tt, (turning u f is_entry (Some c) None s rest jumps scoped.1 scoped.0 tt enclosed.here, (tt, sit))))
     found_sits (tree.Do s c) rest breaks continues jumps scoped enclosed sit =

@@ -3,7 +3,7 @@ use Rattle.std.proofs.Common.{◌≡◌, Bool, true, false, List, [], ◌∷◌,
 use Rattle.c_layout.specs.CheckedUnits.{FunctionView}
 use Rattle.semantics.specs.SourceMachine.Items as item
 use Rattle.semantics.specs.SourceMachine.Items.{Item, Items, items_of, listed}
-use Rattle.semantics.specs.SourceMachine.Scopes.{behind_loop, behind_turn}
+use Rattle.semantics.specs.SourceMachine.Scopes.{past_loop, past_iteration}
 use Rattle.semantics.specs.SourceMachine.TermItems.{if_used, left_if}
 use Rattle.source_items.specs.Liveness.Lives.{Lives, lives}
 use Rattle.source_items.specs.Liveness.Livings.{Keeps, Sits, AllSit, Sit}
@@ -27,14 +27,14 @@ module _ (f : FunctionView) (first : Bool) where
   sit_after [] rest sit = sit
   sit_after (i ∷ items) rest sit = sit_after items rest sit.1
 
-  pub sit_behind_loop : (items : List Item) → Sit f first items → Sit f first (behind_loop items)
+  pub sit_behind_loop : (items : List Item) → Sit f first items → Sit f first (past_loop items)
   sit_behind_loop [] sit = tt
   sit_behind_loop (item.LoopEnd ∷ items) sit = sit.1
   sit_behind_loop (i ∷ items) sit = sit_behind_loop items sit.1
 
-  pub sit_behind_turn : (items : List Item) → Sit f first items → Sit f first (behind_turn items)
+  pub sit_behind_turn : (items : List Item) → Sit f first items → Sit f first (past_iteration items)
   sit_behind_turn [] sit = tt
-  sit_behind_turn (item.TurnEnd ∷ items) sit = sit.1
+  sit_behind_turn (item.IterationEnd ∷ items) sit = sit.1
   sit_behind_turn (i ∷ items) sit = sit_behind_turn items sit.1
 
   -- ---- items that are chosen

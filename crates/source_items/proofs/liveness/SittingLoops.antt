@@ -6,9 +6,9 @@ use Rattle.c_layout.specs.CheckedTrees.{TermTree, StatementTree, StatementTrees}
 use Rattle.c_layout.specs.CheckedUnits.{UnitView, FunctionView}
 use Rattle.semantics.specs.SourceMachine.Items as item
 use Rattle.semantics.specs.SourceMachine.Items.{Item}
-use Rattle.semantics.specs.SourceMachine.Scopes.{open_scopes, behind_loop}
+use Rattle.semantics.specs.SourceMachine.Scopes.{open_scopes, past_loop}
 use Rattle.semantics.specs.SourceMachine.ConditionItems.{condition}
-use Rattle.semantics.specs.SourceMachine.StatementItems.{statements, while_turn, do_test, do_turn, for_step, for_body, for_turn, returned, of_statement}
+use Rattle.semantics.specs.SourceMachine.StatementItems.{statements, while_iteration, do_test, do_iteration, for_step, for_body, for_iteration, returned, of_statement}
 use Rattle.source_items.specs.Returns.StandingJumps.{JumpsStand}
 use Rattle.source_items.specs.Liveness.Lives.{lives, kept_objects, AreOpen, IsInBody}
 use Rattle.source_items.specs.Liveness.ScopedTerms.{ScopedIf}
@@ -30,8 +30,8 @@ module _ (u : UnitView) (f : FunctionView) (first : Bool) where
   condition_in_body : (c : TermTree) (held failed rest : List Item) → IsInBody f first rest → IsInBody f first (condition u true c held failed ++ rest)
   condition_in_body c held failed rest here = as_in_body (condition u true c held failed ++ rest) rest (condition_keeps c held failed rest) (past_condition open_scopes (λ e items. refl) (λ at test held failed items. refl) (λ at none some items. refl) u true c held failed rest) here
 
-  behind_condition : (c : TermTree) (held failed rest : List Item) → behind_loop (condition u true c held failed ++ rest) ≡ behind_loop rest
-  behind_condition c held failed rest = past_condition behind_loop (λ e items. refl) (λ at test held failed items. refl) (λ at none some items. refl) u true c held failed rest
+  behind_condition : (c : TermTree) (held failed rest : List Item) → past_loop (condition u true c held failed ++ rest) ≡ past_loop rest
+  behind_condition c held failed rest = past_condition past_loop (λ e items. refl) (λ at test held failed items. refl) (λ at none some items. refl) u true c held failed rest
 
   -- ---- turns of loops
 
@@ -40,21 +40,21 @@ module _ (u : UnitView) (f : FunctionView) (first : Bool) where
     body_stands : (items : List Item) → lives f first items ≡ lives f first rest → Encloses f first true true items → Stands f first s items
     body_stands items same e = standing f first true true s items turns.jumps (scoped_as f first s (lives f first rest) (lives f first items) same turns.scoped) e
 
-  pub while_leads : (c : TermTree) (s : StatementTree) (rest : List Item) → Turns f first (Some c) None s rest → Sit f first rest → Leads f first (while_turn u c s) rest
+  pub while_leads : (c : TermTree) (s : StatementTree) (rest : List Item) → Turns f first (Some c) None s rest → Sit f first rest → Leads f first (while_iteration u c s) rest
   while_leads c s rest turns sit =
-      let again : List Item = item.Hop ∷ (item.TurnEnd ∷ (item.WhileTurn c s ∷ [])) in
+      let again : List Item = item.Hop ∷ (item.IterationEnd ∷ (item.WhileIteration c s ∷ [])) in
       let around : Encloses f first true true (again ++ rest) = record { here = turns.here; at_break = λ e. turns.at_break; at_continue = λ e. turns.here } in
       condition_leads u f first true c (item.Statement s ∷ again) [] rest turns.tested (refl, (body_stands (Some c) None s rest turns (again ++ rest) refl around, (tt, (tt, (turns, sit))))) (refl, sit)
 
   pub test_encloses : (c : TermTree) (s : StatementTree) (rest : List Item) → Turns f first (Some c) None s rest → Encloses f first true true (do_test u s c ++ rest)
   test_encloses c s rest turns =
-      let again : IsInBody f first (condition u true c (item.DoTurn s c ∷ []) [] ++ rest) = condition_in_body c (item.DoTurn s c ∷ []) [] rest turns.here in
-      record { here = again; at_break = λ e. subst (IsInBody f first) (sym (behind_condition c (item.DoTurn s c ∷ []) [] rest)) turns.at_break; at_continue = λ e. again }
+      let again : IsInBody f first (condition u true c (item.DoIteration s c ∷ []) [] ++ rest) = condition_in_body c (item.DoIteration s c ∷ []) [] rest turns.here in
+      record { here = again; at_break = λ e. subst (IsInBody f first) (sym (behind_condition c (item.DoIteration s c ∷ []) [] rest)) turns.at_break; at_continue = λ e. again }
 
   pub test_leads : (c : TermTree) (s : StatementTree) (rest : List Item) → Turns f first (Some c) None s rest → Sit f first rest → Leads f first (do_test u s c) rest
-  test_leads c s rest turns sit = let test = condition_leads u f first true c (item.DoTurn s c ∷ []) [] rest turns.tested (refl, (turns, sit)) (refl, sit) in (test.0, (tt, test.1))
+  test_leads c s rest turns sit = let test = condition_leads u f first true c (item.DoIteration s c ∷ []) [] rest turns.tested (refl, (turns, sit)) (refl, sit) in (test.0, (tt, test.1))
 
-  pub do_leads : (c : TermTree) (s : StatementTree) (rest : List Item) → Turns f first (Some c) None s rest → Sit f first rest → Leads f first (do_turn u s c) rest
+  pub do_leads : (c : TermTree) (s : StatementTree) (rest : List Item) → Turns f first (Some c) None s rest → Sit f first rest → Leads f first (do_iteration u s c) rest
   do_leads c s rest turns sit = let test : Leads f first (do_test u s c) rest = test_leads c s rest turns sit in (test.0, (body_stands (Some c) None s rest turns (do_test u s c ++ rest) test.0 (test_encloses c s rest turns), test.1))
 
   pub step_encloses : (c step : Option TermTree) (s : StatementTree) (rest : List Item) → Turns f first c step s rest → Encloses f first true true (for_step c step s ++ rest)
@@ -68,7 +68,7 @@ module _ (u : UnitView) (f : FunctionView) (first : Bool) where
   for_body_leads : (c step : Option TermTree) (s : StatementTree) (rest : List Item) → Turns f first c step s rest → Sit f first rest → Leads f first (for_body c step s) rest
   for_body_leads c step s rest turns sit = let behind : Leads f first (for_step c step s) rest = step_leads c step s rest turns sit in (behind.0, (body_stands c step s rest turns (for_step c step s ++ rest) behind.0 (step_encloses c step s rest turns), behind.1))
 
-  pub for_leads : (c step : Option TermTree) (s : StatementTree) (rest : List Item) → Turns f first c step s rest → Sit f first rest → Leads f first (for_turn u c step s) rest
+  pub for_leads : (c step : Option TermTree) (s : StatementTree) (rest : List Item) → Turns f first c step s rest → Sit f first rest → Leads f first (for_iteration u c step s) rest
   for_leads None step s rest turns sit = for_body_leads None step s rest turns sit
   for_leads (Some c) step s rest turns sit = condition_leads u f first true c (for_body (Some c) step s) [] rest turns.tested (for_body_leads (Some c) step s rest turns sit) (refl, sit)
 
@@ -77,14 +77,14 @@ module _ (u : UnitView) (f : FunctionView) (first : Bool) where
   pub turning : (c step : Option TermTree) (s : StatementTree) (rest : List Item) → JumpsStand true true s → ScopedStatement f (lives f first rest) s → ScopedIf (lives f first rest) c → ScopedIf (lives f first rest) step → IsInBody f first rest → Turns f first c step s (item.LoopEnd ∷ rest)
   turning c step s rest jumps scoped tested stepped here = record { jumps = jumps; scoped = scoped; tested = tested; stepped = stepped; here = here; at_break = here }
 
-  for_replaces : (breaks continues : Bool) (objects : List ℕ) (start : StatementTrees) (c step : Option TermTree) (s : StatementTree) (rest : List Item) → JumpsStand breaks continues (tree.For objects start c step s) → ScopedStatement f (lives f first rest) (tree.For objects start c step s) → Encloses f first breaks continues rest → Sit f first rest → Replaces f first (item.Enters objects ∷ ((statements start ++ (item.ForTurn c step s ∷ (item.LoopEnd ∷ (item.Leaves objects ∷ [])))) ++ rest)) rest
+  for_replaces : (breaks continues : Bool) (objects : List ℕ) (start : StatementTrees) (c step : Option TermTree) (s : StatementTree) (rest : List Item) → JumpsStand breaks continues (tree.For objects start c step s) → ScopedStatement f (lives f first rest) (tree.For objects start c step s) → Encloses f first breaks continues rest → Sit f first rest → Replaces f first (item.Enters objects ∷ ((statements start ++ (item.ForIteration c step s ∷ (item.LoopEnd ∷ (item.Leaves objects ∷ [])))) ++ rest)) rest
   for_replaces breaks continues objects start c step s rest jumps scoped e sit =
       let left : List Item = item.Leaves objects ∷ rest in
-      let end : List Item = item.ForTurn c step s ∷ (item.LoopEnd ∷ left) in
+      let end : List Item = item.ForIteration c step s ∷ (item.LoopEnd ∷ left) in
       let around : Encloses f first breaks continues left = scope_encloses f first breaks continues objects rest scoped.0 e in
       let turns : Turns f first c step s (item.LoopEnd ∷ left) = turning c step s left jumps.1 scoped.4 scoped.2 scoped.3 around.here in
       let all : Sit f first (statements start ++ end) = statements_sit f first false false start end jumps.0 scoped.1 (no_loop f first end around.here) (turns, (tt, (scoped.0, sit))) in
-      let same : (statements start ++ (item.ForTurn c step s ∷ (item.LoopEnd ∷ (item.Leaves objects ∷ [])))) ++ rest ≡ statements start ++ end = append_assoc (statements start) _ rest in
+      let same : (statements start ++ (item.ForIteration c step s ∷ (item.LoopEnd ∷ (item.Leaves objects ∷ [])))) ++ rest ≡ statements start ++ end = append_assoc (statements start) _ rest in
       subst (λ xs. Replaces f first (item.Enters objects ∷ xs) rest) (sym same) (scope_replaces f first objects (statements start ++ end) rest scoped.0 (statements_keep f first start end) all)
 
   -- ---- statements

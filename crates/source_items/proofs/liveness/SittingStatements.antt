@@ -17,7 +17,7 @@ use Rattle.source_items.specs.Liveness.Lives.{Lives, with_those, without_those, 
 use Rattle.source_items.specs.Liveness.ScopedStatements.{ScopedStore, ScopedStores, ScopedReturn, ScopedStatement, ScopedStatements}
 use Rattle.source_items.specs.Liveness.Livings.{Encloses, Stands, Sit}
 use Rattle.source_items.proofs.liveness.Members.{apart, left_or, right_or, self_in, is_in-append}
-use Rattle.source_items.proofs.liveness.Openings.{scope_opens, parts}
+use Rattle.source_items.proofs.liveness.Inlinings.{scope_opens, parts}
 use Rattle.source_items.proofs.liveness.Sitting.{Leads, Adds, adds_both}
 
 module _ (f : FunctionView) (first : Bool) where

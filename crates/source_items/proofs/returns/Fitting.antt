@@ -3,7 +3,7 @@ use Rattle.std.proofs.Common.{◌≡◌, Bool, true, false, List, [], ◌∷◌,
 use Rattle.c_layout.specs.CheckedUnits.{FunctionView}
 use Rattle.semantics.specs.SourceMachine.Items as item
 use Rattle.semantics.specs.SourceMachine.Items.{Item, Items, items_of, listed}
-use Rattle.semantics.specs.SourceMachine.Scopes.{behind_loop, behind_turn}
+use Rattle.semantics.specs.SourceMachine.Scopes.{past_loop, past_iteration}
 use Rattle.semantics.specs.SourceMachine.TermItems.{if_used, left_if}
 use Rattle.source_items.specs.Returns.Leavings.{Fits, AllFit, Fit}
 
@@ -22,14 +22,14 @@ module _ (f : FunctionView) where
   fit_after [] rest fit = fit
   fit_after (i ∷ items) rest fit = fit_after items rest fit.1
 
-  pub fit_behind_loop : (items : List Item) → Fit f items → Fit f (behind_loop items)
+  pub fit_behind_loop : (items : List Item) → Fit f items → Fit f (past_loop items)
   fit_behind_loop [] fit = tt
   fit_behind_loop (item.LoopEnd ∷ items) fit = fit.1
   fit_behind_loop (i ∷ items) fit = fit_behind_loop items fit.1
 
-  pub fit_behind_turn : (items : List Item) → Fit f items → Fit f (behind_turn items)
+  pub fit_behind_turn : (items : List Item) → Fit f items → Fit f (past_iteration items)
   fit_behind_turn [] fit = tt
-  fit_behind_turn (item.TurnEnd ∷ items) fit = fit.1
+  fit_behind_turn (item.IterationEnd ∷ items) fit = fit.1
   fit_behind_turn (i ∷ items) fit = fit_behind_turn items fit.1
 
   -- ---- items that are chosen

@@ -8,7 +8,7 @@ use Rattle.c_layout.specs.declared.syntax_tree.expressions.LogicalOp.TheVariants
 use Rattle.lower_conditions.specs.Conditions.{ReadView, read_by}
 use Rattle.semantics.specs.SourceMachine.Items as item
 use Rattle.semantics.specs.SourceMachine.Items.{Item, items_of}
-use Rattle.semantics.specs.SourceMachine.Scopes.{behind_loop}
+use Rattle.semantics.specs.SourceMachine.Scopes.{past_loop}
 use Rattle.semantics.specs.SourceMachine.TermItems.{arguments}
 use Rattle.semantics.specs.SourceMachine.ConditionItems.{line_items, leaf_by, leaf, condition}
 use Rattle.source_items.specs.Returns.Leavings.{Fit}
@@ -18,12 +18,12 @@ pub arguments_add : (f : FunctionView) (args : TermTrees) → Adds f (arguments 
 arguments_add f tree.End rest fit = fit
 arguments_add f (tree.More e args) rest fit = (tt, arguments_add f args rest fit)
 
-behind_arguments : (args : TermTrees) (rest : List Item) → behind_loop (arguments args ++ rest) ≡ behind_loop rest
+behind_arguments : (args : TermTrees) (rest : List Item) → past_loop (arguments args ++ rest) ≡ past_loop rest
 behind_arguments tree.End rest = refl
 behind_arguments (tree.More e args) rest = behind_arguments args rest
 
-behind_line : (args : TermTrees) (i : Item) (rest : List Item) → behind_loop (i ∷ rest) ≡ behind_loop rest → behind_loop ((arguments args ++ i ∷ []) ++ rest) ≡ behind_loop rest
-behind_line args i rest same = ap behind_loop (append_assoc (arguments args) (i ∷ []) rest) ∙ behind_arguments args (i ∷ rest) ∙ same
+behind_line : (args : TermTrees) (i : Item) (rest : List Item) → past_loop (i ∷ rest) ≡ past_loop rest → past_loop ((arguments args ++ i ∷ []) ++ rest) ≡ past_loop rest
+behind_line args i rest same = ap past_loop (append_assoc (arguments args) (i ∷ []) rest) ∙ behind_arguments args (i ∷ rest) ∙ same
 
 module _ (u : UnitView) (f : FunctionView) where
   -- ---- a condition that is a term or reads a line
@@ -45,15 +45,15 @@ module _ (u : UnitView) (f : FunctionView) where
   leaf_fits : (is_test : Bool) (e : TermTree) (held failed rest : List Item) → Fit f (held ++ rest) → Fit f (failed ++ rest) → Fit f (leaf u is_test e held failed ++ rest)
   leaf_fits is_test e held failed rest one other = leaf_by_fits is_test e (read_by e) held failed rest one other
 
-  behind_leaf_by : (is_test : Bool) (e : TermTree) (o : Option ReadView) (held failed rest : List Item) → behind_loop (leaf_by u is_test e o (items_of held) (items_of failed) ++ rest) ≡ behind_loop rest
+  behind_leaf_by : (is_test : Bool) (e : TermTree) (o : Option ReadView) (held failed rest : List Item) → past_loop (leaf_by u is_test e o (items_of held) (items_of failed) ++ rest) ≡ past_loop rest
   behind_leaf_by is_test e (Some r) held failed rest = by r.wants_line
     where
-      by : (wants : Bool) → behind_loop (line_items r wants (items_of held) (items_of failed) ++ rest) ≡ behind_loop rest
+      by : (wants : Bool) → past_loop (line_items r wants (items_of held) (items_of failed) ++ rest) ≡ past_loop rest
       by true = behind_line r.call.arguments (item.ReadLine r.call.at (items_of failed) (items_of held)) rest refl
       by false = behind_line r.call.arguments (item.ReadLine r.call.at (items_of held) (items_of failed)) rest refl
   behind_leaf_by is_test e None held failed rest = refl
 
-  behind_leaf : (is_test : Bool) (e : TermTree) (held failed rest : List Item) → behind_loop (leaf u is_test e held failed ++ rest) ≡ behind_loop rest
+  behind_leaf : (is_test : Bool) (e : TermTree) (held failed rest : List Item) → past_loop (leaf u is_test e held failed ++ rest) ≡ past_loop rest
   behind_leaf is_test e held failed rest = behind_leaf_by is_test e (read_by e) held failed rest
 
   -- ---- conditions
@@ -66,7 +66,7 @@ module _ (u : UnitView) (f : FunctionView) where
   condition_fits is_test e held failed rest one other = leaf_fits is_test e held failed rest one other
 
   -- conditions end no loop
-  pub behind_condition : (is_test : Bool) (e : TermTree) (held failed rest : List Item) → behind_loop (condition u is_test e held failed ++ rest) ≡ behind_loop rest
+  pub behind_condition : (is_test : Bool) (e : TermTree) (held failed rest : List Item) → past_loop (condition u is_test e held failed ++ rest) ≡ past_loop rest
   behind_condition is_test (Typed at t parens fixed (tree.Logical And a b)) held failed rest = behind_condition is_test a (condition u is_test b held failed) failed rest
   behind_condition is_test (Typed at t parens fixed (tree.Logical Or a b)) held failed rest = behind_condition is_test a held (condition u is_test b held failed) rest
   behind_condition is_test (Typed at t parens fixed (tree.Not a)) held failed rest = behind_condition is_test a failed held rest

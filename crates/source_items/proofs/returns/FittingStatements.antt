@@ -6,9 +6,9 @@ use Rattle.c_layout.specs.CheckedTrees.{TermTree, StatementTree, StatementTrees,
 use Rattle.c_layout.specs.CheckedUnits.{UnitView, FunctionView}
 use Rattle.semantics.specs.SourceMachine.Items as item
 use Rattle.semantics.specs.SourceMachine.Items.{Item}
-use Rattle.semantics.specs.SourceMachine.Scopes.{behind_loop, behind_turn}
+use Rattle.semantics.specs.SourceMachine.Scopes.{past_loop, past_iteration}
 use Rattle.semantics.specs.SourceMachine.ConditionItems.{condition}
-use Rattle.semantics.specs.SourceMachine.StatementItems.{statements, stored, all_stored, while_turn, do_test, do_turn, for_step, for_body, for_turn, returned, of_statement, list_statements}
+use Rattle.semantics.specs.SourceMachine.StatementItems.{statements, stored, all_stored, while_iteration, do_test, do_iteration, for_step, for_body, for_iteration, returned, of_statement, list_statements}
 use Rattle.source_items.specs.Returns.StandingJumps.{JumpsStand, AllJumpsStand}
 use Rattle.source_items.specs.Returns.EndedObjects.{ended, AreAmong, EndOwn}
 use Rattle.source_items.specs.Returns.Leavings.{Encloses, Stands, Turns, Fit}
@@ -85,25 +85,25 @@ module _ (u : UnitView) (f : FunctionView) where
   -- ---- loops
 
   -- a body with the end of its turn behind it
-  loop_body : (s : StatementTree) (rest : List Item) → JumpsStand true true s → EndOwn f rest → EndOwn f (behind_loop rest) → EndOwn f (behind_turn rest) → Stands f s rest
+  loop_body : (s : StatementTree) (rest : List Item) → JumpsStand true true s → EndOwn f rest → EndOwn f (past_loop rest) → EndOwn f (past_iteration rest) → Stands f s rest
   loop_body s rest jumps ends one other = standing f true true s rest jumps (record { ends = ends; at_break = λ e. one; at_continue = λ e. other })
 
-  pub while_fits : (c : TermTree) (s : StatementTree) (rest : List Item) → Turns f s rest → Fit f rest → Fit f (while_turn u c s ++ rest)
+  pub while_fits : (c : TermTree) (s : StatementTree) (rest : List Item) → Turns f s rest → Fit f rest → Fit f (while_iteration u c s ++ rest)
   while_fits c s rest turns fit =
-      let again : List Item = item.Hop ∷ (item.TurnEnd ∷ (item.WhileTurn c s ∷ [])) in
+      let again : List Item = item.Hop ∷ (item.IterationEnd ∷ (item.WhileIteration c s ∷ [])) in
       let stands : Stands f s (again ++ rest) = loop_body s (again ++ rest) turns.jumps turns.ends turns.at_break turns.ends in
       condition_fits u f true c (item.Statement s ∷ again) [] rest (stands, (tt, (tt, (turns, fit)))) fit
 
   pub test_encloses : (c : TermTree) (s : StatementTree) (rest : List Item) → Turns f s rest → Encloses f true true (do_test u s c ++ rest)
   test_encloses c s rest turns =
-      let test : List Item = condition u true c (item.DoTurn s c ∷ []) [] in
+      let test : List Item = condition u true c (item.DoIteration s c ∷ []) [] in
       let again : EndOwn f (test ++ rest) = own_more f test rest turns.ends in
-      record { ends = again; at_break = λ e. subst (EndOwn f) (sym (behind_condition u f true c (item.DoTurn s c ∷ []) [] rest)) turns.at_break; at_continue = λ e. again }
+      record { ends = again; at_break = λ e. subst (EndOwn f) (sym (behind_condition u f true c (item.DoIteration s c ∷ []) [] rest)) turns.at_break; at_continue = λ e. again }
 
   pub test_fits : (c : TermTree) (s : StatementTree) (rest : List Item) → Turns f s rest → Fit f rest → Fit f (do_test u s c ++ rest)
-  test_fits c s rest turns fit = (tt, condition_fits u f true c (item.DoTurn s c ∷ []) [] rest (turns, fit) fit)
+  test_fits c s rest turns fit = (tt, condition_fits u f true c (item.DoIteration s c ∷ []) [] rest (turns, fit) fit)
 
-  pub do_fits : (c : TermTree) (s : StatementTree) (rest : List Item) → Turns f s rest → Fit f rest → Fit f (do_turn u s c ++ rest)
+  pub do_fits : (c : TermTree) (s : StatementTree) (rest : List Item) → Turns f s rest → Fit f rest → Fit f (do_iteration u s c ++ rest)
   do_fits c s rest turns fit = (standing f true true s (do_test u s c ++ rest) turns.jumps (test_encloses c s rest turns), test_fits c s rest turns fit)
 
   pub step_encloses : (c step : Option TermTree) (s : StatementTree) (rest : List Item) → Turns f s rest → Encloses f true true (for_step c step s ++ rest)
@@ -117,7 +117,7 @@ module _ (u : UnitView) (f : FunctionView) where
   for_body_fits : (c step : Option TermTree) (s : StatementTree) (rest : List Item) → Turns f s rest → Fit f rest → Fit f (for_body c step s ++ rest)
   for_body_fits c step s rest turns fit = (standing f true true s (for_step c step s ++ rest) turns.jumps (step_encloses c step s rest turns), step_fits c step s rest turns fit)
 
-  pub for_fits : (c step : Option TermTree) (s : StatementTree) (rest : List Item) → Turns f s rest → Fit f rest → Fit f (for_turn u c step s ++ rest)
+  pub for_fits : (c step : Option TermTree) (s : StatementTree) (rest : List Item) → Turns f s rest → Fit f rest → Fit f (for_iteration u c step s ++ rest)
   for_fits None step s rest turns fit = for_body_fits None step s rest turns fit
   for_fits (Some c) step s rest turns fit = condition_fits u f true c (for_body (Some c) step s) [] rest (for_body_fits (Some c) step s rest turns fit) fit
 
@@ -126,14 +126,14 @@ module _ (u : UnitView) (f : FunctionView) where
   pub turning : (s : StatementTree) (rest : List Item) → JumpsStand true true s → EndOwn f rest → Turns f s (item.LoopEnd ∷ rest)
   turning s rest jumps ends = record { jumps = jumps; ends = ends; at_break = ends }
 
-  for_scope_fits : (objects : List ℕ) (first : StatementTrees) (c step : Option TermTree) (s : StatementTree) (rest : List Item) → AllJumpsStand false false first → JumpsStand true true s → EndOwn f rest → Fit f rest → Fit f (item.Enters objects ∷ ((statements first ++ (item.ForTurn c step s ∷ (item.LoopEnd ∷ (item.Leaves objects ∷ [])))) ++ rest))
+  for_scope_fits : (objects : List ℕ) (first : StatementTrees) (c step : Option TermTree) (s : StatementTree) (rest : List Item) → AllJumpsStand false false first → JumpsStand true true s → EndOwn f rest → Fit f rest → Fit f (item.Enters objects ∷ ((statements first ++ (item.ForIteration c step s ∷ (item.LoopEnd ∷ (item.Leaves objects ∷ [])))) ++ rest))
   for_scope_fits objects first c step s rest before jumps ends fit =
       let left : List Item = item.Leaves objects ∷ rest in
       let own : EndOwn f left = own_more f (item.Leaves objects ∷ []) rest ends in
-      let end : List Item = item.ForTurn c step s ∷ (item.LoopEnd ∷ left) in
+      let end : List Item = item.ForIteration c step s ∷ (item.LoopEnd ∷ left) in
       let turns : Turns f s (item.LoopEnd ∷ left) = turning s left jumps own in
       let all : Fit f (statements first ++ end) = statements_fit f false false first end before (no_loop f end own) (turns, (tt, (tt, fit))) in
-      let same : (statements first ++ (item.ForTurn c step s ∷ (item.LoopEnd ∷ (item.Leaves objects ∷ [])))) ++ rest ≡ statements first ++ end = append_assoc (statements first) _ rest in
+      let same : (statements first ++ (item.ForIteration c step s ∷ (item.LoopEnd ∷ (item.Leaves objects ∷ [])))) ++ rest ≡ statements first ++ end = append_assoc (statements first) _ rest in
       subst (λ xs. Fit f (item.Enters objects ∷ xs)) (sym same) (entering f objects (statements first) end (among_left objects (ended f rest)) all)
 
   -- ---- statements

@@ -4,7 +4,7 @@ use Rattle.c_layout.specs.CheckedUnits.{UnitView, FunctionView}
 use Rattle.memory_model.specs.Effects.NumberedTables.{put_at, clear_at}
 use Rattle.semantics.specs.SourceMachine.Items as item
 use Rattle.semantics.specs.SourceMachine.Items.{Item}
-use Rattle.semantics.specs.SourceMachine.Scopes.{is_in, entered_between, jump, entering_first, leap_in, behind_loop, behind_turn}
+use Rattle.semantics.specs.SourceMachine.Scopes.{is_in, entered_between, jump, entering_first, leap_in, past_loop, past_iteration}
 use Rattle.semantics.specs.SourceMachine.SourceStates.{Frame, function_at}
 use Rattle.source_items.specs.Returns.EndedObjects.{ended_by, ended, AreAmong, EndOwn}
 use Rattle.source_items.specs.Returns.Leavings.{Fits, Fit, Leaving, AllLeaving}
@@ -52,11 +52,11 @@ module _ (f : FunctionView) (names : ℕ → Option ℕ) where
   pub jumping : (from to : List Item) → EndOwn f to → Fit f to → Leaving f names from → Leaving f names (jump from to)
   jumping from to own fit leaving = covered_by from (jump from to) (left_or_ended f from to own) (tt, (entered_among f from to, (tt, fit))) leaving
 
-  pub breaking : (rest : List Item) → Leaving f names (item.BreakOut ∷ rest) → Leaving f names (jump rest (behind_loop rest))
-  breaking rest leaving = jumping rest (behind_loop rest) leaving.fit.0 (fit_behind_loop f rest leaving.fit.1) (gone item.BreakOut rest refl leaving)
+  pub breaking : (rest : List Item) → Leaving f names (item.BreakOut ∷ rest) → Leaving f names (jump rest (past_loop rest))
+  breaking rest leaving = jumping rest (past_loop rest) leaving.fit.0 (fit_behind_loop f rest leaving.fit.1) (gone item.BreakOut rest refl leaving)
 
-  pub continuing : (rest : List Item) → Leaving f names (item.NextTurn ∷ rest) → Leaving f names (jump rest (behind_turn rest))
-  continuing rest leaving = jumping rest (behind_turn rest) leaving.fit.0 (fit_behind_turn f rest leaving.fit.1) (gone item.NextTurn rest refl leaving)
+  pub continuing : (rest : List Item) → Leaving f names (item.NextIteration ∷ rest) → Leaving f names (jump rest (past_iteration rest))
+  continuing rest leaving = jumping rest (past_iteration rest) leaving.fit.0 (fit_behind_turn f rest leaving.fit.1) (gone item.NextIteration rest refl leaving)
 
   entered_first : (xs to : List Item) (objects : List ℕ) → AreAmong objects (ended f to) → Fit f to → (AreAmong (ended f to) (ended f (entering_first objects to))) × Fit f (entering_first objects to)
   entered_first xs to [] among fit = (all_among (ended f to), fit)

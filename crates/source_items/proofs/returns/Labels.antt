@@ -74,7 +74,7 @@ module _ (u : UnitView) (l : Sought) (f : FunctionView) where
         let in_one : Finds f rest (found u l one (item.Hop ∷ rest)) = found_fits one (item.Hop ∷ rest) breaks continues jumps.0 (hop_encloses u f breaks continues rest enclosed) (tt, fit) in
         either_found (Reached f (ended f rest)) (found u l one (item.Hop ∷ rest)) (found u l two rest) in_one (found_fits two rest breaks continues jumps.1 enclosed fit)
     found_fits (tree.While c s) rest breaks continues jumps enclosed fit =
-        let end : List Item = item.Hop ∷ (item.TurnEnd ∷ (item.WhileTurn c s ∷ (item.LoopEnd ∷ rest))) in
+        let end : List Item = item.Hop ∷ (item.IterationEnd ∷ (item.WhileIteration c s ∷ (item.LoopEnd ∷ rest))) in
         let around : Encloses f true true end = record { ends = enclosed.ends; at_break = λ e. enclosed.ends; at_continue = λ e. enclosed.ends } in
         found_fits s end true true jumps around (tt, (tt, (turning u f s rest jumps enclosed.ends, (tt, fit))))
     found_fits (tree.Do s c) rest breaks continues jumps enclosed fit =

@@ -24,8 +24,8 @@ use Rattle.semantics.specs.SourceMachine.Items as item
 use Rattle.semantics.specs.SourceMachine.Items.{NamedSide, NamedTest, Item, Items, listed, Change}
 use Rattle.semantics.specs.SourceMachine.TermItems.{address_items}
 use Rattle.semantics.specs.SourceMachine.ConditionItems.{term_items}
-use Rattle.semantics.specs.SourceMachine.StatementItems.{of_statement, while_turn, do_turn, for_turn}
-use Rattle.semantics.specs.SourceMachine.Scopes.{is_in, all_of, open_scopes, jump, leap_in, behind_loop, behind_turn}
+use Rattle.semantics.specs.SourceMachine.StatementItems.{of_statement, while_iteration, do_iteration, for_iteration}
+use Rattle.semantics.specs.SourceMachine.Scopes.{is_in, all_of, open_scopes, jump, leap_in, past_loop, past_iteration}
 use Rattle.semantics.specs.SourceMachine.LabelSearch as sought
 use Rattle.semantics.specs.SourceMachine.LabelSearch.{Sought, found, from_label, case_of}
 use Rattle.semantics.specs.SourceMachine.SourceStates.{Frame, State, with_world, first_do, function_at, result_object, type_of, instance_of}
@@ -161,7 +161,7 @@ module _ (u : UnitView) where
 
   -- ---- switches
 
-  lands : (f : FunctionView) (objects : List ℕ) (l : Sought) (o : Option (List Item)) (rest : List Item) → IfSome (Reached f objects) o → Reached f objects (behind_loop rest) → IfSome (Reached f objects) (landing l o rest)
+  lands : (f : FunctionView) (objects : List ℕ) (l : Sought) (o : Option (List Item)) (rest : List Item) → IfSome (Reached f objects) o → Reached f objects (past_loop rest) → IfSome (Reached f objects) (landing l o rest)
   lands f objects l (Some to) rest reached behind = reached
   lands f objects sought.other None rest reached behind = behind
   lands f objects (sought.label n) None rest reached behind = tt
@@ -202,11 +202,11 @@ module _ (u : UnitView) where
         there : (f : FunctionView) → function_at u s.function ≡ Some f → (to : List Item) → Reached f (own_objects f) to → IsLeavingBy u (jump s.control to) s
         there f is to reached = change_for u s.function f is s.names s.names (item.GoTo n ∷ s.control) (jump s.control to) s.frames (λ leaving. jumping f s.names s.control to reached.ends reached.fit (gone f s.names (item.GoTo n) s.control refl leaving)) all
 
-    broken : (s : State) → IsLeavingAt u item.BreakOut s → IsLeavingBy u (jump s.control (behind_loop s.control)) s
-    broken s all = change s item.BreakOut s.names (jump s.control (behind_loop s.control)) (λ f l. breaking f s.names s.control l) all
+    broken : (s : State) → IsLeavingAt u item.BreakOut s → IsLeavingBy u (jump s.control (past_loop s.control)) s
+    broken s all = change s item.BreakOut s.names (jump s.control (past_loop s.control)) (λ f l. breaking f s.names s.control l) all
 
-    continued : (s : State) → IsLeavingAt u item.NextTurn s → IsLeavingBy u (jump s.control (behind_turn s.control)) s
-    continued s all = change s item.NextTurn s.names (jump s.control (behind_turn s.control)) (λ f l. continuing f s.names s.control l) all
+    continued : (s : State) → IsLeavingAt u item.NextIteration s → IsLeavingBy u (jump s.control (past_iteration s.control)) s
+    continued s all = change s item.NextIteration s.names (jump s.control (past_iteration s.control)) (λ f l. continuing f s.names s.control l) all
 
     -- ---- calls and returns
 
@@ -253,10 +253,10 @@ module _ (u : UnitView) where
     acts (item.Choose at test held failed) s all = chosen at test held failed s s.values all
     acts (item.ReadLine at none some) s all = read at none some s s.values all
     acts (item.Statement statement) s all = expanded s (item.Statement statement) (of_statement u (is_entry s.frames) statement) (λ f. refl) (λ f fits fit. statement_fits u f (is_entry s.frames) statement s.control fits fit) all
-    acts (item.WhileTurn c statement) s all = expanded s (item.WhileTurn c statement) (while_turn u c statement) (λ f. refl) (λ f fits fit. while_fits u f c statement s.control fits fit) all
-    acts (item.DoTurn statement c) s all = expanded s (item.DoTurn statement c) (do_turn u statement c) (λ f. refl) (λ f fits fit. do_fits u f c statement s.control fits fit) all
-    acts (item.ForTurn c clause statement) s all = expanded s (item.ForTurn c clause statement) (for_turn u c clause statement) (λ f. refl) (λ f fits fit. for_fits u f c clause statement s.control fits fit) all
-    acts item.TurnEnd s all = passed s item.TurnEnd (λ f. refl) all
+    acts (item.WhileIteration c statement) s all = expanded s (item.WhileIteration c statement) (while_iteration u c statement) (λ f. refl) (λ f fits fit. while_fits u f c statement s.control fits fit) all
+    acts (item.DoIteration statement c) s all = expanded s (item.DoIteration statement c) (do_iteration u statement c) (λ f. refl) (λ f fits fit. do_fits u f c statement s.control fits fit) all
+    acts (item.ForIteration c clause statement) s all = expanded s (item.ForIteration c clause statement) (for_iteration u c clause statement) (λ f. refl) (λ f fits fit. for_fits u f c clause statement s.control fits fit) all
+    acts item.IterationEnd s all = passed s item.IterationEnd (λ f. refl) all
     acts item.LoopEnd s all = passed s item.LoopEnd (λ f. refl) all
     acts (item.Select at o labels statement) s all = selected at o labels statement s s.values all
     acts (item.Enters objects) s all = entering s objects all
@@ -264,7 +264,7 @@ module _ (u : UnitView) where
     acts item.Hop s all = passed s item.Hop (λ f. refl) all
     acts (item.GoTo n) s all = goes_to s n all
     acts item.BreakOut s all = broken s all
-    acts item.NextTurn s all = continued s all
+    acts item.NextIteration s all = continued s all
     acts item.LeaveFunction s all = goes_if_some (IsLeaving u) s (function_at u s.function) _ (λ f is. returning s f s.frames is all)
     acts item.EndBody s all = goes_if_some (IsLeaving u) s (function_at u s.function) _ (λ f is. ending s f s.frames is all)
     acts (item.Invoke at g count used) s all = invoked s at g count used all

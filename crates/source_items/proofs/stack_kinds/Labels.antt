@@ -60,7 +60,7 @@ module _ (u : UnitView) (l : Sought) (f : FunctionView) (called : Option Bool) (
     found_does (tree.If c s) rest breaks continues kinded jumps enclosed does = found_does s rest breaks continues kinded.1 jumps enclosed does
     found_does (tree.IfElse c one two) rest breaks continues kinded jumps enclosed does = either_found Reaches (found u l one (item.Hop ∷ rest)) (found u l two rest) (found_does one (item.Hop ∷ rest) breaks continues kinded.1 jumps.0 (encloses_more breaks continues (item.Hop ∷ []) rest enclosed) ([], refl, does)) (found_does two rest breaks continues kinded.2 jumps.1 enclosed does)
     found_does (tree.While c s) rest breaks continues kinded jumps enclosed does =
-        let end : List Item = item.Hop ∷ (item.TurnEnd ∷ (item.WhileTurn c s ∷ (item.LoopEnd ∷ rest))) in
+        let end : List Item = item.Hop ∷ (item.IterationEnd ∷ (item.WhileIteration c s ∷ (item.LoopEnd ∷ rest))) in
         found_does s end true true kinded.1 jumps (in_loop end refl refl) ([], refl, ([], (refl, refl), ([], (turning u f called (Some c) None s rest kinded.0 tt kinded.1 jumps, (refl, refl)), ([], (refl, refl), does))))
     found_does (tree.Do s c) rest breaks continues kinded jumps enclosed does =
         let turns : Turns u f (Some c) None s (item.LoopEnd ∷ rest) = turning u f called (Some c) None s rest kinded.0 tt kinded.1 jumps in

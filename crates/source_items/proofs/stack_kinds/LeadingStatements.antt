@@ -8,7 +8,7 @@ use Rattle.c_layout.specs.declared.checked_tree.checked_statements.CaseLabel.{Ca
 use Rattle.lower_conditions.specs.Tests.{named}
 use Rattle.semantics.specs.SourceMachine.Items as item
 use Rattle.semantics.specs.SourceMachine.Items.{Item}
-use Rattle.semantics.specs.SourceMachine.StatementItems.{statements, start_scalar, stored, all_stored, while_turn, do_test, do_turn, clause, for_step, for_body, for_turn, returned, of_statement, list_statements}
+use Rattle.semantics.specs.SourceMachine.StatementItems.{statements, start_scalar, stored, all_stored, while_iteration, do_test, do_iteration, clause, for_step, for_body, for_iteration, returned, of_statement, list_statements}
 use Rattle.source_items.specs.Operations.Kinds.{Kind, Number, Address}
 use Rattle.source_items.specs.Returns.StandingJumps.{JumpsStand, AllJumpsStand}
 use Rattle.source_items.specs.StackKinds.KindedTerms.{term_kind, KindedTerm}
@@ -63,19 +63,19 @@ module _ (u : UnitView) (f : FunctionView) (called : Option Bool) where
 
   -- ---- loops
 
-  pub while_through : (c : TermTree) (s : StatementTree) (rest : List Item) → Turns u f (Some c) None s rest → Through u f called (while_turn u c s) rest [] []
+  pub while_through : (c : TermTree) (s : StatementTree) (rest : List Item) → Turns u f (Some c) None s rest → Through u f called (while_iteration u c s) rest [] []
   while_through c s rest turns =
-      let again : List Item = item.Hop ∷ (item.TurnEnd ∷ (item.WhileTurn c s ∷ [])) in
+      let again : List Item = item.Hop ∷ (item.IterationEnd ∷ (item.WhileIteration c s ∷ [])) in
       let stands : Stands u f s (again ++ rest) = standing true true s (again ++ rest) turns.kinded turns.jumps (in_loop (again ++ rest) turns.ends refl) in
       condition_through u f called true c (item.Statement s ∷ again) [] rest [] [] turns.condition ([], (stands, (refl, refl)), ([], refl, ([], (refl, refl), ([], (turns, (refl, refl)), refl)))) refl
 
   pub test_through : (c : TermTree) (s : StatementTree) (rest : List Item) → Turns u f (Some c) None s rest → Through u f called (do_test u s c) rest [] []
-  test_through c s rest turns = ([], (refl, refl), condition_through u f called true c (item.DoTurn s c ∷ []) [] rest [] [] turns.condition ([], (turns, (refl, refl)), refl) refl)
+  test_through c s rest turns = ([], (refl, refl), condition_through u f called true c (item.DoIteration s c ∷ []) [] rest [] [] turns.condition ([], (turns, (refl, refl)), refl) refl)
 
   pub test_encloses : (c : TermTree) (s : StatementTree) (rest : List Item) → ends_loop rest ≡ true → Encloses true true (do_test u s c ++ rest)
   test_encloses c s rest ends = in_loop (do_test u s c ++ rest) (loop_ends_more (do_test u s c) rest ends) refl
 
-  pub do_through : (c : TermTree) (s : StatementTree) (rest : List Item) → Turns u f (Some c) None s rest → Through u f called (do_turn u s c) rest [] []
+  pub do_through : (c : TermTree) (s : StatementTree) (rest : List Item) → Turns u f (Some c) None s rest → Through u f called (do_iteration u s c) rest [] []
   do_through c s rest turns = ([], (standing true true s (do_test u s c ++ rest) turns.kinded turns.jumps (test_encloses c s rest turns.ends), (refl, refl)), test_through c s rest turns)
 
   pub step_through : (c step : Option TermTree) (s : StatementTree) (rest : List Item) → Turns u f c step s rest → Through u f called (for_step c step s) rest [] []
@@ -88,7 +88,7 @@ module _ (u : UnitView) (f : FunctionView) (called : Option Bool) where
   for_body_through : (c step : Option TermTree) (s : StatementTree) (rest : List Item) → Turns u f c step s rest → Through u f called (for_body c step s) rest [] []
   for_body_through c step s rest turns = ([], (standing true true s (for_step c step s ++ rest) turns.kinded turns.jumps (step_encloses c step s rest turns.ends), (refl, refl)), step_through c step s rest turns)
 
-  pub for_through : (c step : Option TermTree) (s : StatementTree) (rest : List Item) → Turns u f c step s rest → Through u f called (for_turn u c step s) rest [] []
+  pub for_through : (c step : Option TermTree) (s : StatementTree) (rest : List Item) → Turns u f c step s rest → Through u f called (for_iteration u c step s) rest [] []
   for_through None step s rest turns = for_body_through None step s rest turns
   for_through (Some c) step s rest turns = condition_through u f called true c (for_body (Some c) step s) [] rest [] [] turns.condition (for_body_through (Some c) step s rest turns) refl
 
@@ -97,9 +97,9 @@ module _ (u : UnitView) (f : FunctionView) (called : Option Bool) where
   pub turning : (c step : Option TermTree) (s : StatementTree) (rest : List Item) → KindedClause u true c → KindedClause u false step → KindedStatement u f s → JumpsStand true true s → Turns u f c step s (item.LoopEnd ∷ rest)
   turning c step s rest test clause kinded jumps = record { condition = test; step = clause; kinded = kinded; jumps = jumps; ends = refl }
 
-  for_scope_through : (objects : List ℕ) (first : StatementTrees) (c step : Option TermTree) (s : StatementTree) (rest : List Item) → KindedStatement u f (tree.For objects first c step s) → AllJumpsStand false false first → JumpsStand true true s → Through u f called (item.Enters objects ∷ (statements first ++ (item.ForTurn c step s ∷ (item.LoopEnd ∷ (item.Leaves objects ∷ []))))) rest [] []
+  for_scope_through : (objects : List ℕ) (first : StatementTrees) (c step : Option TermTree) (s : StatementTree) (rest : List Item) → KindedStatement u f (tree.For objects first c step s) → AllJumpsStand false false first → JumpsStand true true s → Through u f called (item.Enters objects ∷ (statements first ++ (item.ForIteration c step s ∷ (item.LoopEnd ∷ (item.Leaves objects ∷ []))))) rest [] []
   for_scope_through objects first c step s rest kinded before jumps =
-      let end : List Item = item.ForTurn c step s ∷ (item.LoopEnd ∷ (item.Leaves objects ∷ [])) in
+      let end : List Item = item.ForIteration c step s ∷ (item.LoopEnd ∷ (item.Leaves objects ∷ [])) in
       let turns : Turns u f c step s (item.LoopEnd ∷ (item.Leaves objects ∷ rest)) = turning c step s (item.Leaves objects ∷ rest) kinded.1 kinded.2 kinded.3 jumps in
       ([], refl, through_both u f called (statements first) end rest [] [] [] (statements_through false false first (end ++ rest) kinded.0 before (no_loop (end ++ rest))) ([], (turns, (refl, refl)), ([], (refl, refl), ([], refl, refl))))
 

@@ -3,7 +3,7 @@ use Rattle.std.proofs.Common.{◌≡◌, Bool, true, false, List, [], ◌∷◌,
 use Rattle.c_layout.specs.CheckedUnits.{UnitView, FunctionView}
 use Rattle.semantics.specs.SourceMachine.Items as item
 use Rattle.semantics.specs.SourceMachine.Items.{Item}
-use Rattle.semantics.specs.SourceMachine.Scopes.{behind_loop, behind_turn}
+use Rattle.semantics.specs.SourceMachine.Scopes.{past_loop, past_iteration}
 use Rattle.source_items.specs.Operations.Kinds.{Kind}
 use Rattle.source_items.specs.StackKinds.KindedItems.{ends_loop, ends_turn, Encloses, Does}
 
@@ -17,7 +17,7 @@ loop_ends_more (i ∷ xs) items ends = loop_ends_more xs items ends
 
 pub turn_ends_more : (xs items : List Item) → ends_turn items ≡ true → ends_turn (xs ++ items) ≡ true
 turn_ends_more [] items ends = ends
-turn_ends_more (item.TurnEnd ∷ xs) items ends = refl
+turn_ends_more (item.IterationEnd ∷ xs) items ends = refl
 turn_ends_more (i ∷ xs) items ends = turn_ends_more xs items ends
 
 pub encloses_more : (breaks continues : Bool) (xs items : List Item) → Encloses breaks continues items → Encloses breaks continues (xs ++ items)
@@ -34,12 +34,12 @@ pub in_switch : (breaks continues : Bool) (items : List Item) → Encloses break
 in_switch breaks continues items e = record { at_break = λ b. refl; at_continue = e.at_continue }
 
 module _ (u : UnitView) (f : FunctionView) (called : Option Bool) where
-  pub does_behind_loop : (items : List Item) (before after : List Kind) → ends_loop items ≡ true → Does u f called items before after → Does u f called (behind_loop items) [] after
+  pub does_behind_loop : (items : List Item) (before after : List Kind) → ends_loop items ≡ true → Does u f called items before after → Does u f called (past_loop items) [] after
   does_behind_loop [] before after ends does = absurd (apart ends)
   does_behind_loop (item.LoopEnd ∷ items) before after ends does = subst (λ ks. Does u f called items ks after) does.1.1 does.2
   does_behind_loop (i ∷ items) before after ends does = does_behind_loop items does.0 after ends does.2
 
-  pub does_behind_turn : (items : List Item) (before after : List Kind) → ends_turn items ≡ true → Does u f called items before after → Does u f called (behind_turn items) [] after
+  pub does_behind_turn : (items : List Item) (before after : List Kind) → ends_turn items ≡ true → Does u f called items before after → Does u f called (past_iteration items) [] after
   does_behind_turn [] before after ends does = absurd (apart ends)
-  does_behind_turn (item.TurnEnd ∷ items) before after ends does = subst (λ ks. Does u f called items ks after) does.1.1 does.2
+  does_behind_turn (item.IterationEnd ∷ items) before after ends does = subst (λ ks. Does u f called items ks after) does.1.1 does.2
   does_behind_turn (i ∷ items) before after ends does = does_behind_turn items does.0 after ends does.2

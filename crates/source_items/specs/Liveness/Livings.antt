@@ -4,7 +4,7 @@ use Rattle.c_layout.specs.CheckedTrees.{TermTree, StatementTree}
 use Rattle.c_layout.specs.CheckedUnits.{FunctionView, UnitView}
 use Rattle.semantics.specs.SourceMachine.Items as item
 use Rattle.semantics.specs.SourceMachine.Items.{Item, Items, listed}
-use Rattle.semantics.specs.SourceMachine.Scopes.{open_scopes, behind_loop, behind_turn}
+use Rattle.semantics.specs.SourceMachine.Scopes.{open_scopes, past_loop, past_iteration}
 use Rattle.semantics.specs.SourceMachine.SourceStates.{Frame, State, function_at, result_object}
 use Rattle.semantics.specs.SourceMachine.SourceSteps.{is_entry}
 use Rattle.source_items.specs.Returns.StandingJumps.{JumpsStand}
@@ -16,8 +16,8 @@ use Rattle.source_items.specs.Liveness.ScopedStatements.{ScopedStatement}
 -- behind the loop and behind its turn, where there is one
 pub record Encloses (f : FunctionView) (first : Bool) (breaks continues : Bool) (items : List Item) : Type 0 where
   pub here : IsInBody f first items
-  pub at_break : breaks ≡ true → IsInBody f first (behind_loop items)
-  pub at_continue : continues ≡ true → IsInBody f first (behind_turn items)
+  pub at_break : breaks ≡ true → IsInBody f first (past_loop items)
+  pub at_continue : continues ≡ true → IsInBody f first (past_iteration items)
 
 -- a statement where what it names lives, whose jumps have their loops and switches in itself or in the items behind it
 pub record Stands (f : FunctionView) (first : Bool) (statement : StatementTree) (items : List Item) : Type 0 where
@@ -34,13 +34,13 @@ pub record Turns (f : FunctionView) (first : Bool) (condition step : Option Term
   pub tested : ScopedIf (lives f first items) condition
   pub stepped : ScopedIf (lives f first items) step
   pub here : IsInBody f first items
-  pub at_break : IsInBody f first (behind_loop items)
+  pub at_break : IsInBody f first (past_loop items)
 
 -- the body of a switch, before the end of the switch
 pub record Selects (f : FunctionView) (first : Bool) (statement : StatementTree) (items : List Item) : Type 0 where
   pub stands : Stands f first statement items
-  pub lands : IsInBody f first (behind_loop items)
-  pub same : open_scopes (behind_loop items) ≡ open_scopes items
+  pub lands : IsInBody f first (past_loop items)
+  pub same : open_scopes (past_loop items) ≡ open_scopes items
 
 -- items that may be chosen enter and leave nothing
 abbrev pub Keeps : FunctionView → Bool → Items → List Item → Type 0
@@ -59,15 +59,15 @@ module _ (f : FunctionView) (first : Bool) where
     Sits (item.Choose at test held failed) items = Keeps f first held items × AllSit held items × Keeps f first failed items × AllSit failed items
     Sits (item.ReadLine at none some) items = Keeps f first none items × AllSit none items × Keeps f first some items × AllSit some items
     Sits (item.Statement statement) items = Stands f first statement items
-    Sits (item.WhileTurn c statement) items = Turns f first (Some c) None statement items
-    Sits (item.DoTurn statement c) items = Turns f first (Some c) None statement items
-    Sits (item.ForTurn c step statement) items = Turns f first c step statement items
+    Sits (item.WhileIteration c statement) items = Turns f first (Some c) None statement items
+    Sits (item.DoIteration statement c) items = Turns f first (Some c) None statement items
+    Sits (item.ForIteration c step statement) items = Turns f first c step statement items
     Sits (item.Select at o labels statement) items = Selects f first statement items
     Sits (item.Enters objects) items = AreAlive objects (lives f first items)
     Sits (item.Leaves objects) items = AreNew objects (lives f first items)
     Sits (item.GoTo n) items = IsInBody f first items
-    Sits item.BreakOut items = IsInBody f first items × IsInBody f first (behind_loop items)
-    Sits item.NextTurn items = IsInBody f first items × IsInBody f first (behind_turn items)
+    Sits item.BreakOut items = IsInBody f first items × IsInBody f first (past_loop items)
+    Sits item.NextIteration items = IsInBody f first items × IsInBody f first (past_iteration items)
     Sits item.LeaveFunction items = IsInBody f first items
     Sits (item.LeaveOutcome at) items = lives f first items (result_object f) ≡ false
     Sits i items = Unit {0}

@@ -4,7 +4,7 @@ use Rattle.c_layout.specs.CheckedTrees.{StatementTree}
 use Rattle.c_layout.specs.CheckedUnits.{FunctionView, UnitView}
 use Rattle.semantics.specs.SourceMachine.Items as item
 use Rattle.semantics.specs.SourceMachine.Items.{Item, Items, listed}
-use Rattle.semantics.specs.SourceMachine.Scopes.{is_in, behind_loop, behind_turn}
+use Rattle.semantics.specs.SourceMachine.Scopes.{is_in, past_loop, past_iteration}
 use Rattle.semantics.specs.SourceMachine.SourceStates.{Frame, State, function_at}
 use Rattle.source_items.specs.Returns.StandingJumps.{JumpsStand}
 use Rattle.source_items.specs.Returns.EndedObjects.{ended, AreAmong, EndOwn}
@@ -13,8 +13,8 @@ use Rattle.source_items.specs.Returns.EndedObjects.{ended, AreAmong, EndOwn}
 -- there is one
 pub record Encloses (f : FunctionView) (breaks continues : Bool) (items : List Item) : Type 0 where
   pub ends : EndOwn f items
-  pub at_break : breaks ≡ true → EndOwn f (behind_loop items)
-  pub at_continue : continues ≡ true → EndOwn f (behind_turn items)
+  pub at_break : breaks ≡ true → EndOwn f (past_loop items)
+  pub at_continue : continues ≡ true → EndOwn f (past_iteration items)
 
 -- a statement whose jumps have their loops and switches in itself or in the items behind it
 pub record Stands (f : FunctionView) (statement : StatementTree) (items : List Item) : Type 0 where
@@ -27,12 +27,12 @@ pub record Stands (f : FunctionView) (statement : StatementTree) (items : List I
 pub record Turns (f : FunctionView) (statement : StatementTree) (items : List Item) : Type 0 where
   pub jumps : JumpsStand true true statement
   pub ends : EndOwn f items
-  pub at_break : EndOwn f (behind_loop items)
+  pub at_break : EndOwn f (past_loop items)
 
 -- the body of a switch, before the end of the switch
 pub record Selects (f : FunctionView) (statement : StatementTree) (items : List Item) : Type 0 where
   pub stands : Stands f statement items
-  pub lands : AreAmong (ended f items) (ended f (behind_loop items))
+  pub lands : AreAmong (ended f items) (ended f (past_loop items))
 
 module _ (f : FunctionView) where
   abbrev mutual
@@ -43,12 +43,12 @@ module _ (f : FunctionView) where
     Fits (item.Choose at test held failed) items = AllFit held items × AllFit failed items
     Fits (item.ReadLine at none some) items = AllFit none items × AllFit some items
     Fits (item.Statement statement) items = Stands f statement items
-    Fits (item.WhileTurn c statement) items = Turns f statement items
-    Fits (item.DoTurn statement c) items = Turns f statement items
-    Fits (item.ForTurn c step statement) items = Turns f statement items
+    Fits (item.WhileIteration c statement) items = Turns f statement items
+    Fits (item.DoIteration statement c) items = Turns f statement items
+    Fits (item.ForIteration c step statement) items = Turns f statement items
     Fits (item.Select at o labels statement) items = Selects f statement items
-    Fits item.BreakOut items = EndOwn f (behind_loop items)
-    Fits item.NextTurn items = EndOwn f (behind_turn items)
+    Fits item.BreakOut items = EndOwn f (past_loop items)
+    Fits item.NextIteration items = EndOwn f (past_iteration items)
     Fits item.EndBody items = AreAmong (ended f items) []
     Fits i items = Unit {0}
 

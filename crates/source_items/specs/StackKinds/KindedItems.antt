@@ -51,7 +51,7 @@ ends_loop (i ∷ items) = ends_loop items
 -- whether items end a turn, where `continue` leads
 abbrev pub ends_turn : List Item → Bool
 ends_turn [] = false
-ends_turn (item.TurnEnd ∷ items) = true
+ends_turn (item.IterationEnd ∷ items) = true
 ends_turn (i ∷ items) = ends_turn items
 
 -- the loops and switches that a statement's jumps need end in the items behind it
@@ -109,10 +109,10 @@ module _ (u : UnitView) (f : FunctionView) (called : Option Bool) where
     Effect (item.Choose at test held failed) rest before after = (k : Kind) × (below : List Kind) × Takes (k ∷ []) before below × AllDo held rest below after × AllDo failed rest below after
     Effect (item.ReadLine at none some) rest before after = (below : List Kind) × Takes (Address ∷ (Number ∷ (Address ∷ []))) before below × AllDo none rest below after × AllDo some rest below after
     Effect (item.Statement statement) rest before after = Stands u f statement rest × AtRest before after
-    Effect (item.WhileTurn c statement) rest before after = Turns u f (Some c) None statement rest × AtRest before after
-    Effect (item.DoTurn statement c) rest before after = Turns u f (Some c) None statement rest × AtRest before after
-    Effect (item.ForTurn c step statement) rest before after = Turns u f c step statement rest × AtRest before after
-    Effect item.TurnEnd rest before after = AtRest before after
+    Effect (item.WhileIteration c statement) rest before after = Turns u f (Some c) None statement rest × AtRest before after
+    Effect (item.DoIteration statement c) rest before after = Turns u f (Some c) None statement rest × AtRest before after
+    Effect (item.ForIteration c step statement) rest before after = Turns u f c step statement rest × AtRest before after
+    Effect item.IterationEnd rest before after = AtRest before after
     Effect item.LoopEnd rest before after = AtRest before after
     Effect (item.Select at o labels statement) rest before after = Selects u f labels statement rest × (before ≡ Number ∷ []) × (after ≡ [])
     Effect (item.Enters objects) rest before after = after ≡ before
@@ -120,7 +120,7 @@ module _ (u : UnitView) (f : FunctionView) (called : Option Bool) where
     Effect item.Hop rest before after = after ≡ before
     Effect (item.GoTo n) rest before after = IsThere (from_label u f n) × AtRest before after
     Effect item.BreakOut rest before after = (ends_loop rest ≡ true) × AtRest before after
-    Effect item.NextTurn rest before after = (ends_turn rest ≡ true) × AtRest before after
+    Effect item.NextIteration rest before after = (ends_turn rest ≡ true) × AtRest before after
     Effect item.LeaveFunction rest before after = AtRest before after
     Effect item.EndBody rest before after = (before ≡ []) × (after ≡ left_kinds f called)
     Effect (item.Invoke at g count used) rest before after = Invokes u g count used before after

@@ -20,7 +20,7 @@ use Rattle.semantics.specs.SourceMachine.Items as side
 use Rattle.semantics.specs.SourceMachine.Items.{NamedSide, NamedTest}
 use Rattle.source_preservation.specs.ValueTyping.Marks.{Mark, Ranged, Exactly, Pointing, Naming, Null, Loaded, Converted, Tested}
 use Rattle.source_preservation.specs.ValueTyping.MarkOperations.{IsSideOf, ComparesAs, AreWithNull, null_test_of, ConvertsTo}
-use Rattle.source_preservation.specs.WellTyped.MarkedTerms.{DecidesAlone, Decides}
+use Rattle.source_preservation.specs.WellTyped.WellTypedTerms.{DecidesAlone, Decides}
 use Rattle.source_preservation.specs.Checks.LookedTypes.{is_kind, is_wider, is_pointer, same_scalar}
 use Rattle.source_preservation.specs.Checks.LookedTests.{same_reference, same_object, same_side, same_relation, same_common, same_test, converted_number, converted_pointer, converted_mark, is_side_of, compares_in, is_null_test, with_loaded, are_with_null, zero_test_in, decides_number, decides_alone, decides_converted, decides}
 use Rattle.source_preservation.proofs.checks.Truths.{never, no_some, some_is, both_true, both, three, four, one_of}

@@ -18,7 +18,7 @@ use Rattle.semantics.specs.SourceMachine.TermTests.{test_if}
 use Rattle.source_items.specs.StackKinds.KindedTerms.{HasObject}
 use Rattle.source_preservation.specs.ValueTyping.Marks.{Mark, Exactly, Null}
 use Rattle.source_preservation.specs.ValueTyping.MarkOperations.{ComparesAs, AreWithNull, null_test_of, ConvertsTo}
-use Rattle.source_preservation.specs.WellTyped.MarkedTerms.{IsScalarType, Decides, SideTerm, StoredTerm, Quiet, Operand, TestTerm, HasTest, HasTests}
+use Rattle.source_preservation.specs.WellTyped.WellTypedTerms.{IsScalarType, Decides, SideTerm, StoredTerm, Quiet, Operand, TestTerm, HasTest, HasTests}
 use Rattle.source_preservation.specs.Checks.LookedTypes.{is_scalar_type}
 use Rattle.source_preservation.specs.Checks.LookedTests.{converted_mark, compares, compares_with_null, decides}
 use Rattle.source_preservation.specs.Checks.LookedTerms.{exact, is_null, has_object, loaded_from, converted_to, side, stored, first_of, quiet, operand, is_decided, has_test, has_tests}

@@ -21,9 +21,9 @@ use Rattle.source_items.specs.Operations.TakenKinds.{Accepts, result_kind}
 use Rattle.source_items.specs.StackKinds.KindedTerms.{argument_kinds}
 use Rattle.source_preservation.specs.ValueTyping.Marks.{mark_of}
 use Rattle.source_preservation.specs.ValueTyping.MarkOperations.{AreOfKinds, least_given, greatest_given, IsGiven}
-use Rattle.source_preservation.specs.WellTyped.MarkedTerms.{argument_marks, HaveParameters, CallsFunction, CallsLibrary, MarkedTerm, MarkedPlace, MarkedTerms, MarkedCondition}
+use Rattle.source_preservation.specs.WellTyped.WellTypedTerms.{argument_marks, HaveParameters, CallsFunction, CallsLibrary, WellTypedTerm, WellTypedPlace, WellTypedTerms, WellTypedCondition}
 use Rattle.source_preservation.specs.Checks.LookedTypes.{same_mark}
-use Rattle.source_preservation.specs.Checks.LookedTerms.{has_tests, have_parameters, calls, same_kinds, begins_with_address, accepts, is_given, calls_library, is_marked_term, is_marked_place, are_marked_terms, is_marked_condition}
+use Rattle.source_preservation.specs.Checks.LookedTerms.{has_tests, have_parameters, calls, same_kinds, begins_with_address, accepts, is_given, calls_library, is_well_typed_term, is_well_typed_place, are_well_typed_terms, is_well_typed_condition}
 use Rattle.source_preservation.proofs.checks.Truths.{never, there, implied, is_false, both_true, both, three, four, five, six, one_of}
 use Rattle.source_preservation.proofs.checks.SameTypes.{type_is, mark_is, address_is, scalar_type, number, integer, integer_there, truth, subtracted, combined, added, stepped, compounded, converted}
 use Rattle.source_preservation.proofs.checks.ExactNumbers.{zero_is}
@@ -108,47 +108,47 @@ library u used t function args h =
 
 module _ (u : UnitView) where
   mutual
-    pub marked : (used : Bool) (e : TermTree) → is_marked_term u used e ≡ true → MarkedTerm u used e
-    marked used (Typed at t parens fixed (tree.Number n)) h = number n t h
-    marked used (Typed at t parens fixed (tree.SizeofType n is_pointer)) h = number (pos n) t h
-    marked used (Typed at t parens fixed (tree.Sizeof n operand is_pointer)) h = number (pos n) t h
-    marked used (Typed at t parens fixed (tree.Load l)) h = three _ _ _ (λ x. placed l x) (scalar_type u (lvalue_type l)) (mark_is (lvalue_type l) t) h
-    marked used (Typed at t parens fixed (tree.AddressOf l)) h = both _ _ (λ x. placed l x) (address_is t) h
-    marked used (Typed at t parens fixed (tree.Decay l)) h = both _ _ (λ x. placed l x) (address_is t) h
-    marked used (Typed at t parens fixed (tree.Convert sort a)) h =
-        both _ _ (scalar_type u t) (one_of _ _ (both _ _ (λ x. marked true a x) (converted u.model (scalar_of t) (scalar_of (term_type a)))) (both _ _ (address_is t) (zero_is u.model a))) h
-    marked used (Typed at t parens fixed (tree.Discard a)) h = both _ _ (λ x. marked false a x) (is_false used) h
-    marked used (Typed at t parens fixed (tree.Plus a)) h = both _ _ (λ x. marked true a x) (mark_is (term_type a) t) h
-    marked used (Typed at t parens fixed (tree.Minus a)) h = three _ _ _ (λ x. marked true a x) (type_is (term_type a) t) (integer_there u t) h
-    marked used (Typed at t parens fixed (tree.Complement a)) h = three _ _ _ (λ x. marked true a x) (type_is (term_type a) t) (integer_there u t) h
-    marked used (Typed at t parens fixed (tree.Not a)) h = both _ _ (λ x. marked true a x) (truth t) h
-    marked used (Typed at t parens fixed (tree.Integer sign a b)) h = three _ _ _ (λ x. marked true a x) (λ x. marked true b x) (combined u (meaning sign) (term_type a) (term_type b) t) h
-    marked used (Typed at t parens fixed (tree.Shift back size a b)) h = four _ _ _ _ (λ x. marked true a x) (λ x. marked true b x) (added (term_type a) (term_type b)) (address_is t) h
-    marked used (Typed at t parens fixed (tree.Difference size a b)) h = five _ _ _ _ _ (λ x. marked true a x) (λ x. marked true b x) (address_is (term_type a)) (address_is (term_type b)) (subtracted u t) h
-    marked used (Typed at t parens fixed (tree.Compare sign a b)) h = five _ _ _ _ _ (λ x. marked true a x) (λ x. marked true b x) (address_is (term_type a)) (address_is (term_type b)) (truth t) h
-    marked used (Typed at t parens fixed (tree.Logical sign a b)) h = three _ _ _ (λ x. marked true a x) (λ x. marked true b x) (truth t) h
-    marked used (Typed at t parens fixed (tree.Conditional c a b)) h = six _ _ _ _ _ _ (λ x. marked true c x) (tests u true c) (λ x. marked used a x) (λ x. marked used b x) (mark_is (term_type a) t) (mark_is (term_type b) t) h
-    marked used (Typed at t parens fixed (tree.Comma a b)) h = three _ _ _ (λ x. marked false a x) (λ x. marked used b x) (mark_is (term_type b) t) h
-    marked used (Typed at t parens fixed (tree.Assign l a)) h = five _ _ _ _ _ (λ x. placed l x) (λ x. marked true a x) (scalar_type u (lvalue_type l)) (mark_is (term_type a) (lvalue_type l)) (mark_is (lvalue_type l) t) h
-    marked used (Typed at t parens fixed (tree.Compound sign kind l a)) h = three _ _ _ (λ x. placed l x) (λ x. marked true a x) (compounded u (number_operator (meaning sign)) (integer_type kind) (lvalue_type l) (term_type a) t) h
-    marked used (Typed at t parens fixed (tree.CompoundShift back size l a)) h = five _ _ _ _ _ (λ x. placed l x) (λ x. marked true a x) (integer (term_type a)) (address_is (lvalue_type l)) (address_is t) h
-    marked used (Typed at t parens fixed (tree.Step sign time kind l)) h = both _ _ (λ x. placed l x) (stepped u (integer_type kind) (lvalue_type l) t) h
-    marked used (Typed at t parens fixed (tree.StepPointer sign time size l)) h = three _ _ _ (λ x. placed l x) (address_is (lvalue_type l)) (address_is t) h
-    marked used (Typed at t parens fixed (tree.Struct l)) h = both _ _ (λ x. placed l x) (address_is t) h
-    marked used (Typed at t parens fixed (tree.Call g args is_used)) h = both _ _ (λ x. all_marked args x) (called u used is_used t g args) h
-    marked used (Typed at t parens fixed (tree.Library function args allocated)) h = both _ _ (λ x. all_marked args x) (library u used t function args) h
+    pub well_typed : (used : Bool) (e : TermTree) → is_well_typed_term u used e ≡ true → WellTypedTerm u used e
+    well_typed used (Typed at t parens fixed (tree.Number n)) h = number n t h
+    well_typed used (Typed at t parens fixed (tree.SizeofType n is_pointer)) h = number (pos n) t h
+    well_typed used (Typed at t parens fixed (tree.Sizeof n operand is_pointer)) h = number (pos n) t h
+    well_typed used (Typed at t parens fixed (tree.Load l)) h = three _ _ _ (λ x. placed l x) (scalar_type u (lvalue_type l)) (mark_is (lvalue_type l) t) h
+    well_typed used (Typed at t parens fixed (tree.AddressOf l)) h = both _ _ (λ x. placed l x) (address_is t) h
+    well_typed used (Typed at t parens fixed (tree.Decay l)) h = both _ _ (λ x. placed l x) (address_is t) h
+    well_typed used (Typed at t parens fixed (tree.Convert sort a)) h =
+        both _ _ (scalar_type u t) (one_of _ _ (both _ _ (λ x. well_typed true a x) (converted u.model (scalar_of t) (scalar_of (term_type a)))) (both _ _ (address_is t) (zero_is u.model a))) h
+    well_typed used (Typed at t parens fixed (tree.Discard a)) h = both _ _ (λ x. well_typed false a x) (is_false used) h
+    well_typed used (Typed at t parens fixed (tree.Plus a)) h = both _ _ (λ x. well_typed true a x) (mark_is (term_type a) t) h
+    well_typed used (Typed at t parens fixed (tree.Minus a)) h = three _ _ _ (λ x. well_typed true a x) (type_is (term_type a) t) (integer_there u t) h
+    well_typed used (Typed at t parens fixed (tree.Complement a)) h = three _ _ _ (λ x. well_typed true a x) (type_is (term_type a) t) (integer_there u t) h
+    well_typed used (Typed at t parens fixed (tree.Not a)) h = both _ _ (λ x. well_typed true a x) (truth t) h
+    well_typed used (Typed at t parens fixed (tree.Integer sign a b)) h = three _ _ _ (λ x. well_typed true a x) (λ x. well_typed true b x) (combined u (meaning sign) (term_type a) (term_type b) t) h
+    well_typed used (Typed at t parens fixed (tree.Shift back size a b)) h = four _ _ _ _ (λ x. well_typed true a x) (λ x. well_typed true b x) (added (term_type a) (term_type b)) (address_is t) h
+    well_typed used (Typed at t parens fixed (tree.Difference size a b)) h = five _ _ _ _ _ (λ x. well_typed true a x) (λ x. well_typed true b x) (address_is (term_type a)) (address_is (term_type b)) (subtracted u t) h
+    well_typed used (Typed at t parens fixed (tree.Compare sign a b)) h = five _ _ _ _ _ (λ x. well_typed true a x) (λ x. well_typed true b x) (address_is (term_type a)) (address_is (term_type b)) (truth t) h
+    well_typed used (Typed at t parens fixed (tree.Logical sign a b)) h = three _ _ _ (λ x. well_typed true a x) (λ x. well_typed true b x) (truth t) h
+    well_typed used (Typed at t parens fixed (tree.Conditional c a b)) h = six _ _ _ _ _ _ (λ x. well_typed true c x) (tests u true c) (λ x. well_typed used a x) (λ x. well_typed used b x) (mark_is (term_type a) t) (mark_is (term_type b) t) h
+    well_typed used (Typed at t parens fixed (tree.Comma a b)) h = three _ _ _ (λ x. well_typed false a x) (λ x. well_typed used b x) (mark_is (term_type b) t) h
+    well_typed used (Typed at t parens fixed (tree.Assign l a)) h = five _ _ _ _ _ (λ x. placed l x) (λ x. well_typed true a x) (scalar_type u (lvalue_type l)) (mark_is (term_type a) (lvalue_type l)) (mark_is (lvalue_type l) t) h
+    well_typed used (Typed at t parens fixed (tree.Compound sign kind l a)) h = three _ _ _ (λ x. placed l x) (λ x. well_typed true a x) (compounded u (number_operator (meaning sign)) (integer_type kind) (lvalue_type l) (term_type a) t) h
+    well_typed used (Typed at t parens fixed (tree.CompoundShift back size l a)) h = five _ _ _ _ _ (λ x. placed l x) (λ x. well_typed true a x) (integer (term_type a)) (address_is (lvalue_type l)) (address_is t) h
+    well_typed used (Typed at t parens fixed (tree.Step sign time kind l)) h = both _ _ (λ x. placed l x) (stepped u (integer_type kind) (lvalue_type l) t) h
+    well_typed used (Typed at t parens fixed (tree.StepPointer sign time size l)) h = three _ _ _ (λ x. placed l x) (address_is (lvalue_type l)) (address_is t) h
+    well_typed used (Typed at t parens fixed (tree.Struct l)) h = both _ _ (λ x. placed l x) (address_is t) h
+    well_typed used (Typed at t parens fixed (tree.Call g args is_used)) h = both _ _ (λ x. all_marked args x) (called u used is_used t g args) h
+    well_typed used (Typed at t parens fixed (tree.Library function args allocated)) h = both _ _ (λ x. all_marked args x) (library u used t function args) h
 
-    pub placed : (l : LvalueTree) → is_marked_place u l ≡ true → MarkedPlace u l
+    pub placed : (l : LvalueTree) → is_well_typed_place u l ≡ true → WellTypedPlace u l
     placed (Designates at t parens (tree.Object o)) h = object_there u o h
     placed (Designates at t parens (tree.Literal n)) h = there (slice_get u.literals n) h
-    placed (Designates at t parens (tree.Target e)) h = both _ _ (λ x. marked true e x) (address_is (term_type e)) h
+    placed (Designates at t parens (tree.Target e)) h = both _ _ (λ x. well_typed true e x) (address_is (term_type e)) h
     placed (Designates at t parens (tree.Member outer offset)) h = placed outer h
     placed (Designates at t parens (tree.Copied target source)) h = both _ _ (λ x. placed target x) (λ x. placed source x) h
-    placed (Designates at t parens (tree.Then left right)) h = both _ _ (λ x. marked false left x) (λ x. placed right x) h
+    placed (Designates at t parens (tree.Then left right)) h = both _ _ (λ x. well_typed false left x) (λ x. placed right x) h
 
-    all_marked : (args : TermTrees) → are_marked_terms u args ≡ true → MarkedTerms u args
+    all_marked : (args : TermTrees) → are_well_typed_terms u args ≡ true → WellTypedTerms u args
     all_marked tree.End h = tt
-    all_marked (tree.More e rest) h = both _ _ (λ x. marked true e x) (λ x. all_marked rest x) h
+    all_marked (tree.More e rest) h = both _ _ (λ x. well_typed true e x) (λ x. all_marked rest x) h
 
-  pub condition : (is_test : Bool) (e : TermTree) → is_marked_condition u is_test e ≡ true → MarkedCondition u is_test e
-  condition is_test e h = both (is_marked_term u true e) (has_tests u is_test e) (marked true e) (tests u is_test e) h
+  pub condition : (is_test : Bool) (e : TermTree) → is_well_typed_condition u is_test e ≡ true → WellTypedCondition u is_test e
+  condition is_test e h = both (is_well_typed_term u true e) (has_tests u is_test e) (well_typed true e) (tests u is_test e) h

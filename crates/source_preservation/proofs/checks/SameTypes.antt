@@ -18,7 +18,7 @@ use Rattle.memory_model.specs.Memory.ScalarSizes.{class_bytes}
 use Rattle.memory_model.specs.Effects.LibraryChecks.{most_size}
 use Rattle.source_preservation.specs.ValueTyping.Marks.{Pointing, mark_of, mark_of_type}
 use Rattle.source_preservation.specs.ValueTyping.MarkOperations.{IsKind, IsScalar, IsWider, HasTruths, CountsAs, ConvertsTo}
-use Rattle.source_preservation.specs.WellTyped.MarkedTerms.{IsScalarType, IsInteger, IsTruth, Combines, AddsTo, Subtracts, StepsIn, Compounds}
+use Rattle.source_preservation.specs.WellTyped.WellTypedTerms.{IsScalarType, IsInteger, IsTruth, Combines, AddsTo, Subtracts, StepsIn, Compounds}
 use Rattle.source_preservation.specs.Checks.LookedTypes.{is_kind, is_wider, has_truths, counts_as, is_scalar, is_pointer, same_scalar, is_scalar_type, is_address, same_mark, is_such, is_integer, has_number, is_truth, subtracts, combines, adds_to, steps_in, compounds, converts}
 use Rattle.source_preservation.proofs.checks.Truths.{never, both_true, both, three, one_of}
 

@@ -18,7 +18,7 @@ use Rattle.semantics.specs.SourceMachine.Operations.{size_of}
 use Rattle.source_items.specs.Operations.GoingReplies.{NotStuck}
 use Rattle.source_preservation.specs.ValueTyping.ProperMemory.{Evolves}
 use Rattle.source_preservation.specs.ValueTyping.MarkLaws.{Comes}
-use Rattle.source_preservation.specs.WellTyped.MarkedStatements.{AreIntegers}
+use Rattle.source_preservation.specs.WellTyped.WellTypedStatements.{AreIntegers}
 use Rattle.source_preservation.proofs.memory.Replies.{comes_when, drawn_keeps}
 use Rattle.source_preservation.proofs.memory.ProperBytes.{AreProperBytes, refilled_long, refilled_proper, scalar_bytes_proper, blank_proper}
 use Rattle.source_preservation.proofs.memory.Evolving.{evolves_same, evolves_further, with_instance_evolves, bytes_of_fresh}

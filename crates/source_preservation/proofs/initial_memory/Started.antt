@@ -12,8 +12,8 @@ use Rattle.semantics.specs.SourceMachine.Operations.{size_of}
 use Rattle.semantics.specs.SourceMachine.SourceRuns.{name_parameters}
 use Rattle.semantics.specs.SourceMachine.SourceStates.{function_at}
 use Rattle.source_preservation.specs.ValueTyping.MarkLaws.{Comes}
-use Rattle.source_preservation.specs.WellTyped.MarkedStatements.{MarkedUnit}
-use Rattle.source_preservation.specs.WellTyped.MarkedStates.{HaveRoom}
+use Rattle.source_preservation.specs.WellTyped.WellTypedStatements.{WellTypedUnit}
+use Rattle.source_preservation.specs.WellTyped.WellTypedStates.{HaveRoom}
 use Rattle.source_preservation.specs.InitialMemory.StartedWorlds.{IsStarted}
 use Rattle.source_preservation.proofs.initial_memory.StaticInstances.{start_long, start_proper, start_has_room}
 use Rattle.source_preservation.proofs.initial_memory.Parameters.{HasParameters, with_parameters_comes}
@@ -57,13 +57,13 @@ module _ (u : UnitView) where
       let place : length (start_memory u) + p.index ≡ parameter_instance u n = omega (arith, long, index) in
       subst (λ t. size_of u t ≤ length (bytes_at w.memory i)) (sym type) (subst (λ k. size_of u p.parameter.ctype ≤ length (bytes_at w.memory k)) (place ∙ sym p.is) (has.room p.index p.parameter p.there))
 
-  started : (draws : List ℤ) → MarkedUnit u → (r : Reply (Unit {0})) → Comes (λ _ w. HasParameters u (entry_parameters u) (world_before u draws) w) r → Comes (λ _ w. IsStarted u w) r
-  started draws marked (goes x w) has = record {
-    proper = has.evolves.proper (start_proper u marked);
+  started : (draws : List ℤ) → WellTypedUnit u → (r : Reply (Unit {0})) → Comes (λ _ w. HasParameters u (entry_parameters u) (world_before u draws) w) r → Comes (λ _ w. IsStarted u w) r
+  started draws well_typed (goes x w) has = record {
+    proper = has.evolves.proper (start_proper u well_typed);
     statics = λ n o is. (let h = start_has_room u n o is in let g = has.evolves.grows n in omega (arith, h, g));
     parameters = parameters_have_room draws w has;
   }
-  started draws marked (stops why w) has = has
+  started draws well_typed (stops why w) has = has
 
-pub start_comes : (u : UnitView) (draws : List ℤ) → MarkedUnit u → Comes (λ _ w. IsStarted u w) (start_world u draws)
-start_comes u draws marked = started u draws marked (start_world u draws) (with_parameters_comes u (entry_parameters u) (world_before u draws) marked.entered)
+pub start_comes : (u : UnitView) (draws : List ℤ) → WellTypedUnit u → Comes (λ _ w. IsStarted u w) (start_world u draws)
+start_comes u draws well_typed = started u draws well_typed (start_world u draws) (with_parameters_comes u (entry_parameters u) (world_before u draws) well_typed.entered)

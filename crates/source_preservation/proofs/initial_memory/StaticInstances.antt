@@ -17,8 +17,8 @@ use Rattle.memory_model.specs.Effects.ScalarBytes.{refilled}
 use Rattle.memory_model.specs.Effects.UnitStarts.{base_instance, value_bytes, all_stored, typed_bytes, static_instance, character_byte, literal_made, start_memory}
 use Rattle.semantics.specs.SourceMachine.Operations.{size_of}
 use Rattle.source_preservation.specs.ValueTyping.ProperMemory.{IsProper, IsProperMemory}
-use Rattle.source_preservation.specs.WellTyped.MarkedStatements.{IsProperValue, AreProperStores, MarkedStatic, MarkedLiteral, MarkedUnit}
-use Rattle.source_preservation.specs.WellTyped.MarkedStates.{StaticsHaveRoom}
+use Rattle.source_preservation.specs.WellTyped.WellTypedStatements.{IsProperValue, AreProperStores, WellTypedStatic, WellTypedLiteral, WellTypedUnit}
+use Rattle.source_preservation.specs.WellTyped.WellTypedStates.{StaticsHaveRoom}
 use Rattle.source_preservation.proofs.memory.ProperBytes.{Each, each_taken, each_both, AreProperBytes, AreProperContents, all_long, blank_long, refilled_long, scalar_bytes_proper, pointer_bytes_proper, refilled_proper, all_proper}
 use Rattle.source_preservation.proofs.memory.Evolving.{proper_memory}
 use Rattle.source_preservation.proofs.memory.Objects.{text_proper}
@@ -61,8 +61,8 @@ module _ (u : UnitView) where
       let cs : List Content = characters text ++ number 0 no_labels ∷ [] in
       stores_proper ss (refilled bs offset (take room cs)) are.1 (refilled_proper u.model bs offset (take room cs) proper (each_taken (IsProper u.model) room cs (text_proper u.model text are.0)))
 
-  static_proper : (o : StaticView) → MarkedStatic u o → IsProperInstance (static_instance u o)
-  static_proper o marked = stores_proper o.stores (all_of (number 0 no_labels) (typed_bytes u o.ctype)) marked.stores (all_proper u.model (number 0 no_labels) (typed_bytes u o.ctype) (omega arith))
+  static_proper : (o : StaticView) → WellTypedStatic u o → IsProperInstance (static_instance u o)
+  static_proper o well_typed = stores_proper o.stores (all_of (number 0 no_labels) (typed_bytes u o.ctype)) well_typed.stores (all_proper u.model (number 0 no_labels) (typed_bytes u o.ctype) (omega arith))
 
   stores_long : (ss : List StaticStoreView) (bs : List Byte) → length (all_stored u ss bs) ≡ length bs
   stores_long [] bs = refl
@@ -83,16 +83,16 @@ module _ (u : UnitView) where
   characters_proper [] are = tt
   characters_proper (c ∷ cs) are = (are.0, characters_proper cs are.1)
 
-  literal_proper : (l : LiteralView) → MarkedLiteral u l → IsProperInstance (literal_made l)
-  literal_proper l marked = characters_proper (characters l.bytes ++ number 0 no_labels ∷ []) (text_proper u.model l.bytes marked.bytes)
+  literal_proper : (l : LiteralView) → WellTypedLiteral u l → IsProperInstance (literal_made l)
+  literal_proper l well_typed = characters_proper (characters l.bytes ++ number 0 no_labels ∷ []) (text_proper u.model l.bytes well_typed.bytes)
 
   -- ---- memory
 
   pub start_long : length (start_memory u) ≡ length u.objects + length u.literals
   start_long = length-append (map (static_instance u) u.objects) (map literal_made u.literals) ∙ (ap (λ n. n + length (map literal_made u.literals)) (mapped_long (static_instance u) u.objects) ∙ ap (λ n. length u.objects + n) (mapped_long literal_made u.literals))
 
-  pub start_proper : MarkedUnit u → IsProperMemory u.model (start_memory u)
-  start_proper marked = proper_memory u.model (start_memory u) (proper_instances (start_memory u) (each_both IsProperInstance (map (static_instance u) u.objects) (map literal_made u.literals) (each_mapped IsProperInstance (static_instance u) u.objects (λ n o is. static_proper o (marked.statics n o is))) (each_mapped IsProperInstance literal_made u.literals (λ n l is. literal_proper l (marked.literals n l is)))))
+  pub start_proper : WellTypedUnit u → IsProperMemory u.model (start_memory u)
+  start_proper well_typed = proper_memory u.model (start_memory u) (proper_instances (start_memory u) (each_both IsProperInstance (map (static_instance u) u.objects) (map literal_made u.literals) (each_mapped IsProperInstance (static_instance u) u.objects (λ n o is. static_proper o (well_typed.statics n o is))) (each_mapped IsProperInstance literal_made u.literals (λ n l is. literal_proper l (well_typed.literals n l is)))))
 
   pub start_has_room : StaticsHaveRoom u (start_memory u)
   start_has_room n o is =

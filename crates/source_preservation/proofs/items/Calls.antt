@@ -15,10 +15,10 @@ use Rattle.source_items.specs.Returns.StandingJumps.{AllJumpsStand}
 use Rattle.source_items.specs.StackKinds.KindedItems.{called_by}
 use Rattle.source_preservation.specs.ValueTyping.Marks.{Mark, Pointing, mark_of_type, AreStable, AreFree}
 use Rattle.source_preservation.specs.ValueTyping.MarkOperations as marks
-use Rattle.source_preservation.specs.WellTyped.MarkedTerms.{local_mark}
-use Rattle.source_preservation.specs.WellTyped.MarkedStatements.{MarkedFunction}
-use Rattle.source_preservation.specs.WellTyped.MarkedItems as items
-use Rattle.source_preservation.specs.WellTyped.MarkedItems.{left_marks, parameter_marks, Does}
+use Rattle.source_preservation.specs.WellTyped.WellTypedTerms.{local_mark}
+use Rattle.source_preservation.specs.WellTyped.WellTypedStatements.{WellTypedFunction}
+use Rattle.source_preservation.specs.WellTyped.WellTypedItems as items
+use Rattle.source_preservation.specs.WellTyped.WellTypedItems.{left_marks, parameter_marks, Does}
 use Rattle.source_preservation.proofs.items.TypeMarks.{stable_type, free_type}
 use Rattle.source_preservation.proofs.items.Leading.{Through, Leads, through_both, through_does}
 use Rattle.source_preservation.proofs.items.Labels.{body_does}
@@ -44,7 +44,7 @@ pub parameters_free : (f : FunctionView) (count : ℕ) → AreFree (parameter_ma
 parameters_free f zero = tt
 parameters_free f (suc n) = (free_type (local_type f n), parameters_free f n)
 
-module _ (u : UnitView) (f : FunctionView) (called : Option Bool) (marked : MarkedFunction u f) where
+module _ (u : UnitView) (f : FunctionView) (called : Option Bool) (well_typed : WellTypedFunction u f) where
   -- ---- calls
 
   bound_through : (count first n : ℕ) (rest : List Item) → first + n ≡ count → count ≡ f.parameters → Through u f called (bind_all f count (numbers_from first n)) rest (parameter_marks f count) (parameter_marks f count)
@@ -55,7 +55,7 @@ module _ (u : UnitView) (f : FunctionView) (called : Option Bool) (marked : Mark
       let far : count ≡ suc (first + (count - suc first)) = omega arith in
       let below : first < f.parameters = omega arith in
       let small : 0 ≤ most_size u.model = omega arith in
-      (Pointing ∷ ks, (tt, items.PointsInto.any small refl), (ks, (refl, parameters_stable f count, marked.parameters first below, parameter_at f first (count - suc first) count far), bound_through count (first + 1) n rest next all))
+      (Pointing ∷ ks, (tt, items.PointsInto.any small refl), (ks, (refl, parameters_stable f count, well_typed.parameters first below, parameter_at f first (count - suc first) count far), bound_through count (first + 1) n rest next all))
 
   dropped_through : (count : ℕ) (rest : List Item) → Through u f called (replicate count item.Drop) rest (parameter_marks f count) []
   dropped_through zero rest = refl
@@ -68,18 +68,18 @@ module _ (u : UnitView) (f : FunctionView) (called : Option Bool) (marked : Mark
       let drops : List Item = replicate count item.Drop in
       let all : 0 + f.parameters ≡ count = omega arith in
       let through : Through u f called (bound ++ drops) (body f) ks [] = through_both u f called bound drops (body f) ks ks [] (bound_through count 0 f.parameters (drops ++ body f) all is) (dropped_through count (body f)) in
-      (ks, (parameters_free f count, refl), through_does u f called (bound ++ drops) (body f) ks [] (left_marks f called) through (body_does u f called marked jumps))
+      (ks, (parameters_free f count, refl), through_does u f called (bound ++ drops) (body f) ks [] (left_marks f called) through (body_does u f called well_typed jumps))
 
 -- ---- returns
 
-pub epilogue_does : (u : UnitView) (f : FunctionView) (caller : Frame) → MarkedFunction u f → Does u f (Some caller.used) (epilogue f caller) [] (left_marks f (Some caller.used))
-epilogue_does u f caller marked = by (is_void f.returns) refl
+pub epilogue_does : (u : UnitView) (f : FunctionView) (caller : Frame) → WellTypedFunction u f → Does u f (Some caller.used) (epilogue f caller) [] (left_marks f (Some caller.used))
+epilogue_does u f caller well_typed = by (is_void f.returns) refl
   where
     k : Mark
     k = mark_of_type f.returns
 
     loaded : (used : Bool) → is_void f.returns ≡ false → Does u f (Some caller.used) (result_loaded f caller.at used ++ item.LeaveOutcome caller.at ∷ []) [] (cond used (k ∷ []) [])
-    loaded true is = (Pointing ∷ [], (is, refl), (k ∷ [], (marked.returns is, marks.Loads.any ([], refl, refl)), (k ∷ [], ((free_type f.returns, tt), refl), refl)))
+    loaded true is = (Pointing ∷ [], (is, refl), (k ∷ [], (well_typed.returns is, marks.Loads.any ([], refl, refl)), (k ∷ [], ((free_type f.returns, tt), refl), refl)))
     loaded false is = ([], (tt, refl), refl)
 
     by : (v : Bool) → is_void f.returns ≡ v → Does u f (Some caller.used) (cond v [] (result_loaded f caller.at caller.used ++ item.LeaveOutcome caller.at ∷ [])) [] (cond v [] (cond caller.used (k ∷ []) []))
@@ -87,6 +87,6 @@ epilogue_does u f caller marked = by (is_void f.returns) refl
     by false is = loaded caller.used is
 
 -- what is behind the body of a function leads to what the function leaves
-pub behind_does : (u : UnitView) (f : FunctionView) (hop : List Item) → MarkedFunction u f → ((called : Option Bool) → Leads u f called hop [] []) → (frames : List Frame) → Does u f (called_by frames) (behind_body f hop frames) [] (left_marks f (called_by frames))
-behind_does u f hop marked leads [] = refl
-behind_does u f hop marked leads (c ∷ cs) = ([], (tt, refl), through_does u f (Some c.used) hop (epilogue f c) [] [] (left_marks f (Some c.used)) (leads (Some c.used) (epilogue f c)) (epilogue_does u f c marked))
+pub behind_does : (u : UnitView) (f : FunctionView) (hop : List Item) → WellTypedFunction u f → ((called : Option Bool) → Leads u f called hop [] []) → (frames : List Frame) → Does u f (called_by frames) (behind_body f hop frames) [] (left_marks f (called_by frames))
+behind_does u f hop well_typed leads [] = refl
+behind_does u f hop well_typed leads (c ∷ cs) = ([], (tt, refl), through_does u f (Some c.used) hop (epilogue f c) [] [] (left_marks f (Some c.used)) (leads (Some c.used) (epilogue f c)) (epilogue_does u f c well_typed))

@@ -7,8 +7,8 @@ use Rattle.semantics.specs.SourceMachine.Items as item
 use Rattle.semantics.specs.SourceMachine.Items.{Item, Items, items_of, listed}
 use Rattle.semantics.specs.SourceMachine.TermItems.{if_used}
 use Rattle.source_preservation.specs.ValueTyping.Marks.{Mark, AreStable}
-use Rattle.source_preservation.specs.WellTyped.MarkedTerms.{term_mark, MarkedTerm}
-use Rattle.source_preservation.specs.WellTyped.MarkedItems.{by_type, Effect, AllDo, Does}
+use Rattle.source_preservation.specs.WellTyped.WellTypedTerms.{term_mark, WellTypedTerm}
+use Rattle.source_preservation.specs.WellTyped.WellTypedItems.{by_type, Effect, AllDo, Does}
 use Rattle.source_preservation.proofs.items.TypeMarks.{stable_type}
 
 -- the marks of the values where one more was to be used or not
@@ -68,5 +68,5 @@ module _ (u : UnitView) (f : FunctionView) (called : Option Bool) where
 
   -- ---- values
 
-  pub valued : (e : TermTree) (k : Mark) (rest : List Item) (ks : List Mark) → MarkedTerm u true e → term_mark e ≡ k → AreStable ks → Effect u f called (item.Value e) rest ks (k ∷ ks)
-  valued e k rest ks marked is stable = by_type marked stable (ap (λ k. k ∷ ks) (sym is))
+  pub valued : (e : TermTree) (k : Mark) (rest : List Item) (ks : List Mark) → WellTypedTerm u true e → term_mark e ≡ k → AreStable ks → Effect u f called (item.Value e) rest ks (k ∷ ks)
+  valued e k rest ks well_typed is stable = by_type well_typed stable (ap (λ k. k ∷ ks) (sym is))

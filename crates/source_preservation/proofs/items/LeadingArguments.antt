@@ -6,17 +6,17 @@ use Rattle.c_layout.specs.CheckedTrees.{TermTrees}
 use Rattle.c_layout.specs.CheckedUnits.{UnitView, FunctionView}
 use Rattle.semantics.specs.SourceMachine.TermItems.{arguments, argument_count}
 use Rattle.source_preservation.specs.ValueTyping.Marks.{Mark, AreStable}
-use Rattle.source_preservation.specs.WellTyped.MarkedTerms.{term_mark, argument_marks, HaveParameters, MarkedTerms}
-use Rattle.source_preservation.specs.WellTyped.MarkedItems.{by_type, parameter_marks}
+use Rattle.source_preservation.specs.WellTyped.WellTypedTerms.{term_mark, argument_marks, HaveParameters, WellTypedTerms}
+use Rattle.source_preservation.specs.WellTyped.WellTypedItems.{by_type, parameter_marks}
 use Rattle.source_preservation.proofs.items.Leading.{Leads, stable_above}
 
 abbrev pub stacked : TermTrees → List Mark → List Mark
 stacked tree.End ks = ks
 stacked (tree.More e rest) ks = stacked rest (term_mark e ∷ ks)
 
-pub arguments_lead : (u : UnitView) (f : FunctionView) (called : Option Bool) (args : TermTrees) (ks : List Mark) → MarkedTerms u args → AreStable ks → Leads u f called (arguments args) ks (stacked args ks)
-arguments_lead u f called tree.End ks marked stable rest = refl
-arguments_lead u f called (tree.More e args) ks marked stable rest = (term_mark e ∷ ks, by_type marked.0 stable refl, arguments_lead u f called args (term_mark e ∷ ks) marked.1 (stable_above e ks stable) rest)
+pub arguments_lead : (u : UnitView) (f : FunctionView) (called : Option Bool) (args : TermTrees) (ks : List Mark) → WellTypedTerms u args → AreStable ks → Leads u f called (arguments args) ks (stacked args ks)
+arguments_lead u f called tree.End ks well_typed stable rest = refl
+arguments_lead u f called (tree.More e args) ks well_typed stable rest = (term_mark e ∷ ks, by_type well_typed.0 stable refl, arguments_lead u f called args (term_mark e ∷ ks) well_typed.1 (stable_above e ks stable) rest)
 
 pub stacked_reverse : (args : TermTrees) (ks : List Mark) → stacked args ks ≡ reverse (argument_marks args) ++ ks
 stacked_reverse tree.End ks = refl

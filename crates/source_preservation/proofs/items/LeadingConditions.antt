@@ -14,8 +14,8 @@ use Rattle.semantics.specs.SourceMachine.TermTests.{test_if}
 use Rattle.semantics.specs.SourceMachine.ConditionItems.{line_items, leaf_by, condition, choice_of}
 use Rattle.source_preservation.specs.ValueTyping.Marks.{Mark, Exactly, Ranged, Pointing, Tested, AreStable}
 use Rattle.source_preservation.specs.WellTyped.ExactTerms.{is_true, ExactTerm}
-use Rattle.source_preservation.specs.WellTyped.MarkedTerms.{term_mark, Decides, Operand, TestTerm, HasTest, HasTests, MarkedTerm}
-use Rattle.source_preservation.specs.WellTyped.MarkedItems.{Evaluates, by_type, quietly, as_stored, as_test}
+use Rattle.source_preservation.specs.WellTyped.WellTypedTerms.{term_mark, Decides, Operand, TestTerm, HasTest, HasTests, WellTypedTerm}
+use Rattle.source_preservation.specs.WellTyped.WellTypedItems.{Evaluates, by_type, quietly, as_stored, as_test}
 use Rattle.source_preservation.proofs.items.Leading.{Through, all_through, through_both}
 use Rattle.source_preservation.proofs.items.LeadingArguments.{stacked, arguments_lead, stacked_reverse}
 use Rattle.source_preservation.proofs.items.LineReads.{ReadsLine, LineRead, line_read}
@@ -31,18 +31,18 @@ not_not false e = refl
 module _ (u : UnitView) (f : FunctionView) (called : Option Bool) where
   -- ---- values with tests
 
-  pub operand_evaluates : (e : TermTree) (k : Mark) (ks : List Mark) → Operand u e k → MarkedTerm u true e → AreStable ks → Evaluates u e ks (k ∷ ks)
-  operand_evaluates e k ks (inl quiet) marked stable = quietly k quiet refl
-  operand_evaluates e k ks (inr stored) marked stable = as_stored k stored marked stable refl
+  pub operand_evaluates : (e : TermTree) (k : Mark) (ks : List Mark) → Operand u e k → WellTypedTerm u true e → AreStable ks → Evaluates u e ks (k ∷ ks)
+  operand_evaluates e k ks (inl quiet) well_typed stable = quietly k quiet refl
+  operand_evaluates e k ks (inr stored) well_typed stable = as_stored k stored well_typed stable refl
 
   -- the value of a condition that is a test decides it
   abbrev Tests : TermTree → NamedTest → List Mark → Type 0
   Tests e test ks = (k : Mark) × Evaluates u e ks (k ∷ ks) × Decides u k test
 
-  tests : (e : TermTree) (test : NamedTest) (ks : List Mark) → TestTerm u e test → MarkedTerm u true e → AreStable ks → Tests e test ks
-  tests (Typed at t parens fixed (tree.Integer sign a b)) test ks tested marked stable = (Tested test, as_test test tested marked stable refl, refl)
-  tests (Typed at t parens fixed (tree.Compare sign a b)) test ks tested marked stable = (Tested test, as_test test tested marked stable refl, refl)
-  tests e test ks tested marked stable = (tested.0, operand_evaluates e tested.0 ks tested.1 marked stable, tested.2)
+  tests : (e : TermTree) (test : NamedTest) (ks : List Mark) → TestTerm u e test → WellTypedTerm u true e → AreStable ks → Tests e test ks
+  tests (Typed at t parens fixed (tree.Integer sign a b)) test ks tested well_typed stable = (Tested test, as_test test tested well_typed stable refl, refl)
+  tests (Typed at t parens fixed (tree.Compare sign a b)) test ks tested well_typed stable = (Tested test, as_test test tested well_typed stable refl, refl)
+  tests e test ks tested well_typed stable = (tested.0, operand_evaluates e tested.0 ks tested.1 well_typed stable, tested.2)
 
   -- ---- a condition that is a term or reads a line
 
@@ -50,30 +50,30 @@ module _ (u : UnitView) (f : FunctionView) (called : Option Bool) where
   read_through args at none some rest ks after reads stable one other =
       let read : Item = item.ReadLine at (items_of none) (items_of some) in
       let three : stacked args ks ≡ Pointing ∷ (Ranged reads.count ∷ (Pointing ∷ ks)) = stacked_reverse args ks ∙ ap (λ xs. reverse xs ++ ks) reads.are in
-      through_both u f called (arguments args) (read ∷ []) rest ks (stacked args ks) after (arguments_lead u f called args ks reads.marked stable (read ∷ rest)) (after, (reads.count, ks, three, stable, all_through u f called none rest ks after one, all_through u f called some rest ks after other), refl)
+      through_both u f called (arguments args) (read ∷ []) rest ks (stacked args ks) after (arguments_lead u f called args ks reads.well_typed stable (read ∷ rest)) (after, (reads.count, ks, three, stable, all_through u f called none rest ks after one, all_through u f called some rest ks after other), refl)
 
   line_through : (r : ReadView) (wants : Bool) (held failed rest : List Item) (ks after : List Mark) → ReadsLine u r.call.arguments → AreStable ks → Through u f called held rest ks after → Through u f called failed rest ks after → Through u f called (line_items r wants (items_of held) (items_of failed)) rest ks after
   line_through r true held failed rest ks after reads stable one other = read_through r.call.arguments r.call.at failed held rest ks after reads stable other one
   line_through r false held failed rest ks after reads stable one other = read_through r.call.arguments r.call.at held failed rest ks after reads stable one other
 
-  value_through : (e : TermTree) (test : Option NamedTest) (held failed rest : List Item) (ks after : List Mark) → MarkedTerm u true e → HasTest u e test → AreStable ks → Through u f called held rest ks after → Through u f called failed rest ks after → Through u f called (item.Value e ∷ (item.Choose (term_at e) test (items_of held) (items_of failed) ∷ [])) rest ks after
-  value_through e None held failed rest ks after marked tested stable one other = (term_mark e ∷ ks, by_type marked stable refl, (after, (term_mark e, ks, refl, (λ may. all_through u f called held rest ks after one), (λ may. all_through u f called failed rest ks after other)), refl))
-  value_through e (Some test) held failed rest ks after marked tested stable one other =
-      let t : Tests e test ks = tests e test ks tested marked stable in
+  value_through : (e : TermTree) (test : Option NamedTest) (held failed rest : List Item) (ks after : List Mark) → WellTypedTerm u true e → HasTest u e test → AreStable ks → Through u f called held rest ks after → Through u f called failed rest ks after → Through u f called (item.Value e ∷ (item.Choose (term_at e) test (items_of held) (items_of failed) ∷ [])) rest ks after
+  value_through e None held failed rest ks after well_typed tested stable one other = (term_mark e ∷ ks, by_type well_typed stable refl, (after, (term_mark e, ks, refl, (λ may. all_through u f called held rest ks after one), (λ may. all_through u f called failed rest ks after other)), refl))
+  value_through e (Some test) held failed rest ks after well_typed tested stable one other =
+      let t : Tests e test ks = tests e test ks tested well_typed stable in
       (t.0 ∷ ks, t.1, (after, (t.0, ks, refl, t.2, stable, all_through u f called held rest ks after one, all_through u f called failed rest ks after other), refl))
 
-  leaf_by_through : (is_test : Bool) (e : TermTree) (o : Option ReadView) (held failed rest : List Item) (ks after : List Mark) → MarkedTerm u true e → HasTest u e (test_if u is_test e) → LineRead u o → AreStable ks → Through u f called held rest ks after → Through u f called failed rest ks after → Through u f called (leaf_by u is_test e o (items_of held) (items_of failed)) rest ks after
-  leaf_by_through is_test e (Some r) held failed rest ks after marked tested read stable one other = line_through r r.wants_line held failed rest ks after read stable one other
-  leaf_by_through is_test e None held failed rest ks after marked tested read stable one other = value_through e (test_if u is_test e) held failed rest ks after marked tested stable one other
+  leaf_by_through : (is_test : Bool) (e : TermTree) (o : Option ReadView) (held failed rest : List Item) (ks after : List Mark) → WellTypedTerm u true e → HasTest u e (test_if u is_test e) → LineRead u o → AreStable ks → Through u f called held rest ks after → Through u f called failed rest ks after → Through u f called (leaf_by u is_test e o (items_of held) (items_of failed)) rest ks after
+  leaf_by_through is_test e (Some r) held failed rest ks after well_typed tested read stable one other = line_through r r.wants_line held failed rest ks after read stable one other
+  leaf_by_through is_test e None held failed rest ks after well_typed tested read stable one other = value_through e (test_if u is_test e) held failed rest ks after well_typed tested stable one other
 
   -- ---- conditions
 
-  pub condition_through : (is_test : Bool) (e : TermTree) (held failed rest : List Item) (ks after : List Mark) → MarkedTerm u true e → HasTests u is_test e → AreStable ks → Through u f called held rest ks after → Through u f called failed rest ks after → Through u f called (condition u is_test e held failed) rest ks after
-  condition_through is_test (Typed at t parens fixed (tree.Logical And a b)) held failed rest ks after marked tested stable one other = condition_through is_test a (condition u is_test b held failed) failed rest ks after marked.0 tested.0 stable (condition_through is_test b held failed rest ks after marked.1 tested.1 stable one other) other
-  condition_through is_test (Typed at t parens fixed (tree.Logical Or a b)) held failed rest ks after marked tested stable one other = condition_through is_test a held (condition u is_test b held failed) rest ks after marked.0 tested.0 stable one (condition_through is_test b held failed rest ks after marked.1 tested.1 stable one other)
-  condition_through is_test (Typed at t parens fixed (tree.Not a)) held failed rest ks after marked tested stable one other = condition_through is_test a failed held rest ks after marked.0 tested stable other one
-  condition_through is_test (Typed at t parens fixed (tree.Conditional c a b)) held failed rest ks after marked tested stable one other = condition_through true c (condition u false a held failed) (condition u false b held failed) rest ks after marked.0 tested.0 stable (condition_through false a held failed rest ks after marked.2 tested.1 stable one other) (condition_through false b held failed rest ks after marked.3 tested.2 stable one other)
-  condition_through is_test e held failed rest ks after marked tested stable one other = leaf_by_through is_test e (read_by e) held failed rest ks after marked tested (line_read u e marked) stable one other
+  pub condition_through : (is_test : Bool) (e : TermTree) (held failed rest : List Item) (ks after : List Mark) → WellTypedTerm u true e → HasTests u is_test e → AreStable ks → Through u f called held rest ks after → Through u f called failed rest ks after → Through u f called (condition u is_test e held failed) rest ks after
+  condition_through is_test (Typed at t parens fixed (tree.Logical And a b)) held failed rest ks after well_typed tested stable one other = condition_through is_test a (condition u is_test b held failed) failed rest ks after well_typed.0 tested.0 stable (condition_through is_test b held failed rest ks after well_typed.1 tested.1 stable one other) other
+  condition_through is_test (Typed at t parens fixed (tree.Logical Or a b)) held failed rest ks after well_typed tested stable one other = condition_through is_test a held (condition u is_test b held failed) rest ks after well_typed.0 tested.0 stable one (condition_through is_test b held failed rest ks after well_typed.1 tested.1 stable one other)
+  condition_through is_test (Typed at t parens fixed (tree.Not a)) held failed rest ks after well_typed tested stable one other = condition_through is_test a failed held rest ks after well_typed.0 tested stable other one
+  condition_through is_test (Typed at t parens fixed (tree.Conditional c a b)) held failed rest ks after well_typed tested stable one other = condition_through true c (condition u false a held failed) (condition u false b held failed) rest ks after well_typed.0 tested.0 stable (condition_through false a held failed rest ks after well_typed.2 tested.1 stable one other) (condition_through false b held failed rest ks after well_typed.3 tested.2 stable one other)
+  condition_through is_test e held failed rest ks after well_typed tested stable one other = leaf_by_through is_test e (read_by e) held failed rest ks after well_typed tested (line_read u e well_typed) stable one other
 
   -- ---- conditions that are known
 

@@ -17,12 +17,12 @@ use Rattle.source_items.proofs.stack_kinds.LeadingConditions.{IfSome}
 use Rattle.source_items.specs.Operations.Kinds.{Kind, Number, Address}
 use Rattle.source_preservation.specs.ValueTyping.Marks.{Mark, Ranged, Pointing}
 use Rattle.source_preservation.specs.ValueTyping.MarkOperations.{AreOfKinds}
-use Rattle.source_preservation.specs.WellTyped.MarkedTerms.{argument_marks, CallsLibrary, MarkedTerm, MarkedTerms}
+use Rattle.source_preservation.specs.WellTyped.WellTypedTerms.{argument_marks, CallsLibrary, WellTypedTerm, WellTypedTerms}
 use Rattle.source_preservation.proofs.items.ExactConditions.{no_line}
 
 -- a call that reads a line takes a pointer, a number and a pointer
 pub record ReadsLine (u : UnitView) (args : TermTrees) : Type 0 where
-  pub marked : MarkedTerms u args
+  pub well_typed : WellTypedTerms u args
   pub count : IntType
   pub are : argument_marks args ≡ Pointing ∷ (Ranged count ∷ (Pointing ∷ []))
 
@@ -71,28 +71,28 @@ three_marks marks are =
 -- ---- calls in conditions
 
 module _ (u : UnitView) where
-  reads_line : (used : Bool) (t : Ty) (args : TermTrees) → MarkedTerms u args → CallsLibrary u used t Fgets args → ReadsLine u args
-  reads_line used t args marked calls =
+  reads_line : (used : Bool) (t : Ty) (args : TermTrees) → WellTypedTerms u args → CallsLibrary u used t Fgets args → ReadsLine u args
+  reads_line used t args well_typed calls =
       let three = three_marks (argument_marks args) (subst (AreOfKinds (argument_marks args)) calls.accepts calls.are) in
-      record { marked = marked; count = three.0; are = three.1 }
+      record { well_typed = well_typed; count = three.0; are = three.1 }
 
-  library_called : (used : Bool) (t : Ty) (at : Place) (function : LibFn) (args : TermTrees) → MarkedTerms u args → CallsLibrary u used t function args → LineCalled u (line_call_of at function args)
-  library_called used t at Fgets args marked calls = reads_line used t args marked calls
-  library_called used t at other args marked calls = tt
+  library_called : (used : Bool) (t : Ty) (at : Place) (function : LibFn) (args : TermTrees) → WellTypedTerms u args → CallsLibrary u used t function args → LineCalled u (line_call_of at function args)
+  library_called used t at Fgets args well_typed calls = reads_line used t args well_typed calls
+  library_called used t at other args well_typed calls = tt
 
-  called_in : (used : Bool) (e : TermTree) → MarkedTerm u used e → LineCalled u (line_call_in e)
-  called_in used (Typed at t parens fixed (tree.Library function args allocated)) marked = library_called used t at function args marked.0 marked.1
-  called_in used (Typed at t parens fixed form) marked = tt
+  called_in : (used : Bool) (e : TermTree) → WellTypedTerm u used e → LineCalled u (line_call_in e)
+  called_in used (Typed at t parens fixed (tree.Library function args allocated)) well_typed = library_called used t at function args well_typed.0 well_typed.1
+  called_in used (Typed at t parens fixed form) well_typed = tt
 
   nothing_called : (o : Option LineCallView) → o ≡ None → LineCalled u o
   nothing_called None is = tt
   nothing_called (Some c) is = let no : ⊥ = cc in absurd no
 
-  line_called : (e : TermTree) → MarkedTerm u true e → LineCalled u (line_call e)
-  line_called (Typed at t parens fixed (tree.Convert Implicit a)) marked = elim marked.1 [ inl m ↦ line_called a m.0 | inr exact ↦ nothing_called (line_call a) (no_line u.model a (pos 0) exact.1) ]
-  line_called e marked = called_in true e marked
+  line_called : (e : TermTree) → WellTypedTerm u true e → LineCalled u (line_call e)
+  line_called (Typed at t parens fixed (tree.Convert Implicit a)) well_typed = elim well_typed.1 [ inl m ↦ line_called a m.0 | inr exact ↦ nothing_called (line_call a) (no_line u.model a (pos 0) exact.1) ]
+  line_called e well_typed = called_in true e well_typed
 
-  called_beside : (left right : TermTree) → MarkedTerm u true left → MarkedTerm u true right → LineCalled u (line_call_beside left right)
+  called_beside : (left right : TermTree) → WellTypedTerm u true left → WellTypedTerm u true right → LineCalled u (line_call_beside left right)
   called_beside left right one other = by (is_null_constant right) (is_null_constant left)
     where
       by : (b c : Bool) → LineCalled u (cond b (line_call left) (cond c (line_call right) None))
@@ -104,11 +104,11 @@ module _ (u : UnitView) where
   read_tested None wants called = tt
   read_tested (Some c) wants called = called
 
-  read_compared : (sign : BinaryOp) (left right : TermTree) → MarkedTerm u true left → MarkedTerm u true right → LineRead u (compared_read sign left right)
+  read_compared : (sign : BinaryOp) (left right : TermTree) → WellTypedTerm u true left → WellTypedTerm u true right → LineRead u (compared_read sign left right)
   read_compared Equal left right one other = read_tested (line_call_beside left right) false (called_beside left right one other)
   read_compared NotEqual left right one other = read_tested (line_call_beside left right) true (called_beside left right one other)
   read_compared sign left right one other = tt
 
-  pub line_read : (e : TermTree) → MarkedTerm u true e → LineRead u (read_by e)
-  line_read (Typed at t parens fixed (tree.Compare sign left right)) marked = read_compared sign left right marked.0 marked.1
-  line_read e marked = read_tested (line_call e) true (line_called e marked)
+  pub line_read : (e : TermTree) → WellTypedTerm u true e → LineRead u (read_by e)
+  line_read (Typed at t parens fixed (tree.Compare sign left right)) well_typed = read_compared sign left right well_typed.0 well_typed.1
+  line_read e well_typed = read_tested (line_call e) true (line_called e well_typed)

@@ -24,8 +24,8 @@ use Rattle.source_preservation.specs.ValueTyping.Marks.{Mark, Exactly, Naming, N
 use Rattle.source_preservation.specs.ValueTyping.MarkOperations as marks
 use Rattle.source_preservation.specs.ValueTyping.MarkOperations.{number_of_truth, IsKind, IsScalar, ConvertsTo, MarkOperates}
 use Rattle.source_preservation.specs.WellTyped.ExactTerms.{is_true, Results, ExactTerm, NullTerm}
-use Rattle.source_preservation.specs.WellTyped.MarkedTerms.{SideTerm, Quiet}
-use Rattle.source_preservation.specs.WellTyped.MarkedItems.{quietly, named, Effect}
+use Rattle.source_preservation.specs.WellTyped.WellTypedTerms.{SideTerm, Quiet}
+use Rattle.source_preservation.specs.WellTyped.WellTypedItems.{quietly, named, Effect}
 use Rattle.source_preservation.proofs.items.ExactOperands.{Right, both_right, both_failed, either_right, either_held, first_arm, second_arm}
 use Rattle.source_preservation.proofs.items.Leading.{Through, Leads, leads_to}
 use Rattle.source_preservation.proofs.items.LeadingConditions.{exact_choice_through, exact_condition_through}

@@ -18,7 +18,7 @@ use Rattle.source_items.specs.Liveness.Lives.{Lives, lives, kept_objects, kept, 
 use Rattle.source_items.specs.Liveness.ScopedStatements.{ScopedFunction}
 use Rattle.source_items.specs.Liveness.Livings.{Sit, Living}
 use Rattle.source_items.proofs.liveness.Members.{right_or, self_in, is_in-append, distinct_left}
-use Rattle.source_items.proofs.liveness.Openings.{parts, kept_apart}
+use Rattle.source_items.proofs.liveness.Inlinings.{parts, kept_apart}
 use Rattle.source_items.proofs.liveness.Sitting.{Leads, Adds, adds_both}
 use Rattle.source_items.proofs.liveness.SittingStatements.{Replaces}
 use Rattle.source_preservation.proofs.liveness.Bodies.{parameters_distinct, result_apart, kept_distinct, body_replaces}

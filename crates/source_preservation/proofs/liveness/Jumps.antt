@@ -6,11 +6,11 @@ use Rattle.c_layout.specs.CheckedTrees.{StatementTree}
 use Rattle.c_layout.specs.CheckedUnits.{UnitView, FunctionView}
 use Rattle.memory_model.specs.Effects.NumberedTables.{put_at, clear_at}
 use Rattle.semantics.specs.SourceMachine.Items.{Item}
-use Rattle.semantics.specs.SourceMachine.Scopes.{is_in, all_of, open_scopes, entered_between, jump, entering_first, leap_in, behind_loop}
+use Rattle.semantics.specs.SourceMachine.Scopes.{is_in, all_of, open_scopes, entered_between, jump, entering_first, leap_in, past_loop}
 use Rattle.semantics.specs.SourceMachine.SourceStates.{function_at}
 use Rattle.source_items.specs.Liveness.Lives.{without_those, lives, kept_objects, AreAlive, IsInBody}
 use Rattle.source_items.specs.Liveness.Livings.{Selects, Sits, Sit, Living, LivingAt}
-use Rattle.source_items.proofs.liveness.Openings.{jump_same, leap_same, left_new, entered_alive}
+use Rattle.source_items.proofs.liveness.Inlinings.{jump_same, leap_same, left_new, entered_alive}
 use Rattle.source_items.proofs.liveness.Sitting.{sit_behind_loop}
 use Rattle.source_items.proofs.liveness.SittingStatements.{Replaces}
 use Rattle.source_items.proofs.liveness.Labels.{Reached}
@@ -59,7 +59,7 @@ module _ (f : FunctionView) (first : Bool) where
       ((λ n. entered.0 n ∙ leap_same objects (lives f first from) (lives f first to) (open_scopes from) (open_scopes to) here reached.here reached.within n), entered.1)
 
   -- behind the body of a switch
-  pub landed_behind : (s : StatementTree) (rest : List Item) → Selects f first s rest → Sit f first rest → Reached f first (open_scopes rest) (behind_loop rest)
+  pub landed_behind : (s : StatementTree) (rest : List Item) → Selects f first s rest → Sit f first rest → Reached f first (open_scopes rest) (past_loop rest)
   landed_behind s rest selects sit = record { sit = sit_behind_loop f first rest sit; here = selects.lands; within = λ n e. ap (λ scopes. is_in n (all_of scopes)) selects.same ∙ e }
 
   -- ---- objects that are entered and left

@@ -24,8 +24,8 @@ use Rattle.semantics.specs.SourceMachine.Items as item
 use Rattle.semantics.specs.SourceMachine.Items.{NamedSide, NamedTest, Item, Items, listed, Change}
 use Rattle.semantics.specs.SourceMachine.TermItems.{address_items}
 use Rattle.semantics.specs.SourceMachine.ConditionItems.{term_items}
-use Rattle.semantics.specs.SourceMachine.StatementItems.{of_statement, while_turn, do_turn, for_turn}
-use Rattle.semantics.specs.SourceMachine.Scopes.{is_in, all_of, open_scopes, jump, leap_in, behind_loop, behind_turn}
+use Rattle.semantics.specs.SourceMachine.StatementItems.{of_statement, while_iteration, do_iteration, for_iteration}
+use Rattle.semantics.specs.SourceMachine.Scopes.{is_in, all_of, open_scopes, jump, leap_in, past_loop, past_iteration}
 use Rattle.semantics.specs.SourceMachine.LabelSearch as sought
 use Rattle.semantics.specs.SourceMachine.LabelSearch.{Sought, found, from_label, case_of}
 use Rattle.semantics.specs.SourceMachine.SourceStates.{Frame, State, with_world, first_do, function_at, result_object, type_of, instance_of}
@@ -183,7 +183,7 @@ module _ (u : UnitView) where
 
   -- ---- switches
 
-  lands : (P : List Item → Type 0) (l : Sought) (o : Option (List Item)) (rest : List Item) → IfSome P o → P (behind_loop rest) → IfSome P (landing l o rest)
+  lands : (P : List Item → Type 0) (l : Sought) (o : Option (List Item)) (rest : List Item) → IfSome P o → P (past_loop rest) → IfSome P (landing l o rest)
   lands P l (Some to) rest reached behind = reached
   lands P sought.other None rest reached behind = behind
   lands P (sought.label n) None rest reached behind = tt
@@ -224,11 +224,11 @@ module _ (u : UnitView) where
         there : (f : FunctionView) → function_at u s.function ≡ Some f → (to : List Item) → IsInBody f (is_entry s.frames) to → Sit f (is_entry s.frames) to → IsLivingBy u (jump s.control to) s
         there f is to here sit = (change_for u s.function (is_entry s.frames) s.names s.names (item.GoTo n ∷ s.control) (jump s.control to) f is (λ living. in_place f (is_entry s.frames) s.names (item.GoTo n) (jump s.control to) s.control refl (λ sits _. jump_replaces f (is_entry s.frames) s.control to sits here sit) living) all.0, all.1)
 
-    broken : (s : State) → IsLivingAt u item.BreakOut s → IsLivingBy u (jump s.control (behind_loop s.control)) s
-    broken s all = replaced s item.BreakOut (jump s.control (behind_loop s.control)) (λ f. refl) (λ f is sits sit. jump_replaces f (is_entry s.frames) s.control (behind_loop s.control) sits.0 sits.1 (sit_behind_loop f (is_entry s.frames) s.control sit)) all
+    broken : (s : State) → IsLivingAt u item.BreakOut s → IsLivingBy u (jump s.control (past_loop s.control)) s
+    broken s all = replaced s item.BreakOut (jump s.control (past_loop s.control)) (λ f. refl) (λ f is sits sit. jump_replaces f (is_entry s.frames) s.control (past_loop s.control) sits.0 sits.1 (sit_behind_loop f (is_entry s.frames) s.control sit)) all
 
-    continued : (s : State) → IsLivingAt u item.NextTurn s → IsLivingBy u (jump s.control (behind_turn s.control)) s
-    continued s all = replaced s item.NextTurn (jump s.control (behind_turn s.control)) (λ f. refl) (λ f is sits sit. jump_replaces f (is_entry s.frames) s.control (behind_turn s.control) sits.0 sits.1 (sit_behind_turn f (is_entry s.frames) s.control sit)) all
+    continued : (s : State) → IsLivingAt u item.NextIteration s → IsLivingBy u (jump s.control (past_iteration s.control)) s
+    continued s all = replaced s item.NextIteration (jump s.control (past_iteration s.control)) (λ f. refl) (λ f is sits sit. jump_replaces f (is_entry s.frames) s.control (past_iteration s.control) sits.0 sits.1 (sit_behind_turn f (is_entry s.frames) s.control sit)) all
 
     -- ---- calls and returns
 
@@ -277,10 +277,10 @@ module _ (u : UnitView) where
     acts (item.Choose at test held failed) s all = chosen at test held failed s s.values all
     acts (item.ReadLine at none some) s all = read at none some s s.values all
     acts (item.Statement statement) s all = replaced s (item.Statement statement) (of_statement u (is_entry s.frames) statement ++ s.control) (λ f. refl) (λ f is sits sit. statement_replaces u f (is_entry s.frames) statement s.control sits sit) all
-    acts (item.WhileTurn c statement) s all = replaced s (item.WhileTurn c statement) (while_turn u c statement ++ s.control) (λ f. refl) (λ f is sits sit. replacing f (is_entry s.frames) (while_turn u c statement) s.control (while_leads u f (is_entry s.frames) c statement s.control sits sit)) all
-    acts (item.DoTurn statement c) s all = replaced s (item.DoTurn statement c) (do_turn u statement c ++ s.control) (λ f. refl) (λ f is sits sit. replacing f (is_entry s.frames) (do_turn u statement c) s.control (do_leads u f (is_entry s.frames) c statement s.control sits sit)) all
-    acts (item.ForTurn c clause statement) s all = replaced s (item.ForTurn c clause statement) (for_turn u c clause statement ++ s.control) (λ f. refl) (λ f is sits sit. replacing f (is_entry s.frames) (for_turn u c clause statement) s.control (for_leads u f (is_entry s.frames) c clause statement s.control sits sit)) all
-    acts item.TurnEnd s all = passed s item.TurnEnd (λ f. refl) all
+    acts (item.WhileIteration c statement) s all = replaced s (item.WhileIteration c statement) (while_iteration u c statement ++ s.control) (λ f. refl) (λ f is sits sit. replacing f (is_entry s.frames) (while_iteration u c statement) s.control (while_leads u f (is_entry s.frames) c statement s.control sits sit)) all
+    acts (item.DoIteration statement c) s all = replaced s (item.DoIteration statement c) (do_iteration u statement c ++ s.control) (λ f. refl) (λ f is sits sit. replacing f (is_entry s.frames) (do_iteration u statement c) s.control (do_leads u f (is_entry s.frames) c statement s.control sits sit)) all
+    acts (item.ForIteration c clause statement) s all = replaced s (item.ForIteration c clause statement) (for_iteration u c clause statement ++ s.control) (λ f. refl) (λ f is sits sit. replacing f (is_entry s.frames) (for_iteration u c clause statement) s.control (for_leads u f (is_entry s.frames) c clause statement s.control sits sit)) all
+    acts item.IterationEnd s all = passed s item.IterationEnd (λ f. refl) all
     acts item.LoopEnd s all = passed s item.LoopEnd (λ f. refl) all
     acts (item.Select at o labels statement) s all = selected at o labels statement s s.values all
     acts (item.Enters objects) s all = entering s objects all
@@ -288,7 +288,7 @@ module _ (u : UnitView) where
     acts item.Hop s all = passed s item.Hop (λ f. refl) all
     acts (item.GoTo n) s all = goes_to s n all
     acts item.BreakOut s all = broken s all
-    acts item.NextTurn s all = continued s all
+    acts item.NextIteration s all = continued s all
     acts item.LeaveFunction s all = goes_if_some (IsLiving u) s (function_at u s.function) _ (λ f is. returning s f is all)
     acts item.EndBody s all = goes_if_some (IsLiving u) s (function_at u s.function) _ (λ f is. ending s f is all)
     acts (item.Invoke at g count used) s all = invoked s at g count used all

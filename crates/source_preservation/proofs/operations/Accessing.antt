@@ -16,7 +16,7 @@ use Rattle.semantics.specs.SourceMachine.Operations.{size_of, leaves, load_over,
 use Rattle.source_items.specs.Operations.GoingReplies.{NotStuck}
 use Rattle.source_items.specs.Operations.Kinds.{Address, kind_of, IsOf}
 use Rattle.source_items.specs.Operations.OperationLaws.{OperationsHaveSteps, OperationsKeepKinds}
-use Rattle.source_preservation.specs.ValueTyping.Marks.{Mark, Pointing, Naming, Loaded, mark_of, is_stable, AreStable, Has, AreMarked}
+use Rattle.source_preservation.specs.ValueTyping.Marks.{Mark, Pointing, Naming, Loaded, mark_of, is_stable, AreStable, Has, AreWellTyped}
 use Rattle.source_preservation.specs.ValueTyping.ProperMemory.{IsProperMemory, Evolves}
 use Rattle.source_preservation.specs.ValueTyping.MarkOperations.{IsScalar, Replaces, Rewrites, Loads, any, named, Stores}
 use Rattle.source_preservation.specs.ValueTyping.MarkLaws.{Comes, Leaves}
@@ -59,11 +59,11 @@ module _ (steps : OperationsHaveSteps) (keeps : OperationsKeepKinds) (u : UnitVi
   load_named o (integer n labels) scalar has = absurd has
   load_named o (pointer p) scalar has = makes u names w (Loaded o) (load u.model o.kind (pointer p) w) (load_steps o.kind p) (load_keeps u.model o.kind (pointer p) w) (λ v after e. loaded_whole u.model names o p w after v scalar has e)
 
-  over_made : (kind : declared.Scalar) (below : List Mark) (own rest : List Scalar) → IsScalar u.model kind → AreMarked u.model names w.memory (Pointing ∷ below) own → Comes (Leaves u names w.memory (mark_of kind ∷ (Pointing ∷ below)) rest) (load_over u kind (own ++ rest) w)
+  over_made : (kind : declared.Scalar) (below : List Mark) (own rest : List Scalar) → IsScalar u.model kind → AreWellTyped u.model names w.memory (Pointing ∷ below) own → Comes (Leaves u names w.memory (mark_of kind ∷ (Pointing ∷ below)) rest) (load_over u kind (own ++ rest) w)
   over_made kind below [] rest scalar are = absurd are
   over_made kind below (p ∷ vs) rest scalar are = pushed_made u names w (mark_of kind) (Pointing ∷ below) (p ∷ vs) rest (load u.model kind p w) are (load_makes kind p scalar are.0)
 
-  under_made : (kind : declared.Scalar) (k : Mark) (below : List Mark) (own rest : List Scalar) → IsScalar u.model kind → AreMarked u.model names w.memory (k ∷ (Pointing ∷ below)) own → Comes (Leaves u names w.memory (mark_of kind ∷ (k ∷ (Pointing ∷ below))) rest) (load_under u kind (own ++ rest) w)
+  under_made : (kind : declared.Scalar) (k : Mark) (below : List Mark) (own rest : List Scalar) → IsScalar u.model kind → AreWellTyped u.model names w.memory (k ∷ (Pointing ∷ below)) own → Comes (Leaves u names w.memory (mark_of kind ∷ (k ∷ (Pointing ∷ below))) rest) (load_under u kind (own ++ rest) w)
   under_made kind k below [] rest scalar are = absurd are
   under_made kind k below (r ∷ []) rest scalar are = absurd are.1
   under_made kind k below (r ∷ (p ∷ vs)) rest scalar are = pushed_made u names w (mark_of kind) (k ∷ (Pointing ∷ below)) (r ∷ (p ∷ vs)) rest (load u.model kind p w) are (load_makes kind p scalar are.1.0)
@@ -88,11 +88,11 @@ module _ (steps : OperationsHaveSteps) (keeps : OperationsKeepKinds) (u : UnitVi
       (subst (Has u.model names after.memory (Loaded o)) (sym (store_given u.model o.kind p v r w after e)) (stored_whole u.model names o p w after v r scalar to has e), store_evolves o.kind p v r after has e))
 
   -- the value below is given behind a store
-  kept_below : (k : Mark) (below : List Mark) (old : Scalar) (vs rest : List Scalar) (r : Reply Scalar) → is_stable k ≡ true → AreStable below → Has u.model names w.memory k old → AreMarked u.model names w.memory below vs → Comes (λ v after. Evolves u.model w.memory after.memory) r → Comes (Leaves u names w.memory (k ∷ below) rest) (behind r (λ _ after. goes (old ∷ (vs ++ rest)) after))
+  kept_below : (k : Mark) (below : List Mark) (old : Scalar) (vs rest : List Scalar) (r : Reply Scalar) → is_stable k ≡ true → AreStable below → Has u.model names w.memory k old → AreWellTyped u.model names w.memory below vs → Comes (λ v after. Evolves u.model w.memory after.memory) r → Comes (Leaves u names w.memory (k ∷ below) rest) (behind r (λ _ after. goes (old ∷ (vs ++ rest)) after))
   kept_below k below old vs rest (goes v after) stable all has are evolved = record {
     own = old ∷ vs;
     is = refl;
-    marked = (has_stable u.model names w.memory after.memory evolved.grows k old stable has, are_stable u.model names w.memory after.memory evolved.grows below vs all are);
+    well_typed = (has_stable u.model names w.memory after.memory evolved.grows k old stable has, are_stable u.model names w.memory after.memory evolved.grows below vs all are);
     evolves = evolved;
   }
   kept_below k below old vs rest (stops why after) stable all has are evolved = evolved
@@ -101,7 +101,7 @@ module _ (steps : OperationsHaveSteps) (keeps : OperationsKeepKinds) (u : UnitVi
   store_comes kind (goes v after) changed = changed.1
   store_comes kind (stops why after) changed = changed
 
-  store_over_changed : (kind : declared.Scalar) (k : Mark) (below : List Mark) (own rest : List Scalar) → is_stable k ≡ true → AreStable below → AreMarked u.model names w.memory (mark_of kind ∷ (k ∷ (Pointing ∷ below))) own → Comes (Leaves u names w.memory (k ∷ below) rest) (store_over u kind (own ++ rest) w)
+  store_over_changed : (kind : declared.Scalar) (k : Mark) (below : List Mark) (own rest : List Scalar) → is_stable k ≡ true → AreStable below → AreWellTyped u.model names w.memory (mark_of kind ∷ (k ∷ (Pointing ∷ below))) own → Comes (Leaves u names w.memory (k ∷ below) rest) (store_over u kind (own ++ rest) w)
   store_over_changed kind k below [] rest stable all are = absurd are
   store_over_changed kind k below (v ∷ []) rest stable all are = absurd are.1
   store_over_changed kind k below (v ∷ (old ∷ [])) rest stable all are = absurd are.1.1
@@ -123,7 +123,7 @@ module _ (steps : OperationsHaveSteps) (keeps : OperationsKeepKinds) (u : UnitVi
 
   -- ---- operations
 
-  module _ (before after : List Mark) (own rest : List Scalar) (are : AreMarked u.model names w.memory before own) where
+  module _ (before after : List Mark) (own rest : List Scalar) (are : AreWellTyped u.model names w.memory before own) where
     pub load_performed : (kind : declared.Scalar) → IsScalar u.model kind → Loads u.model kind before after → Comes (Leaves u names w.memory after rest) (perform u (op.Load kind) (own ++ rest) w)
     load_performed kind scalar (any o) = replacing u names w before after own rest _ are (Pointing ∷ []) (mark_of kind ∷ []) o (λ below are. one_made u names w Pointing (mark_of kind) below own rest (load u.model kind) (λ v has. load_makes kind v scalar has) are)
     load_performed kind scalar (named o e changes) = subst (λ kind. IsScalar u.model kind → Comes (Leaves u names w.memory after rest) (perform u (op.Load kind) (own ++ rest) w)) e (λ scalar. replacing u names w before after own rest _ are (Naming o.object ∷ []) (Loaded o ∷ []) changes (λ below are. one_made u names w (Naming o.object) (Loaded o) below own rest (load u.model o.kind) (λ v has. load_named o v scalar has) are)) scalar

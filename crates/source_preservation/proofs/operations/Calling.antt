@@ -16,20 +16,20 @@ use Rattle.source_items.specs.Operations.GoingReplies.{IfGoes, NotStuck}
 use Rattle.source_items.specs.Operations.Kinds.{Kind, Number, Address, IsOf, AreOf}
 use Rattle.source_items.specs.Operations.TakenKinds.{Accepts, result_kind, with_result, Calls}
 use Rattle.source_items.specs.Operations.OperationLaws.{OperationsHaveSteps, OperationsKeepKinds}
-use Rattle.source_preservation.specs.ValueTyping.Marks.{Mark, Ranged, Pointing, AreStable, Has, AreMarked}
+use Rattle.source_preservation.specs.ValueTyping.Marks.{Mark, Ranged, Pointing, AreStable, Has, AreWellTyped}
 use Rattle.source_preservation.specs.ValueTyping.ProperMemory.{Evolves}
 use Rattle.source_preservation.specs.ValueTyping.MarkOperations.{AreOfKinds, least_given, greatest_given, IsGiven, with_given, MarkCalls}
 use Rattle.source_preservation.specs.ValueTyping.MarkLaws.{Comes, Leaves}
 use Rattle.source_preservation.specs.Memory.GoingWorlds.{WhenGoing, AreProperScalars, IsProperScalar, IsProperResult}
 use Rattle.source_preservation.proofs.memory.Calling.{library_gives, pointing_proper}
 use Rattle.source_preservation.proofs.ranges.TypeRanges.{between_ends}
-use Rattle.source_preservation.proofs.operations.StableMarks.{are_stable, AreParts, parts_are, reversed_marked, as_many}
+use Rattle.source_preservation.proofs.operations.StableMarks.{are_stable, AreParts, parts_are, reversed_well_typed, as_many}
 use Rattle.source_preservation.proofs.operations.GivenNumbers.{IsWithin, library_within}
 
 module _ (u : UnitView) (names : ℕ → Option ℕ) (memory : Memory) where
   -- ---- arguments
 
-  arguments_of : (marks : List Mark) (ks : List Kind) (vs : List Scalar) → AreOfKinds marks ks → AreMarked u.model names memory marks vs → AreOf ks vs
+  arguments_of : (marks : List Mark) (ks : List Kind) (vs : List Scalar) → AreOfKinds marks ks → AreWellTyped u.model names memory marks vs → AreOf ks vs
   arguments_of [] ks [] of are = subst (λ ks. AreOf ks []) (sym of) tt
   arguments_of [] ks (v ∷ vs) of are = absurd are
   arguments_of (k ∷ marks) ks [] of are = absurd are
@@ -39,7 +39,7 @@ module _ (u : UnitView) (names : ℕ → Option ℕ) (memory : Memory) where
   arguments_of (Pointing ∷ marks) ks (pointer p ∷ vs) of are = subst (λ ks. AreOf ks (pointer p ∷ vs)) (sym of.1) (tt, arguments_of marks of.0 vs of.2 are.1)
   arguments_of (k ∷ marks) ks (v ∷ vs) of are = absurd of
 
-  proper_arguments : (marks : List Mark) (ks : List Kind) (vs : List Scalar) → AreOfKinds marks ks → AreMarked u.model names memory marks vs → AreProperScalars u.model vs
+  proper_arguments : (marks : List Mark) (ks : List Kind) (vs : List Scalar) → AreOfKinds marks ks → AreWellTyped u.model names memory marks vs → AreProperScalars u.model vs
   proper_arguments [] ks [] of are = tt
   proper_arguments [] ks (v ∷ vs) of are = absurd are
   proper_arguments (k ∷ marks) ks [] of are = absurd are
@@ -96,19 +96,19 @@ module _ (u : UnitView) (names : ℕ → Option ℕ) (w : World) (function : Lib
   given_has Number memory (Ranged kind) (pointer p) is given of proper within = absurd of
   given_has Number memory result v is given of proper within = absurd given
 
-  module _ (below : List Mark) (result : Mark) (others rest : List Scalar) (stable : AreStable below) (are : AreMarked u.model names w.memory below others) where
+  module _ (below : List Mark) (result : Mark) (others rest : List Scalar) (stable : AreStable below) (are : AreWellTyped u.model names w.memory below others) where
     called : (given : Bool) (r : Reply (Option Scalar)) → (given ≡ true → IsGiven u.model function (result_kind function) result) → NotStuck r → WhenGoing (λ o after. IsResult given (result_kind function) o) r → WhenGoing (λ o after. IsProperResult u.model o × Evolves u.model w.memory after.memory) r → WhenGoing (λ o after. IsWithin u.model function o) r → Comes (Leaves u names w.memory (cond given (result ∷ below) below) rest) (pushing_result (others ++ rest) r)
     called true (goes None after) is defined of proper within = absurd of
     called true (goes (Some v) after) is defined of proper within = record {
       own = v ∷ others;
       is = refl;
-      marked = (given_has (result_kind function) after.memory result v refl (is refl) of proper.0 within, are_stable u.model names w.memory after.memory proper.1.grows below others stable are);
+      well_typed = (given_has (result_kind function) after.memory result v refl (is refl) of proper.0 within, are_stable u.model names w.memory after.memory proper.1.grows below others stable are);
       evolves = proper.1;
     }
     called false (goes None after) is defined of proper within = record {
       own = others;
       is = refl;
-      marked = are_stable u.model names w.memory after.memory proper.1.grows below others stable are;
+      well_typed = are_stable u.model names w.memory after.memory proper.1.grows below others stable are;
       evolves = proper.1;
     }
     called false (goes (Some v) after) is defined of proper within = absurd of
@@ -127,12 +127,12 @@ module _ (steps : OperationsHaveSteps) (keeps : OperationsKeepKinds) (u : UnitVi
       ∙ (ap (λ vs. pushing_result vs (answer_to (take (length first) (first ++ ys)))) (drop-append_seam first ys)
       ∙ ap (λ vs. pushing_result ys (answer_to vs)) (take-append_seam first ys))
 
-  module _ (marks : List Mark) (ks : List Kind) (of : AreOfKinds marks ks) (accepts : Accepts function ks) (counted : length marks ≡ count) (first : List Scalar) (are : AreMarked u.model names w.memory (reverse marks) first) where
+  module _ (marks : List Mark) (ks : List Kind) (of : AreOfKinds marks ks) (accepts : Accepts function ks) (counted : length marks ≡ count) (first : List Scalar) (are : AreWellTyped u.model names w.memory (reverse marks) first) where
     many : length first ≡ count
     many = as_many u.model names w.memory (reverse marks) first are ∙ (length-reverse marks ∙ counted)
 
-    in_order : AreMarked u.model names w.memory marks (reverse first)
-    in_order = subst (λ marks. AreMarked u.model names w.memory marks (reverse first)) (reverse-reverse marks) (reversed_marked u.model names w.memory (reverse marks) first are)
+    in_order : AreWellTyped u.model names w.memory marks (reverse first)
+    in_order = subst (λ marks. AreWellTyped u.model names w.memory marks (reverse first)) (reverse-reverse marks) (reversed_well_typed u.model names w.memory (reverse marks) first are)
 
     kinds_are : AreOf (reverse ks) first
     kinds_are = subst (AreOf (reverse ks)) (reverse-reverse first) (are_reversed ks (reverse first) (arguments_of u names w.memory marks ks (reverse first) of in_order))
@@ -153,15 +153,15 @@ module _ (steps : OperationsHaveSteps) (keeps : OperationsKeepKinds) (u : UnitVi
     proper : AreProperScalars u.model (reverse first)
     proper = proper_arguments u names w.memory marks ks (reverse first) of in_order
 
-    arguments_called : (below : List Mark) (result : Mark) (others rest : List Scalar) → AreStable below → AreMarked u.model names w.memory below others → (gives function ≡ true → IsGiven u.model function (result_kind function) result) → Comes (Leaves u names w.memory (with_given function result below) rest) (perform u (op.Library function count target) ((first ++ others) ++ rest) w)
+    arguments_called : (below : List Mark) (result : Mark) (others rest : List Scalar) → AreStable below → AreWellTyped u.model names w.memory below others → (gives function ≡ true → IsGiven u.model function (result_kind function) result) → Comes (Leaves u names w.memory (with_given function result below) rest) (perform u (op.Library function count target) ((first ++ others) ++ rest) w)
     arguments_called below result others rest stable others_are is =
         subst (λ vs. Comes (Leaves u names w.memory (with_given function result below) rest) (perform u (op.Library function count target) vs w)) (sym (append_assoc first others rest))
         (subst (Comes (Leaves u names w.memory (with_given function result below) rest)) (sym (taken_from first (others ++ rest) many))
         (called u names w function below result others rest stable others_are (gives function) (answer_to first) is has_step is_given (library_gives u.model (target_size u target) function (reverse first) w proper) (library_within u.model (target_size u target) (reverse first) w function proper)))
 
-  pub library_performed : (before after : List Mark) (own rest : List Scalar) → AreMarked u.model names w.memory before own → MarkCalls u.model function count before after → Comes (Leaves u names w.memory after rest) (perform u (op.Library function count target) (own ++ rest) w)
+  pub library_performed : (before after : List Mark) (own rest : List Scalar) → AreWellTyped u.model names w.memory before own → MarkCalls u.model function count before after → Comes (Leaves u names w.memory after rest) (perform u (op.Library function count target) (own ++ rest) w)
   library_performed before after own rest are calls =
-      let parts : AreParts u.model names w.memory (reverse calls.arguments) calls.below own = parts_are u.model names w.memory (reverse calls.arguments) calls.below own (subst (λ marks. AreMarked u.model names w.memory marks own) calls.taken are) in
+      let parts : AreParts u.model names w.memory (reverse calls.arguments) calls.below own = parts_are u.model names w.memory (reverse calls.arguments) calls.below own (subst (λ marks. AreWellTyped u.model names w.memory marks own) calls.taken are) in
       subst (λ marks. Comes (Leaves u names w.memory marks rest) (perform u (op.Library function count target) (own ++ rest) w)) (sym calls.given)
       (subst (λ vs. Comes (Leaves u names w.memory (with_given function calls.result calls.below) rest) (perform u (op.Library function count target) (vs ++ rest) w)) (sym parts.is)
       (arguments_called calls.arguments calls.kinds calls.are calls.accepts calls.counted parts.first parts.are calls.below calls.result parts.rest rest calls.stable parts.others_are calls.result_is))

@@ -30,7 +30,7 @@ use Rattle.semantics.specs.SourceMachine.Operations.{Order, LeftFirst, perform}
 use Rattle.source_items.specs.Operations.GoingReplies.{NotStuck}
 use Rattle.source_items.specs.Operations.Kinds.{Number, Address, IsOf}
 use Rattle.source_items.specs.Operations.OperationLaws.{OperationsHaveSteps, OperationsKeepKinds}
-use Rattle.source_preservation.specs.ValueTyping.Marks.{Mark, Ranged, Exactly, Pointing, Null, Loaded, Tested, IsBounded, Has, AreMarked}
+use Rattle.source_preservation.specs.ValueTyping.Marks.{Mark, Ranged, Exactly, Pointing, Null, Loaded, Tested, IsBounded, Has, AreWellTyped}
 use Rattle.source_preservation.specs.ValueTyping.ProperMemory.{IsProperMemory}
 use Rattle.source_preservation.specs.ValueTyping.MarkOperations.{IsKind, IsScalar, HasTruths, Replaces, IsConstant, number_of_truth, operands, Computes, ranged, exact, ComputesOne, Negates, any, ComparesAs, Compares, tested, AreWithNull, null_test_of, ComparesPointers, ConvertsTo, pointer_and_count}
 use Rattle.source_preservation.specs.ValueTyping.MarkLaws.{Comes, Leaves}
@@ -246,7 +246,7 @@ module _ (steps : OperationsHaveSteps) (keeps : OperationsKeepKinds) (u : UnitVi
 
   -- ---- operations
 
-  module _ (before after : List Mark) (own rest : List Scalar) (are : AreMarked u.model names w.memory before own) where
+  module _ (before after : List Mark) (own rest : List Scalar) (are : AreWellTyped u.model names w.memory before own) where
     pub constant_performed : (n : ℤ) (k : Mark) → IsConstant n k → Replaces [] (k ∷ []) before after → Comes (Leaves u names w.memory after rest) (perform u (op.Constant n) (own ++ rest) w)
     constant_performed n k is o = replacing u names w before after own rest (perform u (op.Constant n) (own ++ rest) w) are [] (k ∷ []) o (λ below are. pushed_made u names w k below own rest (goes (integer n no_labels) w) are (constant_has n k no_labels is, refl))
 

@@ -6,7 +6,7 @@ use Rattle.memory_model.specs.Effects.Worlds.{World, Reply, goes, stops}
 use Rattle.semantics.specs.SourceMachine.Operations.{Order, LeftFirst, RightFirst, pushing, on_one, on_two}
 use Rattle.source_items.specs.Operations.GoingReplies.{IfGoes, NotStuck}
 use Rattle.source_items.specs.Operations.Kinds.{Kind, IsOf, AreOf}
-use Rattle.source_preservation.specs.ValueTyping.Marks.{Mark, AreStable, Has, AreMarked}
+use Rattle.source_preservation.specs.ValueTyping.Marks.{Mark, AreStable, Has, AreWellTyped}
 use Rattle.source_preservation.specs.ValueTyping.ProperMemory.{Evolves}
 use Rattle.source_preservation.specs.ValueTyping.MarkOperations.{Replaces, Rewrites, operands}
 use Rattle.source_preservation.specs.ValueTyping.MarkLaws.{Comes, Leaves}
@@ -48,31 +48,31 @@ module _ (u : UnitView) (names : ℕ → Option ℕ) (w : World) where
 
   -- ---- above the others
 
-  pub pushed_made : (g : Mark) (below : List Mark) (own rest : List Scalar) (r : Reply Scalar) → AreMarked u.model names w.memory below own → Makes g r → Comes (Leaves u names w.memory (g ∷ below) rest) (pushing (own ++ rest) r)
+  pub pushed_made : (g : Mark) (below : List Mark) (own rest : List Scalar) (r : Reply Scalar) → AreWellTyped u.model names w.memory below own → Makes g r → Comes (Leaves u names w.memory (g ∷ below) rest) (pushing (own ++ rest) r)
   pushed_made g below own rest (goes v after) are made = record {
     own = v ∷ own;
     is = refl;
-    marked = subst (λ memory. AreMarked u.model names memory (g ∷ below) (v ∷ own)) (sym made.1) (made.0, are);
+    well_typed = subst (λ memory. AreWellTyped u.model names memory (g ∷ below) (v ∷ own)) (sym made.1) (made.0, are);
     evolves = evolves_kept u.model w.memory after.memory made.1;
   }
   pushed_made g below own rest (stops why after) are made = made
 
-  pushed_changed : (g : Mark) (below : List Mark) (own rest : List Scalar) (r : Reply Scalar) → AreStable below → AreMarked u.model names w.memory below own → Changes g r → Comes (Leaves u names w.memory (g ∷ below) rest) (pushing (own ++ rest) r)
+  pushed_changed : (g : Mark) (below : List Mark) (own rest : List Scalar) (r : Reply Scalar) → AreStable below → AreWellTyped u.model names w.memory below own → Changes g r → Comes (Leaves u names w.memory (g ∷ below) rest) (pushing (own ++ rest) r)
   pushed_changed g below own rest (goes v after) stable are changed = record {
     own = v ∷ own;
     is = refl;
-    marked = (changed.0, are_stable u.model names w.memory after.memory changed.1.grows below own stable are);
+    well_typed = (changed.0, are_stable u.model names w.memory after.memory changed.1.grows below own stable are);
     evolves = changed.1;
   }
   pushed_changed g below own rest (stops why after) stable are changed = changed
 
   -- ---- effects on one value and on two
 
-  pub one_made : (k g : Mark) (below : List Mark) (own rest : List Scalar) (effect : Scalar → World → Reply Scalar) → ((v : Scalar) → Has u.model names w.memory k v → Makes g (effect v w)) → AreMarked u.model names w.memory (k ∷ below) own → Comes (Leaves u names w.memory (g ∷ below) rest) (on_one (own ++ rest) w effect)
+  pub one_made : (k g : Mark) (below : List Mark) (own rest : List Scalar) (effect : Scalar → World → Reply Scalar) → ((v : Scalar) → Has u.model names w.memory k v → Makes g (effect v w)) → AreWellTyped u.model names w.memory (k ∷ below) own → Comes (Leaves u names w.memory (g ∷ below) rest) (on_one (own ++ rest) w effect)
   one_made k g below [] rest effect h are = absurd are
   one_made k g below (v ∷ vs) rest effect h are = pushed_made g below vs rest (effect v w) are.1 (h v are.0)
 
-  pub two_made : (order : Order) (left right g : Mark) (below : List Mark) (own rest : List Scalar) (effect : Scalar → Scalar → World → Reply Scalar) → ((a b : Scalar) → Has u.model names w.memory left a → Has u.model names w.memory right b → Makes g (effect a b w)) → AreMarked u.model names w.memory (operands order left right ++ below) own → Comes (Leaves u names w.memory (g ∷ below) rest) (on_two order (own ++ rest) w effect)
+  pub two_made : (order : Order) (left right g : Mark) (below : List Mark) (own rest : List Scalar) (effect : Scalar → Scalar → World → Reply Scalar) → ((a b : Scalar) → Has u.model names w.memory left a → Has u.model names w.memory right b → Makes g (effect a b w)) → AreWellTyped u.model names w.memory (operands order left right ++ below) own → Comes (Leaves u names w.memory (g ∷ below) rest) (on_two order (own ++ rest) w effect)
   two_made LeftFirst left right g below [] rest effect h are = absurd are
   two_made LeftFirst left right g below (b ∷ []) rest effect h are = absurd are.1
   two_made LeftFirst left right g below (b ∷ (a ∷ vs)) rest effect h are = pushed_made g below vs rest (effect a b w) are.1.1 (h a b are.1.0 are.0)
@@ -80,16 +80,16 @@ module _ (u : UnitView) (names : ℕ → Option ℕ) (w : World) where
   two_made RightFirst left right g below (a ∷ []) rest effect h are = absurd are.1
   two_made RightFirst left right g below (a ∷ (b ∷ vs)) rest effect h are = pushed_made g below vs rest (effect a b w) are.1.1 (h a b are.0 are.1.0)
 
-  pub two_changed : (left right g : Mark) (below : List Mark) (own rest : List Scalar) (effect : Scalar → Scalar → World → Reply Scalar) → AreStable below → ((a b : Scalar) → Has u.model names w.memory left a → Has u.model names w.memory right b → Changes g (effect a b w)) → AreMarked u.model names w.memory (right ∷ (left ∷ below)) own → Comes (Leaves u names w.memory (g ∷ below) rest) (on_two LeftFirst (own ++ rest) w effect)
+  pub two_changed : (left right g : Mark) (below : List Mark) (own rest : List Scalar) (effect : Scalar → Scalar → World → Reply Scalar) → AreStable below → ((a b : Scalar) → Has u.model names w.memory left a → Has u.model names w.memory right b → Changes g (effect a b w)) → AreWellTyped u.model names w.memory (right ∷ (left ∷ below)) own → Comes (Leaves u names w.memory (g ∷ below) rest) (on_two LeftFirst (own ++ rest) w effect)
   two_changed left right g below [] rest effect stable h are = absurd are
   two_changed left right g below (b ∷ []) rest effect stable h are = absurd are.1
   two_changed left right g below (b ∷ (a ∷ vs)) rest effect stable h are = pushed_changed g below vs rest (effect a b w) stable are.1.1 (h a b are.1.0 are.0)
 
   -- ---- marks that give place to others
 
-  module _ (before after : List Mark) (own rest : List Scalar) (r : Reply (List Scalar)) (are : AreMarked u.model names w.memory before own) where
-    pub replacing : (taken given : List Mark) → Replaces taken given before after → ((below : List Mark) → AreMarked u.model names w.memory (taken ++ below) own → Comes (Leaves u names w.memory (given ++ below) rest) r) → Comes (Leaves u names w.memory after rest) r
-    replacing taken given o h = subst (λ marks. Comes (Leaves u names w.memory marks rest) r) (sym o.2) (h o.0 (subst (λ marks. AreMarked u.model names w.memory marks own) o.1 are))
+  module _ (before after : List Mark) (own rest : List Scalar) (r : Reply (List Scalar)) (are : AreWellTyped u.model names w.memory before own) where
+    pub replacing : (taken given : List Mark) → Replaces taken given before after → ((below : List Mark) → AreWellTyped u.model names w.memory (taken ++ below) own → Comes (Leaves u names w.memory (given ++ below) rest) r) → Comes (Leaves u names w.memory after rest) r
+    replacing taken given o h = subst (λ marks. Comes (Leaves u names w.memory marks rest) r) (sym o.2) (h o.0 (subst (λ marks. AreWellTyped u.model names w.memory marks own) o.1 are))
 
-    pub rewriting : (taken given : List Mark) → Rewrites taken given before after → ((below : List Mark) → AreStable below → AreMarked u.model names w.memory (taken ++ below) own → Comes (Leaves u names w.memory (given ++ below) rest) r) → Comes (Leaves u names w.memory after rest) r
-    rewriting taken given o h = subst (λ marks. Comes (Leaves u names w.memory marks rest) r) (sym o.3) (h o.0 o.1 (subst (λ marks. AreMarked u.model names w.memory marks own) o.2 are))
+    pub rewriting : (taken given : List Mark) → Rewrites taken given before after → ((below : List Mark) → AreStable below → AreWellTyped u.model names w.memory (taken ++ below) own → Comes (Leaves u names w.memory (given ++ below) rest) r) → Comes (Leaves u names w.memory after rest) r
+    rewriting taken given o h = subst (λ marks. Comes (Leaves u names w.memory marks rest) r) (sym o.3) (h o.0 o.1 (subst (λ marks. AreWellTyped u.model names w.memory marks own) o.2 are))

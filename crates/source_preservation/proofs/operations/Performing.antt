@@ -10,7 +10,7 @@ use Rattle.semantics.specs.SourceMachine.Operations.{Operation, perform}
 use Rattle.source_items.specs.Operations.GoingReplies.{IfGoes, NotStuck}
 use Rattle.source_items.specs.Operations.Kinds.{Address, IsOf}
 use Rattle.source_items.specs.Operations.OperationLaws.{OperationsHaveSteps, OperationsKeepKinds, LinesHaveSteps}
-use Rattle.source_preservation.specs.ValueTyping.Marks.{Mark, Ranged, Pointing, Has, AreMarked}
+use Rattle.source_preservation.specs.ValueTyping.Marks.{Mark, Ranged, Pointing, Has, AreWellTyped}
 use Rattle.source_preservation.specs.ValueTyping.ProperMemory.{IsProperMemory, Evolves}
 use Rattle.source_preservation.specs.ValueTyping.MarkOperations.{MarkOperates}
 use Rattle.source_preservation.specs.ValueTyping.MarkLaws.{Comes, Leaves, OperationsKeepMarks, LinesKeepMarks}
@@ -21,7 +21,7 @@ use Rattle.source_preservation.proofs.operations.Computing.{constant_performed, 
 use Rattle.source_preservation.proofs.operations.Calling.{library_performed}
 
 module _ (steps : OperationsHaveSteps) (keeps : OperationsKeepKinds) where
-  module _ (u : UnitView) (names : ℕ → Option ℕ) (before after : List Mark) (own rest : List Scalar) (w : World) (proper : IsProperMemory u.model w.memory) (are : AreMarked u.model names w.memory before own) where
+  module _ (u : UnitView) (names : ℕ → Option ℕ) (before after : List Mark) (own rest : List Scalar) (w : World) (proper : IsProperMemory u.model w.memory) (are : AreWellTyped u.model names w.memory before own) where
     performed : (operation : Operation) → MarkOperates u.model operation before after → Comes (Leaves u names w.memory after rest) (perform u operation (own ++ rest) w)
     performed (op.Constant n) o = constant_performed steps keeps u names w proper before after own rest are n o.0 o.1 o.2
     performed (op.Load kind) o = load_performed steps keeps u names w proper before after own rest are kind o.0 o.1

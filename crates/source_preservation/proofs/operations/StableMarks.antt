@@ -6,7 +6,7 @@ use Rattle.c_layout.specs.declared.checked_tree.checked_terms.ObjectRef.{ObjectR
 use Rattle.memory_model.specs.Memory.Bytes.{MachinePointer}
 use Rattle.memory_model.specs.Memory.Instances.{Memory}
 use Rattle.memory_model.specs.Memory.Scalars.{Scalar, integer, pointer}
-use Rattle.source_preservation.specs.ValueTyping.Marks.{Mark, Ranged, Exactly, Pointing, Naming, Null, Loaded, Converted, Tested, is_stable, AreStable, IsWhole, Has, AreMarked}
+use Rattle.source_preservation.specs.ValueTyping.Marks.{Mark, Ranged, Exactly, Pointing, Naming, Null, Loaded, Converted, Tested, is_stable, AreStable, IsWhole, Has, AreWellTyped}
 use Rattle.source_preservation.specs.ValueTyping.ProperMemory.{Grows}
 
 module _ (m : Model) (names : ℕ → Option ℕ) where
@@ -38,7 +38,7 @@ module _ (m : Model) (names : ℕ → Option ℕ) where
     has_stable (Converted o kind) v stable has = cc
     has_stable (Tested test) v stable has = cc
 
-    pub are_stable : (marks : List Mark) (vs : List Scalar) → AreStable marks → AreMarked m names before marks vs → AreMarked m names after marks vs
+    pub are_stable : (marks : List Mark) (vs : List Scalar) → AreStable marks → AreWellTyped m names before marks vs → AreWellTyped m names after marks vs
     are_stable [] [] stable are = are
     are_stable [] (v ∷ vs) stable are = are
     are_stable (k ∷ ks) [] stable are = are
@@ -52,29 +52,29 @@ module _ (m : Model) (names : ℕ → Option ℕ) where
       pub first : List Scalar
       pub rest : List Scalar
       pub is : vs ≡ first ++ rest
-      pub are : AreMarked m names memory marks first
-      pub others_are : AreMarked m names memory others rest
+      pub are : AreWellTyped m names memory marks first
+      pub others_are : AreWellTyped m names memory others rest
 
-    pub parts_are : (marks others : List Mark) (vs : List Scalar) → AreMarked m names memory (marks ++ others) vs → AreParts marks others vs
+    pub parts_are : (marks others : List Mark) (vs : List Scalar) → AreWellTyped m names memory (marks ++ others) vs → AreParts marks others vs
     parts_are [] others vs are = record { first = []; rest = vs; is = refl; are = tt; others_are = are }
     parts_are (k ∷ ks) others [] are = absurd are
     parts_are (k ∷ ks) others (v ∷ vs) are =
         let p : AreParts ks others vs = parts_are ks others vs are.1 in
         record { first = v ∷ p.first; rest = p.rest; is = ap (λ vs. v ∷ vs) p.is; are = (are.0, p.are); others_are = p.others_are }
 
-    both_marked : (marks others : List Mark) (vs more : List Scalar) → AreMarked m names memory marks vs → AreMarked m names memory others more → AreMarked m names memory (marks ++ others) (vs ++ more)
-    both_marked [] others [] more are other = other
-    both_marked [] others (v ∷ vs) more are other = absurd are
-    both_marked (k ∷ ks) others [] more are other = absurd are
-    both_marked (k ∷ ks) others (v ∷ vs) more are other = (are.0, both_marked ks others vs more are.1 other)
+    both_well_typed : (marks others : List Mark) (vs more : List Scalar) → AreWellTyped m names memory marks vs → AreWellTyped m names memory others more → AreWellTyped m names memory (marks ++ others) (vs ++ more)
+    both_well_typed [] others [] more are other = other
+    both_well_typed [] others (v ∷ vs) more are other = absurd are
+    both_well_typed (k ∷ ks) others [] more are other = absurd are
+    both_well_typed (k ∷ ks) others (v ∷ vs) more are other = (are.0, both_well_typed ks others vs more are.1 other)
 
-    pub reversed_marked : (marks : List Mark) (vs : List Scalar) → AreMarked m names memory marks vs → AreMarked m names memory (reverse marks) (reverse vs)
-    reversed_marked [] [] are = tt
-    reversed_marked [] (v ∷ vs) are = absurd are
-    reversed_marked (k ∷ ks) [] are = absurd are
-    reversed_marked (k ∷ ks) (v ∷ vs) are = subst (λ xs. AreMarked m names memory xs (reverse (v ∷ vs))) (sym (reverse-append (k ∷ []) ks)) (subst (λ ys. AreMarked m names memory (reverse ks ++ k ∷ []) ys) (sym (reverse-append (v ∷ []) vs)) (both_marked (reverse ks) (k ∷ []) (reverse vs) (v ∷ []) (reversed_marked ks vs are.1) (are.0, tt)))
+    pub reversed_well_typed : (marks : List Mark) (vs : List Scalar) → AreWellTyped m names memory marks vs → AreWellTyped m names memory (reverse marks) (reverse vs)
+    reversed_well_typed [] [] are = tt
+    reversed_well_typed [] (v ∷ vs) are = absurd are
+    reversed_well_typed (k ∷ ks) [] are = absurd are
+    reversed_well_typed (k ∷ ks) (v ∷ vs) are = subst (λ xs. AreWellTyped m names memory xs (reverse (v ∷ vs))) (sym (reverse-append (k ∷ []) ks)) (subst (λ ys. AreWellTyped m names memory (reverse ks ++ k ∷ []) ys) (sym (reverse-append (v ∷ []) vs)) (both_well_typed (reverse ks) (k ∷ []) (reverse vs) (v ∷ []) (reversed_well_typed ks vs are.1) (are.0, tt)))
 
-    pub as_many : (marks : List Mark) (vs : List Scalar) → AreMarked m names memory marks vs → length vs ≡ length marks
+    pub as_many : (marks : List Mark) (vs : List Scalar) → AreWellTyped m names memory marks vs → length vs ≡ length marks
     as_many [] [] are = refl
     as_many [] (v ∷ vs) are = absurd are
     as_many (k ∷ ks) [] are = absurd are

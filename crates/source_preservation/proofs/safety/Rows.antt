@@ -25,9 +25,9 @@ use Rattle.source_items.specs.Returns.StandingJumps.{AllJumpsStand}
 use Rattle.source_items.specs.Liveness.ScopedStatements.{ScopedFunction}
 use Rattle.source_preservation.specs.ValueTyping.Marks.{Exactly, Loaded}
 use Rattle.source_preservation.specs.ValueTyping.MarkOperations.{IsKind, HasTruths}
-use Rattle.source_preservation.specs.WellTyped.MarkedTerms.{MarkedCondition, MarkedTerm, IsScalarType}
-use Rattle.source_preservation.specs.WellTyped.MarkedStatements.{MarkedFunction, MarkedUnit}
-use Rattle.source_preservation.specs.Safety.DefinedRuns.{IsMarkedAndScoped}
+use Rattle.source_preservation.specs.WellTyped.WellTypedTerms.{WellTypedCondition, WellTypedTerm, IsScalarType}
+use Rattle.source_preservation.specs.WellTyped.WellTypedStatements.{WellTypedFunction, WellTypedUnit}
+use Rattle.source_preservation.specs.Safety.DefinedRuns.{IsWellTypedAndScoped}
 
 -- ---- the parts of small units, all at one place
 
@@ -105,7 +105,7 @@ int_is = record { size = refl; bytes = refl }
 truths : HasTruths int_kind
 truths = record { zero = refl; one = refl }
 
-less_is : MarkedCondition right true less
+less_is : WellTypedCondition right true less
 less_is = (
   ((tt, int_is, refl), (int_kind, refl, refl), (int_kind, int_kind, refl, refl, (int_kind, refl, truths))),
   (Lt, Loaded n_named, Exactly (pos 5), refl, inl (inl (tt, int_is, refl)), inr (inl (pos 5, refl, refl)), record { common = int_kind; kind = int_is; is = refl; sides = inl ((refl, refl), refl, refl) }),
@@ -119,7 +119,7 @@ small : (k : ℕ) → size_of right (local_type testing k) ≤ most_size lp64
 small zero = omega arith
 small (suc k) = omega arith
 
-testing_is : MarkedFunction right testing
+testing_is : WellTypedFunction right testing
 testing_is = record {
   body = ((less_is, (tt, (int_kind, refl, refl), int_is, refl, refl)), (((tt, int_is, refl), int_is, refl), tt));
   parameters = λ k below. int_locals k;
@@ -131,11 +131,11 @@ testing_scoped : (is_entry : Bool) → ScopedFunction testing is_entry
 testing_scoped true = record { parameters = omega arith; scope = (tt, λ k e. none_in k _ e); body = (((refl, tt), (refl, tt)), ((refl, refl), tt)) }
 testing_scoped false = record { parameters = omega arith; scope = (tt, λ k e. none_in k _ e); body = (((refl, tt), (refl, tt)), ((refl, refl), tt)) }
 
-right_is_marked_and_scoped : IsMarkedAndScoped right
-right_is_marked_and_scoped = record {
+right_is_well_typed_and_scoped : IsWellTypedAndScoped right
+right_is_well_typed_and_scoped = record {
   jumps = alone testing (λ f. AllJumpsStand false false (statement_trees f.body)) (tt, (tt, tt));
-  marked = record {
-    functions = alone testing (MarkedFunction right) testing_is;
+  well_typed = record {
+    functions = alone testing (WellTypedFunction right) testing_is;
     statics = λ k o e. nothing_in o _ e;
     literals = λ k l e. nothing_in l _ e;
     entry = (testing, refl);
@@ -163,8 +163,8 @@ casting_is_stuck = refl
 no_zero : pos 0 ≡ pos 1 → ⊥
 no_zero e = cc
 
-cast_is_not : MarkedTerm (unit casting) false cast → ⊥
-cast_is_not marked = elim marked.1 as (λ _. ⊥) [ inl converts ↦ converts.1 | inr exact ↦ no_zero exact.1 ]
+cast_is_not : WellTypedTerm (unit casting) false cast → ⊥
+cast_is_not well_typed = elim well_typed.1 as (λ _. ⊥) [ inl converts ↦ converts.1 | inr exact ↦ no_zero exact.1 ]
 
-casting_is_not_marked : MarkedUnit (unit casting) → ⊥
-casting_is_not_marked marked = cast_is_not (marked.functions 0 casting refl).body.0
+casting_is_not_well_typed : WellTypedUnit (unit casting) → ⊥
+casting_is_not_well_typed well_typed = cast_is_not (well_typed.functions 0 casting refl).body.0

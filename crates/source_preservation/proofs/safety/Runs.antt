@@ -10,26 +10,26 @@ use Rattle.semantics.specs.SourceMachine.SourceRuns.{SourceRun, running, stopped
 use Rattle.source_items.specs.Operations.GoingReplies.{IsDefined}
 use Rattle.source_preservation.specs.Liveness.NamedObjects.{ObjectsLiveWhereNamed}
 use Rattle.source_preservation.specs.ValueTyping.MarkLaws.{Comes}
-use Rattle.source_preservation.specs.WellTyped.MarkedItems.{Does}
-use Rattle.source_preservation.specs.WellTyped.MarkedStates.{none, Runs}
+use Rattle.source_preservation.specs.WellTyped.WellTypedItems.{Does}
+use Rattle.source_preservation.specs.WellTyped.WellTypedStates.{none, Runs}
 use Rattle.source_preservation.proofs.items.Labels.{body_does}
 use Rattle.source_preservation.specs.InitialMemory.StartedWorlds.{IsStarted}
 use Rattle.source_preservation.proofs.initial_memory.Started.{start_comes}
 use Rattle.source_preservation.specs.SmallSteps.KeptMarks.{RunsOn, TurnsKeepMarks}
-use Rattle.source_preservation.specs.Safety.DefinedRuns.{IsMarkedAndScoped, RunsKeepMarks, RunsAreNeverStuck}
+use Rattle.source_preservation.specs.Safety.DefinedRuns.{IsWellTypedAndScoped, RunsKeepMarks, RunsAreNeverStuck}
 
 -- a run goes on where values have their marks, or has stopped at a step that is defined
 abbrev Stays : UnitView → SourceRun → Type 0
 Stays u (running s found steps) = Runs u s
 Stays u (stopped why w found steps) = IsDefined why
 
-module _ (u : UnitView) (is : IsMarkedAndScoped u) where
+module _ (u : UnitView) (is : IsWellTypedAndScoped u) where
   -- ---- the start
 
   first_runs : (w : World) → IsStarted u w → Runs u (first_state u w)
   first_runs w started =
-      let f : FunctionView = is.marked.entry.0 in
-      let there : function_at u u.entry ≡ Some f = is.marked.entry.1 in
+      let f : FunctionView = is.well_typed.entry.0 in
+      let there : function_at u u.entry ≡ Some f = is.well_typed.entry.1 in
       record {
         marks = [];
         left = [];
@@ -42,7 +42,7 @@ module _ (u : UnitView) (is : IsMarkedAndScoped u) where
           is = there;
           room = started.parameters f there;
           leaves = refl;
-          does = subst (λ o. Does u f None (body_of o) [] []) (sym there) (body_does u f None (is.marked.functions u.entry f there) (is.jumps u.entry f there));
+          does = subst (λ o. Does u f None (body_of o) [] []) (sym there) (body_does u f None (is.well_typed.functions u.entry f there) (is.jumps u.entry f there));
         };
         wait = none;
         proper = started.proper;
@@ -61,11 +61,11 @@ module _ (u : UnitView) (is : IsMarkedAndScoped u) where
 
   module _ (turns : TurnsKeepMarks) (lives : ObjectsLiveWhereNamed) (draws : List ℤ) where
     next_stays : (n : ℕ) (r : SourceRun) → Run u draws n ≡ r → Stays u r → Stays u (next u r)
-    next_stays n (running s found steps) same runs = run_stays found steps (turn u s).counted (turn u s).reply (turns u is.marked is.jumps s runs (lives u is.jumps is.scoped draws n s found steps same))
+    next_stays n (running s found steps) same runs = run_stays found steps (turn u s).counted (turn u s).reply (turns u is.well_typed is.jumps s runs (lives u is.jumps is.scoped draws n s found steps same))
     next_stays n (stopped why w found steps) same defined = defined
 
     stays : (n : ℕ) → Stays u (Run u draws n)
-    stays zero = begun_stays (start_world u draws) (start_comes u draws is.marked)
+    stays zero = begun_stays (start_world u draws) (start_comes u draws is.well_typed)
     stays (suc n) = next_stays n (Run u draws n) refl (stays n)
 
 -- ---- the laws

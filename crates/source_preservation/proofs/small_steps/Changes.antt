@@ -8,10 +8,10 @@ use Rattle.semantics.specs.SourceMachine.Items.{Item}
 use Rattle.semantics.specs.SourceMachine.Scopes.{entered_between, jump, entering_first, leap_in}
 use Rattle.semantics.specs.SourceMachine.SourceStates.{State, with_world, pushed}
 use Rattle.source_items.specs.StackKinds.KindedItems.{called_by}
-use Rattle.source_preservation.specs.ValueTyping.Marks.{Mark, AreStable, AreFree, Has, AreMarked}
+use Rattle.source_preservation.specs.ValueTyping.Marks.{Mark, AreStable, AreFree, Has, AreWellTyped}
 use Rattle.source_preservation.specs.ValueTyping.ProperMemory.{Evolves}
-use Rattle.source_preservation.specs.WellTyped.MarkedItems.{AtRest, Does}
-use Rattle.source_preservation.specs.WellTyped.MarkedStates.{HaveRoom, Runs}
+use Rattle.source_preservation.specs.WellTyped.WellTypedItems.{AtRest, Does}
+use Rattle.source_preservation.specs.WellTyped.WellTypedStates.{HaveRoom, Runs}
 use Rattle.source_preservation.proofs.memory.Evolving.{evolves_same}
 use Rattle.source_preservation.proofs.items.Leading.{Through, does_from, through_does}
 use Rattle.source_preservation.proofs.small_steps.Keeping.{stables_kept, frees_kept, room_kept, statics_kept, wait_kept}
@@ -28,7 +28,7 @@ pub record Reaches (u : UnitView) (f : FunctionView) (called : Option Bool) (nam
   pub marks : List Mark
   pub own : List Scalar
   pub is : values ≡ own ++ rest
-  pub are : AreMarked u.model names memory marks own
+  pub are : AreWellTyped u.model names memory marks own
   pub does : Does u f called items marks left
 
 module _ (u : UnitView) where

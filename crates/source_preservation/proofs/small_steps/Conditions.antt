@@ -12,12 +12,12 @@ use Rattle.semantics.specs.SourceMachine.SourceStates.{State, with_world, first_
 use Rattle.semantics.specs.SourceMachine.ObjectSteps.{on}
 use Rattle.semantics.specs.SourceMachine.BranchSteps.{in_world, with_side, relation_on, testing, choose_by, choose, read_line}
 use Rattle.source_items.specs.StackKinds.KindedItems.{called_by}
-use Rattle.source_preservation.specs.ValueTyping.Marks.{Mark, Ranged, Exactly, Pointing, IsSide, Agrees, Has, AreMarked}
+use Rattle.source_preservation.specs.ValueTyping.Marks.{Mark, Ranged, Exactly, Pointing, IsSide, Agrees, Has, AreWellTyped}
 use Rattle.source_preservation.specs.ValueTyping.ProperMemory.{Evolves}
 use Rattle.source_preservation.specs.ValueTyping.MarkLaws.{Comes, LinesKeepMarks}
 use Rattle.source_preservation.specs.WellTyped.ExactTerms.{is_true}
-use Rattle.source_preservation.specs.WellTyped.MarkedItems.{may_hold, may_fail, AllDo}
-use Rattle.source_preservation.specs.WellTyped.MarkedStates.{Runs}
+use Rattle.source_preservation.specs.WellTyped.WellTypedItems.{may_hold, may_fail, AllDo}
+use Rattle.source_preservation.specs.WellTyped.WellTypedStates.{Runs}
 use Rattle.source_preservation.specs.SmallSteps.KeptMarks.{RunsOn}
 use Rattle.source_preservation.proofs.memory.Objects.{after_test_evolves}
 use Rattle.source_preservation.proofs.items.Leading.{listed_does}
@@ -118,7 +118,7 @@ module _ (u : UnitView) (lines : LinesKeepMarks) (at : Place) (none some : Items
   abbrev below : List Mark
   below = r.goes.does.1.1
 
-  line_way : (items : Items) (others : List Scalar) (w : World) → AreMarked u.model s.names s.world.memory below others → Evolves u.model s.world.memory w.memory → AllDo u r.goes.function (called_by s.frames) items s.control below r.goes.does.0 → Runs u (record s { control = listed items ++ s.control; values = others ++ r.rest; world = w })
+  line_way : (items : Items) (others : List Scalar) (w : World) → AreWellTyped u.model s.names s.world.memory below others → Evolves u.model s.world.memory w.memory → AllDo u r.goes.function (called_by s.frames) items s.control below r.goes.does.0 → Runs u (record s { control = listed items ++ s.control; values = others ++ r.rest; world = w })
   line_way items others w are evolves all = renewed u (item.ReadLine at none some ∷ s.control) s r s.names (listed items ++ s.control) (others ++ r.rest) w evolves (room_kept u s.world.memory w.memory evolves.grows r.goes.function s.names r.goes.room) (record {
     marks = below;
     own = others;
@@ -127,7 +127,7 @@ module _ (u : UnitView) (lines : LinesKeepMarks) (at : Place) (none some : Items
     does = listed_does u r.goes.function (called_by s.frames) items s.control below r.goes.does.0 r.left all r.goes.does.2;
   })
 
-  line_by : (others : List Scalar) (w : World) → AreMarked u.model s.names s.world.memory below others → Evolves u.model s.world.memory w.memory → (b : Bool) → Runs u (record s { control = listed (cond b none some) ++ s.control; values = others ++ r.rest; world = w })
+  line_by : (others : List Scalar) (w : World) → AreWellTyped u.model s.names s.world.memory below others → Evolves u.model s.world.memory w.memory → (b : Bool) → Runs u (record s { control = listed (cond b none some) ++ s.control; values = others ++ r.rest; world = w })
   line_by others w are evolves true = line_way none others w are evolves r.goes.does.1.4
   line_by others w are evolves false = line_way some others w are evolves r.goes.does.1.5
 

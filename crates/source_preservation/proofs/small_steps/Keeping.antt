@@ -9,9 +9,9 @@ use Rattle.memory_model.specs.Memory.Instances.{Memory, bytes_at}
 use Rattle.memory_model.specs.Memory.Scalars.{Scalar, integer, pointer}
 use Rattle.semantics.specs.SourceMachine.Items.{Item}
 use Rattle.semantics.specs.SourceMachine.SourceStates.{Frame}
-use Rattle.source_preservation.specs.ValueTyping.Marks.{Mark, Ranged, Exactly, Pointing, Naming, Null, Loaded, Converted, Tested, is_stable, is_free, AreStable, AreFree, IsWhole, Has, AreMarked}
+use Rattle.source_preservation.specs.ValueTyping.Marks.{Mark, Ranged, Exactly, Pointing, Naming, Null, Loaded, Converted, Tested, is_stable, is_free, AreStable, AreFree, IsWhole, Has, AreWellTyped}
 use Rattle.source_preservation.specs.ValueTyping.ProperMemory.{Grows}
-use Rattle.source_preservation.specs.WellTyped.MarkedStates.{HaveRoom, StaticsHaveRoom, Goes, Wait, none, caller}
+use Rattle.source_preservation.specs.WellTyped.WellTypedStates.{HaveRoom, StaticsHaveRoom, Goes, Wait, none, caller}
 
 pub apart : false ≡ true → ⊥
 apart e = cc
@@ -61,13 +61,13 @@ module _ (m : Model) where
 
   -- ---- all values
 
-  pub stables_kept : (names : ℕ → Option ℕ) (before after : Memory) (ks : List Mark) (vs : List Scalar) → Grows before after → AreStable ks → AreMarked m names before ks vs → AreMarked m names after ks vs
+  pub stables_kept : (names : ℕ → Option ℕ) (before after : Memory) (ks : List Mark) (vs : List Scalar) → Grows before after → AreStable ks → AreWellTyped m names before ks vs → AreWellTyped m names after ks vs
   stables_kept names before after [] [] grows stable are = tt
   stables_kept names before after [] (v ∷ vs) grows stable are = are
   stables_kept names before after (k ∷ ks) [] grows stable are = are
   stables_kept names before after (k ∷ ks) (v ∷ vs) grows stable are = (stable_kept names before after k v grows stable.0 are.0, stables_kept names before after ks vs grows stable.1 are.1)
 
-  pub frees_kept : (names others : ℕ → Option ℕ) (before after : Memory) (ks : List Mark) (vs : List Scalar) → AreFree ks → AreMarked m names before ks vs → AreMarked m others after ks vs
+  pub frees_kept : (names others : ℕ → Option ℕ) (before after : Memory) (ks : List Mark) (vs : List Scalar) → AreFree ks → AreWellTyped m names before ks vs → AreWellTyped m others after ks vs
   frees_kept names others before after [] [] free are = tt
   frees_kept names others before after [] (v ∷ vs) free are = are
   frees_kept names others before after (k ∷ ks) [] free are = are
@@ -114,22 +114,22 @@ pub record Parts (m : Model) (names : ℕ → Option ℕ) (memory : Memory) (ks 
   pub newest : List Scalar
   pub others : List Scalar
   pub is : vs ≡ newest ++ others
-  pub are_newest : AreMarked m names memory ks newest
-  pub are_others : AreMarked m names memory below others
+  pub are_newest : AreWellTyped m names memory ks newest
+  pub are_others : AreWellTyped m names memory below others
 
 module _ (m : Model) (names : ℕ → Option ℕ) (memory : Memory) where
-  pub parts : (ks below : List Mark) (vs : List Scalar) → AreMarked m names memory (ks ++ below) vs → Parts m names memory ks below vs
+  pub parts : (ks below : List Mark) (vs : List Scalar) → AreWellTyped m names memory (ks ++ below) vs → Parts m names memory ks below vs
   parts [] below vs are = record { newest = []; others = vs; is = refl; are_newest = tt; are_others = are }
   parts (k ∷ ks) below [] are = absurd are
   parts (k ∷ ks) below (v ∷ vs) are =
       let more : Parts m names memory ks below vs = parts ks below vs are.1 in
       record { newest = v ∷ more.newest; others = more.others; is = ap (λ xs. v ∷ xs) more.is; are_newest = (are.0, more.are_newest); are_others = more.are_others }
 
-  pub both_marked : (ks below : List Mark) (vs others : List Scalar) → AreMarked m names memory ks vs → AreMarked m names memory below others → AreMarked m names memory (ks ++ below) (vs ++ others)
-  both_marked [] below [] others are more = more
-  both_marked [] below (v ∷ vs) others are more = absurd are
-  both_marked (k ∷ ks) below [] others are more = absurd are
-  both_marked (k ∷ ks) below (v ∷ vs) others are more = (are.0, both_marked ks below vs others are.1 more)
+  pub both_well_typed : (ks below : List Mark) (vs others : List Scalar) → AreWellTyped m names memory ks vs → AreWellTyped m names memory below others → AreWellTyped m names memory (ks ++ below) (vs ++ others)
+  both_well_typed [] below [] others are more = more
+  both_well_typed [] below (v ∷ vs) others are more = absurd are
+  both_well_typed (k ∷ ks) below [] others are more = absurd are
+  both_well_typed (k ∷ ks) below (v ∷ vs) others are more = (are.0, both_well_typed ks below vs others are.1 more)
 
 -- the newest value
 pub record Newest (m : Model) (names : ℕ → Option ℕ) (memory : Memory) (k : Mark) (ks : List Mark) (vs : List Scalar) : Type 0 where
@@ -137,7 +137,7 @@ pub record Newest (m : Model) (names : ℕ → Option ℕ) (memory : Memory) (k 
   pub others : List Scalar
   pub is : vs ≡ value ∷ others
   pub has : Has m names memory k value
-  pub are : AreMarked m names memory ks others
+  pub are : AreWellTyped m names memory ks others
 
 -- a value that lies so deep
 pub record Found (m : Model) (names : ℕ → Option ℕ) (memory : Memory) (k : Mark) (vs : List Scalar) (depth : ℕ) : Type 0 where
@@ -152,14 +152,14 @@ pub same_some : {A : Type 0} (x y : A) → Some x ≡ Some y → x ≡ y
 same_some x y e = cc
 
 module _ (m : Model) (names : ℕ → Option ℕ) (memory : Memory) where
-  pub newest : (k : Mark) (ks marks : List Mark) (vs : List Scalar) → marks ≡ k ∷ ks → AreMarked m names memory marks vs → Newest m names memory k ks vs
-  newest k ks marks vs same are = by vs (subst (λ marks. AreMarked m names memory marks vs) same are)
+  pub newest : (k : Mark) (ks marks : List Mark) (vs : List Scalar) → marks ≡ k ∷ ks → AreWellTyped m names memory marks vs → Newest m names memory k ks vs
+  newest k ks marks vs same are = by vs (subst (λ marks. AreWellTyped m names memory marks vs) same are)
     where
-      by : (vs : List Scalar) → AreMarked m names memory (k ∷ ks) vs → Newest m names memory k ks vs
+      by : (vs : List Scalar) → AreWellTyped m names memory (k ∷ ks) vs → Newest m names memory k ks vs
       by [] are = absurd are
       by (v ∷ vs) are = record { value = v; others = vs; is = refl; has = are.0; are = are.1 }
 
-  pub found_at : (k : Mark) (ks : List Mark) (vs rest : List Scalar) (depth : ℕ) → slice_get ks depth ≡ Some k → AreMarked m names memory ks vs → Found m names memory k (vs ++ rest) depth
+  pub found_at : (k : Mark) (ks : List Mark) (vs rest : List Scalar) (depth : ℕ) → slice_get ks depth ≡ Some k → AreWellTyped m names memory ks vs → Found m names memory k (vs ++ rest) depth
   found_at k [] vs rest depth is are = absurd (none_some k is)
   found_at k (j ∷ ks) [] rest depth is are = absurd are
   found_at k (j ∷ ks) (v ∷ vs) rest zero is are = record { value = v; is = refl; has = subst (λ k. Has m names memory k v) (same_some j k is) are.0 }

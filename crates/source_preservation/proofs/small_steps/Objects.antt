@@ -32,9 +32,9 @@ use Rattle.source_items.specs.Liveness.ScopedTerms as scoped
 use Rattle.source_preservation.specs.ValueTyping.Marks.{Pointing, Naming, AreFree}
 use Rattle.source_preservation.specs.ValueTyping.MarkLaws.{Comes}
 use Rattle.source_preservation.specs.ValueTyping.ProperMemory.{Grows, Evolves}
-use Rattle.source_preservation.specs.WellTyped.MarkedStatements.{MarkedUnit}
-use Rattle.source_preservation.specs.WellTyped.MarkedItems.{PointsInto, any, whole, Writes, Does}
-use Rattle.source_preservation.specs.WellTyped.MarkedStates.{HaveRoom, Runs}
+use Rattle.source_preservation.specs.WellTyped.WellTypedStatements.{WellTypedUnit}
+use Rattle.source_preservation.specs.WellTyped.WellTypedItems.{PointsInto, any, whole, Writes, Does}
+use Rattle.source_preservation.specs.WellTyped.WellTypedStates.{HaveRoom, Runs}
 use Rattle.source_preservation.specs.SmallSteps.KeptMarks.{RunsOn}
 use Rattle.source_preservation.proofs.memory.Evolving.{bytes_of_fresh}
 use Rattle.source_preservation.proofs.memory.Objects.{entered_evolves, left_evolves, forgotten_evolves, cleared_evolves, spelled_evolves}
@@ -105,7 +105,7 @@ record Lies (u : UnitView) (s : State) (o : ObjectRef) : Type 0 where
   pub small : size_of u ctype ≤ most_size u.model
   pub room : size_of u ctype ≤ length (bytes_at s.world.memory instance)
 
-module _ (u : UnitView) (marked : MarkedUnit u) (i : Item) (s : State) (r : RunsAt u i s) where
+module _ (u : UnitView) (well_typed : WellTypedUnit u) (i : Item) (s : State) (r : RunsAt u i s) where
   -- names are of what lives
   module _ (alive : Lives) (named : (n : ℕ) → is_some (s.names n) ≡ alive n) where
     lies : (o : ObjectRef) → HasObject u o → scoped.IsThere alive o → Lies u s o
@@ -114,7 +114,7 @@ module _ (u : UnitView) (marked : MarkedUnit u) (i : Item) (s : State) (r : Runs
       instance = n;
       typed = ap static_type has.1;
       named = refl;
-      small = (marked.statics n has.0 has.1).small;
+      small = (well_typed.statics n has.0 has.1).small;
       room = r.statics n has.0 has.1;
     }
     lies (Local n) has lives =
@@ -124,7 +124,7 @@ module _ (u : UnitView) (marked : MarkedUnit u) (i : Item) (s : State) (r : Runs
           instance = named.0;
           typed = ap (λ o. local_of o n) r.goes.is;
           named = named.1;
-          small = (marked.functions s.function r.goes.function r.goes.is).small n;
+          small = (well_typed.functions s.function r.goes.function r.goes.is).small n;
           room = r.goes.room n named.0 named.1;
         }
 
@@ -148,7 +148,7 @@ module _ (u : UnitView) (marked : MarkedUnit u) (i : Item) (s : State) (r : Runs
     pointing_to_outcome lives same = comes_at (RunsOn u) s (function_at u s.function) r.goes.function _ r.goes.is (pointing (Local (result_object r.goes.function)) 0 tt lives (any (omega arith) same))
 
   pub pointing_to_literal : (n : ℕ) → IsThere (slice_get u.literals n) → r.goes.does.0 ≡ Pointing ∷ r.marks → Comes (RunsOn u) (point_to_literal u s n)
-  pointing_to_literal n has same = comes_at (RunsOn u) s (slice_get u.literals n) has.0 _ has.1 (pushing u i s r Pointing (literal_pointer u n has.0) (record { below = omega arith; end = (marked.literals n has.0 has.1).small }) same)
+  pointing_to_literal n has same = comes_at (RunsOn u) s (slice_get u.literals n) has.0 _ has.1 (pushing u i s r Pointing (literal_pointer u n has.0) (record { below = omega arith; end = (well_typed.literals n has.0 has.1).small }) same)
 
 module _ (u : UnitView) (s : State) where
   -- ---- declarations

@@ -14,7 +14,7 @@ use Rattle.memory_model.specs.Effects.Worlds.{World, behind, with_memory}
 use Rattle.memory_model.specs.Effects.Tests.{object_relabelled, passing, pass_case}
 use Rattle.semantics.specs.SourceMachine.Items as item
 use Rattle.semantics.specs.SourceMachine.Items.{Item}
-use Rattle.semantics.specs.SourceMachine.Scopes.{leap_in, behind_loop}
+use Rattle.semantics.specs.SourceMachine.Scopes.{leap_in, past_loop}
 use Rattle.semantics.specs.SourceMachine.LabelSearch as sought
 use Rattle.semantics.specs.SourceMachine.LabelSearch.{Sought, found, case_of}
 use Rattle.semantics.specs.SourceMachine.SourceStates.{State, with_world, if_some}
@@ -23,10 +23,10 @@ use Rattle.semantics.specs.SourceMachine.BranchSteps.{in_world, matching, landin
 use Rattle.source_items.specs.StackKinds.KindedTerms.{IsThere}
 use Rattle.source_items.specs.StackKinds.KindedStatements.{HasCases}
 use Rattle.source_items.specs.StackKinds.KindedItems.{called_by}
-use Rattle.source_preservation.specs.ValueTyping.Marks.{Mark, Ranged, Has, AreMarked}
+use Rattle.source_preservation.specs.ValueTyping.Marks.{Mark, Ranged, Has, AreWellTyped}
 use Rattle.source_preservation.specs.ValueTyping.MarkLaws.{Comes}
 use Rattle.source_preservation.specs.ValueTyping.ProperMemory.{Evolves}
-use Rattle.source_preservation.specs.WellTyped.MarkedItems.{Selects, Does}
+use Rattle.source_preservation.specs.WellTyped.WellTypedItems.{Selects, Does}
 use Rattle.source_preservation.specs.SmallSteps.KeptMarks.{RunsOn}
 use Rattle.source_preservation.proofs.memory.Evolving.{evolves_same}
 use Rattle.source_preservation.proofs.memory.Objects.{relabelled_evolves}
@@ -67,12 +67,12 @@ module _ (u : UnitView) (labels : List CaseLabel) (statement : StatementTree) (c
   lands sought.other rest is = by (found u sought.other statement rest)
     where
       by : (o : Option (List Item)) → IsThere (landing sought.other o rest)
-      by None = (behind_loop rest, refl)
+      by None = (past_loop rest, refl)
       by (Some to) = (to, refl)
 
 -- wherever a label leads, items lead to what is left
 landed : (u : UnitView) (f : FunctionView) (called : Option Bool) (labels : List CaseLabel) (statement : StatementTree) (l : Sought) (rest : List Item) (left : List Mark) → Selects u f labels statement rest → Does u f called rest [] left → IfSome (λ to. Does u f called to [] left) (landing l (found u l statement rest) rest)
-landed u f called labels statement l rest left selects does = by l (found u l statement rest) (found_does u l f called left statement rest selects.stands.breaks selects.stands.continues selects.stands.marked selects.stands.jumps selects.stands.enclosed does)
+landed u f called labels statement l rest left selects does = by l (found u l statement rest) (found_does u l f called left statement rest selects.stands.breaks selects.stands.continues selects.stands.well_typed selects.stands.jumps selects.stands.enclosed does)
   where
     Lands : Option (List Item) → Type 0
     Lands = IfSome (λ to. Does u f called to [] left)
@@ -90,8 +90,8 @@ such_some P o x is h = let family : Option _ → Type 0 = IfSome P in subst fami
 
 module _ (u : UnitView) (at : Place) (o : Option NamedObject) (labels : List CaseLabel) (statement : StatementTree) (s : State) (r : RunsAt u (item.Select at o labels statement) s) where
   -- no value of the function is pending any more
-  module _ (others : List Scalar) (are : AreMarked u.model s.names s.world.memory [] others) (w : World) (evolves : Evolves u.model s.world.memory w.memory) where
-    no_values : (vs : List Scalar) → AreMarked u.model s.names s.world.memory [] vs → AreMarked u.model s.names w.memory [] vs
+  module _ (others : List Scalar) (are : AreWellTyped u.model s.names s.world.memory [] others) (w : World) (evolves : Evolves u.model s.world.memory w.memory) where
+    no_values : (vs : List Scalar) → AreWellTyped u.model s.names s.world.memory [] vs → AreWellTyped u.model s.names w.memory [] vs
     no_values [] are = tt
     no_values (v ∷ vs) are = absurd are
 
@@ -122,13 +122,13 @@ module _ (u : UnitView) (at : Place) (labels : List CaseLabel) (statement : Stat
       let n : Newest u.model s.names s.world.memory (Ranged r.goes.does.1.1.0) [] r.own = newest u.model s.names s.world.memory (Ranged r.goes.does.1.1.0) [] r.marks r.own r.goes.does.1.1.1 r.are in
       subst (λ vs. Comes (RunsOn u) (select u None labels statement s vs)) (sym (r.values ∙ ap (λ vs. vs ++ r.rest) n.is)) (by n.value n.others n.has n.are)
     where
-      by : (v : Scalar) (others : List Scalar) → Has u.model s.names s.world.memory (Ranged r.goes.does.1.1.0) v → AreMarked u.model s.names s.world.memory [] others → Comes (RunsOn u) (select u None labels statement s (v ∷ (others ++ r.rest)))
+      by : (v : Scalar) (others : List Scalar) → Has u.model s.names s.world.memory (Ranged r.goes.does.1.1.0) v → AreWellTyped u.model s.names s.world.memory [] others → Comes (RunsOn u) (select u None labels statement s (v ∷ (others ++ r.rest)))
       by (pointer p) others has are = absurd has
       by (integer n l) others has are = landing_runs u at None labels statement s r others are s.world (evolves_same u.model s.world.memory) (case_of labels 0 n) (valued_case u at None labels statement s r n)
 
   -- ---- on an object
 
-  module _ (o : NamedObject) (r : RunsAt u (item.Select at (Some o) labels statement) s) (others : List Scalar) (are : AreMarked u.model s.names s.world.memory [] others) where
+  module _ (o : NamedObject) (r : RunsAt u (item.Select at (Some o) labels statement) s) (others : List Scalar) (are : AreWellTyped u.model s.names s.world.memory [] others) where
     abbrev rest_state : State
     rest_state = record s { values = others ++ r.rest }
 

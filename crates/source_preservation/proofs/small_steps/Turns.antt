@@ -17,8 +17,8 @@ use Rattle.semantics.specs.SourceMachine.Items as item
 use Rattle.semantics.specs.SourceMachine.Items.{Item}
 use Rattle.semantics.specs.SourceMachine.TermItems.{address_items}
 use Rattle.semantics.specs.SourceMachine.ConditionItems.{term_items}
-use Rattle.semantics.specs.SourceMachine.StatementItems.{of_statement, while_turn, do_turn, for_turn}
-use Rattle.semantics.specs.SourceMachine.Scopes.{all_of, open_scopes, jump, behind_loop, behind_turn}
+use Rattle.semantics.specs.SourceMachine.StatementItems.{of_statement, while_iteration, do_iteration, for_iteration}
+use Rattle.semantics.specs.SourceMachine.Scopes.{all_of, open_scopes, jump, past_loop, past_iteration}
 use Rattle.semantics.specs.SourceMachine.LabelSearch.{from_label}
 use Rattle.semantics.specs.SourceMachine.SourceStates.{Frame, State, function_at}
 use Rattle.semantics.specs.SourceMachine.CallSteps.{behind_body, bind_value, bind_parameter, leave_function, end_body}
@@ -31,10 +31,10 @@ use Rattle.source_preservation.specs.ValueTyping.Marks.{Mark, Ranged, Exactly, P
 use Rattle.source_preservation.specs.ValueTyping.MarkOperations as stores
 use Rattle.source_preservation.specs.ValueTyping.ProperMemory.{Evolves}
 use Rattle.source_preservation.specs.ValueTyping.MarkLaws.{Comes, Leaves, OperationsKeepMarks, LinesKeepMarks}
-use Rattle.source_preservation.specs.WellTyped.MarkedTerms.{local_mark}
-use Rattle.source_preservation.specs.WellTyped.MarkedStatements.{MarkedUnit}
-use Rattle.source_preservation.specs.WellTyped.MarkedItems.{left_marks, Does}
-use Rattle.source_preservation.specs.WellTyped.MarkedStates.{Runs}
+use Rattle.source_preservation.specs.WellTyped.WellTypedTerms.{local_mark}
+use Rattle.source_preservation.specs.WellTyped.WellTypedStatements.{WellTypedUnit}
+use Rattle.source_preservation.specs.WellTyped.WellTypedItems.{left_marks, Does}
+use Rattle.source_preservation.specs.WellTyped.WellTypedStates.{Runs}
 use Rattle.source_preservation.specs.SmallSteps.KeptMarks.{RunsOn, TurnsKeepMarks}
 use Rattle.source_preservation.proofs.items.Leading.{Through, does_from}
 use Rattle.source_preservation.proofs.items.LeadingTerms.{value_leads, unused_leads, address_leads}
@@ -91,7 +91,7 @@ module _ (u : UnitView) where
   operating keep at operation s r =
       let after : List Mark = r.goes.does.0 in
       let given : Comes (Leaves u s.names s.world.memory after r.rest) (perform u operation s.values s.world) = subst (λ vs. Comes (Leaves u s.names s.world.memory after r.rest) (perform u operation vs s.world)) (sym r.values) (keep u s.names operation r.marks after r.own r.rest s.world r.proper r.goes.does.1 r.are) in
-      comes_behind (RunsOn u) (Leaves u s.names s.world.memory after r.rest) (perform u operation s.values s.world) _ given (λ vs w l. renewed u (item.Do at operation ∷ s.control) s r s.names s.control vs w l.evolves (room_kept u s.world.memory w.memory l.evolves.grows r.goes.function s.names r.goes.room) (record { marks = after; own = l.own; is = l.is; are = l.marked; does = r.goes.does.2 }))
+      comes_behind (RunsOn u) (Leaves u s.names s.world.memory after r.rest) (perform u operation s.values s.world) _ given (λ vs w l. renewed u (item.Do at operation ∷ s.control) s r s.names s.control vs w l.evolves (room_kept u s.world.memory w.memory l.evolves.grows r.goes.function s.names r.goes.room) (record { marks = after; own = l.own; is = l.is; are = l.well_typed; does = r.goes.does.2 }))
 
   -- ---- arguments
 
@@ -120,25 +120,25 @@ module _ (u : UnitView) where
   ended : (items : List Item) (s : State) (r : RunsBy u items s) (others : List Item) → r.marks ≡ [] → Does u r.goes.function (called_by s.frames) others [] (left_marks r.goes.function (called_by s.frames)) → RunsBy u others s
   ended items s r others none does = moved items s r others none (subst (λ ks. Does u r.goes.function (called_by s.frames) others [] ks) (sym r.goes.leaves) does)
 
-  module _ (laws : Laws) (marked : MarkedUnit u) (stand : UnitJumpsStand u) where
+  module _ (laws : Laws) (well_typed : WellTypedUnit u) (stand : UnitJumpsStand u) where
     going_to : (s : State) (n : ℕ) → RunsAt u (item.GoTo n) s → Comes (RunsOn u) (go_to u s n)
     going_to s n r =
         let f : FunctionView = r.goes.function in
         let called : Option Bool = called_by s.frames in
         let to : List Item = r.goes.does.1.0.0 in
-        let reached : Does u f called to [] (left_marks f called) = such_some (λ to. Does u f called to [] (left_marks f called)) (from_label u f n) to r.goes.does.1.0.1 (label_does u f called (marked.functions s.function f r.goes.is) (stand s.function f r.goes.is) n) in
+        let reached : Does u f called to [] (left_marks f called) = such_some (λ to. Does u f called to [] (left_marks f called)) (from_label u f n) to r.goes.does.1.0.1 (label_does u f called (well_typed.functions s.function f r.goes.is) (stand s.function f r.goes.is) n) in
         comes_at (RunsOn u) s (function_at u s.function) f _ r.goes.is (comes_at (RunsOn u) s (from_label u f n) to _ r.goes.does.1.0.1 (ended (item.GoTo n ∷ s.control) s r (jump s.control to) r.goes.does.1.1.0 (jumped u f called s.control to (left_marks f called) reached)))
 
     ending : (s : State) → RunsAt u item.EndBody s → Comes (RunsOn u) (end_body u s)
     ending s r =
         let f : FunctionView = r.goes.function in
-        comes_at (RunsOn u) s (function_at u s.function) f _ r.goes.is (ended (item.EndBody ∷ s.control) s r (behind_body f [] s.frames) r.goes.does.1.0 (behind_does u f [] (marked.functions s.function f r.goes.is) (λ called rest. refl) s.frames))
+        comes_at (RunsOn u) s (function_at u s.function) f _ r.goes.is (ended (item.EndBody ∷ s.control) s r (behind_body f [] s.frames) r.goes.does.1.0 (behind_does u f [] (well_typed.functions s.function f r.goes.is) (λ called rest. refl) s.frames))
 
     returning : (s : State) → RunsAt u item.LeaveFunction s → Comes (RunsOn u) (leave_function u s)
     returning s r =
         let f : FunctionView = r.goes.function in
         let others : List Item = behind_body f (item.Hop ∷ []) s.frames in
-        comes_at (RunsOn u) s (function_at u s.function) f _ r.goes.is (ended (item.LeaveFunction ∷ s.control) s r (item.Leaves (all_of (open_scopes s.control)) ∷ others) r.goes.does.1.0 ([], (tt, refl), behind_does u f (item.Hop ∷ []) (marked.functions s.function f r.goes.is) (λ called rest. ([], refl, refl)) s.frames))
+        comes_at (RunsOn u) s (function_at u s.function) f _ r.goes.is (ended (item.LeaveFunction ∷ s.control) s r (item.Leaves (all_of (open_scopes s.control)) ∷ others) r.goes.does.1.0 ([], (tt, refl), behind_does u f (item.Hop ∷ []) (well_typed.functions s.function f r.goes.is) (λ called rest. ([], refl, refl)) s.frames))
 
     -- ---- turns
 
@@ -150,18 +150,18 @@ module _ (u : UnitView) where
     acts (item.Truth holds) s b = let r = b.runs in changes.pushing u (item.Truth holds) s r r.goes.does.1.0 (truth holds) (constant_has u s holds r.goes.does.1.0 r.goes.does.1.1) r.goes.does.1.2
     acts item.Again s b = again_runs s b.runs
     acts item.Drop s b = drop_runs s b.runs
-    acts (item.Object at o offset) s b = pointing u marked (item.Object at o offset) s b.runs (lives b.runs.goes.function (is_entry s.frames) s.control) b.named o offset b.runs.goes.does.1.0 b.sits b.runs.goes.does.1.1
-    acts (item.Literal at n) s b = pointing_to_literal u marked (item.Literal at n) s b.runs n b.runs.goes.does.1.0 b.runs.goes.does.1.1
-    acts (item.Outcome at) s b = pointing_to_outcome u marked (item.Outcome at) s b.runs (lives b.runs.goes.function (is_entry s.frames) s.control) b.named b.sits b.runs.goes.does.1.1
+    acts (item.Object at o offset) s b = pointing u well_typed (item.Object at o offset) s b.runs (lives b.runs.goes.function (is_entry s.frames) s.control) b.named o offset b.runs.goes.does.1.0 b.sits b.runs.goes.does.1.1
+    acts (item.Literal at n) s b = pointing_to_literal u well_typed (item.Literal at n) s b.runs n b.runs.goes.does.1.0 b.runs.goes.does.1.1
+    acts (item.Outcome at) s b = pointing_to_outcome u well_typed (item.Outcome at) s b.runs (lives b.runs.goes.function (is_entry s.frames) s.control) b.named b.sits b.runs.goes.does.1.1
     acts (item.OnObject at n how) s b = changing u s at n how b.runs (b.named n ∙ b.sits)
     acts (item.Choose at None held failed) s b = chosen u at held failed s b.runs
     acts (item.Choose at (Some test) held failed) s b = chosen_by_test u at held failed s test b.runs
     acts (item.ReadLine at none some) s b = line_chosen u laws.lines at none some s b.runs
     acts (item.Statement statement) s b = let r = b.runs in expanded u (item.Statement statement) s r (of_statement u (is_entry s.frames) statement) (resting u r.goes.function (called_by s.frames) (of_statement u (is_entry s.frames) statement) s.control r.marks r.goes.does.0 r.goes.does.1.1 (statement_through u r.goes.function (called_by s.frames) (is_entry s.frames) statement s.control r.goes.does.1.0))
-    acts (item.WhileTurn c statement) s b = let r = b.runs in expanded u (item.WhileTurn c statement) s r (while_turn u c statement) (resting u r.goes.function (called_by s.frames) (while_turn u c statement) s.control r.marks r.goes.does.0 r.goes.does.1.1 (while_through u r.goes.function (called_by s.frames) c statement s.control r.goes.does.1.0))
-    acts (item.DoTurn statement c) s b = let r = b.runs in expanded u (item.DoTurn statement c) s r (do_turn u statement c) (resting u r.goes.function (called_by s.frames) (do_turn u statement c) s.control r.marks r.goes.does.0 r.goes.does.1.1 (do_through u r.goes.function (called_by s.frames) c statement s.control r.goes.does.1.0))
-    acts (item.ForTurn c clause statement) s b = let r = b.runs in expanded u (item.ForTurn c clause statement) s r (for_turn u c clause statement) (resting u r.goes.function (called_by s.frames) (for_turn u c clause statement) s.control r.marks r.goes.does.0 r.goes.does.1.1 (for_through u r.goes.function (called_by s.frames) c clause statement s.control r.goes.does.1.0))
-    acts item.TurnEnd s b = passed u item.TurnEnd s b.runs (b.runs.goes.does.1.0 ∙ sym b.runs.goes.does.1.1)
+    acts (item.WhileIteration c statement) s b = let r = b.runs in expanded u (item.WhileIteration c statement) s r (while_iteration u c statement) (resting u r.goes.function (called_by s.frames) (while_iteration u c statement) s.control r.marks r.goes.does.0 r.goes.does.1.1 (while_through u r.goes.function (called_by s.frames) c statement s.control r.goes.does.1.0))
+    acts (item.DoIteration statement c) s b = let r = b.runs in expanded u (item.DoIteration statement c) s r (do_iteration u statement c) (resting u r.goes.function (called_by s.frames) (do_iteration u statement c) s.control r.marks r.goes.does.0 r.goes.does.1.1 (do_through u r.goes.function (called_by s.frames) c statement s.control r.goes.does.1.0))
+    acts (item.ForIteration c clause statement) s b = let r = b.runs in expanded u (item.ForIteration c clause statement) s r (for_iteration u c clause statement) (resting u r.goes.function (called_by s.frames) (for_iteration u c clause statement) s.control r.marks r.goes.does.0 r.goes.does.1.1 (for_through u r.goes.function (called_by s.frames) c clause statement s.control r.goes.does.1.0))
+    acts item.IterationEnd s b = passed u item.IterationEnd s b.runs (b.runs.goes.does.1.0 ∙ sym b.runs.goes.does.1.1)
     acts item.LoopEnd s b = passed u item.LoopEnd s b.runs (b.runs.goes.does.1.0 ∙ sym b.runs.goes.does.1.1)
     acts (item.Select at None labels statement) s b = selected u at labels statement s b.runs
     acts (item.Select at (Some o) labels statement) s b = selected_on u at labels statement s o b.runs
@@ -171,15 +171,15 @@ module _ (u : UnitView) where
     acts (item.GoTo n) s b = going_to s n b.runs
     acts item.BreakOut s b =
         let r = b.runs in
-        let behind : Does u r.goes.function (called_by s.frames) (behind_loop s.control) [] r.left = does_behind_loop u r.goes.function (called_by s.frames) s.control r.goes.does.0 r.left r.goes.does.1.0 r.goes.does.2 in
-        moved (item.BreakOut ∷ s.control) s r (jump s.control (behind_loop s.control)) r.goes.does.1.1.0 (jumped u r.goes.function (called_by s.frames) s.control (behind_loop s.control) r.left behind)
-    acts item.NextTurn s b =
+        let behind : Does u r.goes.function (called_by s.frames) (past_loop s.control) [] r.left = does_behind_loop u r.goes.function (called_by s.frames) s.control r.goes.does.0 r.left r.goes.does.1.0 r.goes.does.2 in
+        moved (item.BreakOut ∷ s.control) s r (jump s.control (past_loop s.control)) r.goes.does.1.1.0 (jumped u r.goes.function (called_by s.frames) s.control (past_loop s.control) r.left behind)
+    acts item.NextIteration s b =
         let r = b.runs in
-        let behind : Does u r.goes.function (called_by s.frames) (behind_turn s.control) [] r.left = does_behind_turn u r.goes.function (called_by s.frames) s.control r.goes.does.0 r.left r.goes.does.1.0 r.goes.does.2 in
-        moved (item.NextTurn ∷ s.control) s r (jump s.control (behind_turn s.control)) r.goes.does.1.1.0 (jumped u r.goes.function (called_by s.frames) s.control (behind_turn s.control) r.left behind)
+        let behind : Does u r.goes.function (called_by s.frames) (past_iteration s.control) [] r.left = does_behind_turn u r.goes.function (called_by s.frames) s.control r.goes.does.0 r.left r.goes.does.1.0 r.goes.does.2 in
+        moved (item.NextIteration ∷ s.control) s r (jump s.control (past_iteration s.control)) r.goes.does.1.1.0 (jumped u r.goes.function (called_by s.frames) s.control (past_iteration s.control) r.left behind)
     acts item.LeaveFunction s b = returning s b.runs
     acts item.EndBody s b = ending s b.runs
-    acts (item.Invoke at g count used) s b = comes_at (RunsOn u) s (function_at u g) b.runs.goes.does.1.function _ b.runs.goes.does.1.is (begun u marked stand s at g count used b.runs)
+    acts (item.Invoke at g count used) s b = comes_at (RunsOn u) s (function_at u g) b.runs.goes.does.1.function _ b.runs.goes.does.1.is (begun u well_typed stand s at g count used b.runs)
     acts (item.Bind at n depth) s b = binding laws.operations at s n depth b.runs
     acts (item.LeaveOutcome at) s b = leaving_outcome u s at b.runs (lives b.runs.goes.function (is_entry s.frames) s.control) b.named
 
@@ -200,7 +200,7 @@ same_function f g o one other = some_same (sym one ∙ other)
     some_same e = cc
 
 pub turns_keep : Laws → TurnsKeepMarks
-turns_keep laws u marked stand s r living = turned_by u laws marked stand (record s { world = unviolated s.world }) s.control here there
+turns_keep laws u well_typed stand s r living = turned_by u laws well_typed stand (record s { world = unviolated s.world }) s.control here there
   where
     here : Runs u (record s { world = unviolated s.world })
     here = record { marks = r.marks; left = r.left; own = r.own; rest = r.rest; values = r.values; are = r.are; goes = r.goes; wait = r.wait; proper = r.proper; statics = r.statics }

@@ -10,7 +10,7 @@ use Rattle.memory_model.specs.Memory.Scalars.{Scalar}
 use Rattle.semantics.specs.SourceMachine.Items.{NamedTest}
 use Rattle.source_preservation.specs.ValueTyping.Marks.{Mark, Loaded, Converted, Tested, Has, Agrees}
 use Rattle.source_preservation.specs.ValueTyping.ProperMemory.{IsProperMemory}
-use Rattle.source_preservation.specs.WellTyped.MarkedTerms.{DecidesAlone, Decides}
+use Rattle.source_preservation.specs.WellTyped.WellTypedTerms.{DecidesAlone, Decides}
 use Rattle.source_preservation.proofs.ranges.Agreements.{loaded_agrees, converted_agrees, pointer_agrees}
 
 module _ (u : UnitView) (names : ℕ → Option ℕ) (memory : Memory) (test : NamedTest) (v : Scalar) (proper : IsProperMemory u.model memory) where

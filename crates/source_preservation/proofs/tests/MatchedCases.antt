@@ -15,7 +15,7 @@ use Rattle.memory_model.specs.Effects.Tests.{object, side_scalar, is_number}
 use Rattle.semantics.specs.SourceMachine.SourceStates.{instance_of}
 use Rattle.source_preservation.specs.ValueTyping.Marks.{Mark, Loaded, Converted, IsNumber, Has}
 use Rattle.source_preservation.specs.ValueTyping.ProperMemory.{IsProperMemory}
-use Rattle.source_preservation.specs.WellTyped.MarkedStatements.{Matches}
+use Rattle.source_preservation.specs.WellTyped.WellTypedStatements.{Matches}
 use Rattle.source_preservation.proofs.ranges.ObjectValues.{integer_object}
 use Rattle.source_preservation.proofs.ranges.Agreements.{converted_is}
 

@@ -95,7 +95,7 @@ module _ (u : UnitView) (f : FunctionView) (n : ℕ) where
         let x = both_true (is_regular_term u f true 0 e) (is_regular_statement u f breaks loops one && is_regular_statement u f breaks loops two) is in
         let y = both_true (is_regular_statement u f breaks loops one) (is_regular_statement u f breaks loops two) x.1 in
         either_there (cases_in n one) (cases_in n two) (found u (sought.case n) one (item.Hop ∷ rest)) (found u (sought.case n) two rest) some (λ more. case_found breaks loops one (item.Hop ∷ rest) y.0 more) (λ more. case_found breaks loops two rest y.1 more)
-    case_found breaks loops (tree.While e body) rest is some = case_found true true body (item.Hop ∷ (item.TurnEnd ∷ (item.WhileTurn e body ∷ (item.LoopEnd ∷ rest)))) (both_true (is_regular_term u f true 0 e) _ is).1 some
+    case_found breaks loops (tree.While e body) rest is some = case_found true true body (item.Hop ∷ (item.IterationEnd ∷ (item.WhileIteration e body ∷ (item.LoopEnd ∷ rest)))) (both_true (is_regular_term u f true 0 e) _ is).1 some
     case_found breaks loops (tree.Do body e) rest is some = case_found true true body (do_test u body e ++ item.LoopEnd ∷ rest) (both_true (is_regular_term u f true 0 e) _ is).1 some
     case_found breaks loops (tree.For objects first e step body) rest is some =
         let x = for_parts u f first e step body is in
@@ -148,7 +148,7 @@ module _ (u : UnitView) (f : FunctionView) (n : ℕ) where
         let x = both_true (is_regular_term u f true 0 e) (is_regular_statement u f breaks loops one && is_regular_statement u f breaks loops two) is in
         let y = both_true (is_regular_statement u f breaks loops one) (is_regular_statement u f breaks loops two) x.1 in
         either_there (labels_in n one) (labels_in n two) (found u (sought.label n) one (item.Hop ∷ rest)) (found u (sought.label n) two rest) some (λ more. label_found breaks loops one (item.Hop ∷ rest) y.0 more) (λ more. label_found breaks loops two rest y.1 more)
-    label_found breaks loops (tree.While e body) rest is some = label_found true true body (item.Hop ∷ (item.TurnEnd ∷ (item.WhileTurn e body ∷ (item.LoopEnd ∷ rest)))) (both_true (is_regular_term u f true 0 e) _ is).1 some
+    label_found breaks loops (tree.While e body) rest is some = label_found true true body (item.Hop ∷ (item.IterationEnd ∷ (item.WhileIteration e body ∷ (item.LoopEnd ∷ rest)))) (both_true (is_regular_term u f true 0 e) _ is).1 some
     label_found breaks loops (tree.Do body e) rest is some = label_found true true body (do_test u body e ++ item.LoopEnd ∷ rest) (both_true (is_regular_term u f true 0 e) _ is).1 some
     label_found breaks loops (tree.For objects first e step body) rest is some =
         let x = for_parts u f first e step body is in

@@ -24,12 +24,12 @@ use Rattle.memory_model.specs.Effects.UnitStarts.{entry_parameters}
 use Rattle.semantics.specs.SourceMachine.Operations.{size_of}
 use Rattle.semantics.specs.SourceMachine.SourceStates.{function_at}
 use Rattle.source_preservation.specs.ValueTyping.MarkOperations.{IsKind}
-use Rattle.source_preservation.specs.WellTyped.MarkedTerms.{IsScalarType}
-use Rattle.source_preservation.specs.WellTyped.MarkedStatements.{MarkedFunction, IsProperValue, IsProperStore, AreProperStores, MarkedStatic, MarkedLiteral, AreIntegers}
+use Rattle.source_preservation.specs.WellTyped.WellTypedTerms.{IsScalarType}
+use Rattle.source_preservation.specs.WellTyped.WellTypedStatements.{WellTypedFunction, IsProperValue, IsProperStore, AreProperStores, WellTypedStatic, WellTypedLiteral, AreIntegers}
 use Rattle.source_preservation.specs.Checks.LookedTypes.{is_scalar_type}
 use Rattle.c_layout.specs.ByteTexts.{are_bytes}
-use Rattle.source_preservation.specs.UnitChecks.LookedStatements.{are_marked_statements}
-use Rattle.source_preservation.specs.UnitChecks.LookedUnits.{is_small, is_small_local, are_scalars, is_marked_function, is_proper_value, is_proper_store, is_marked_static, is_marked_literal, is_entered, are_marked_objects, has_entry}
+use Rattle.source_preservation.specs.UnitChecks.LookedStatements.{are_well_typed_statements}
+use Rattle.source_preservation.specs.UnitChecks.LookedUnits.{is_small, is_small_local, are_scalars, is_well_typed_function, is_proper_value, is_proper_store, is_well_typed_static, is_well_typed_literal, is_entered, are_well_typed_objects, has_entry}
 use Rattle.source_preservation.specs.UnitChecks.LookLaws.{LooksMark, LooksStand}
 use Rattle.source_preservation.proofs.checks.Truths.{never, there, both_true, both, three, five, all_at}
 use Rattle.source_preservation.proofs.checks.SameTypes.{scalar_type, integer_there}
@@ -75,14 +75,14 @@ module _ (u : UnitView) where
       by None is = small f.returns result
       by (Some l) is = small l.ctype (all_at (is_small_local u) f.locals n l all is)
 
-  function : (f : FunctionView) → is_regular_function u f ≡ true → is_marked_function u f ≡ true → MarkedFunction u f
+  function : (f : FunctionView) → is_regular_function u f ≡ true → is_well_typed_function u f ≡ true → WellTypedFunction u f
   function f is h =
       let regular = three (is_numbered f) (has_own_objects f) (are_regular_statements u f false false (statement_trees f.body)) (labels_once f) (λ e. e) (λ e. e) is in
       let once : IsLabelledOnce f = regular.0 in
       let found = λ (l : ℕ) (less : l < f.labels). label_there u f l regular.2 (some (all_labels_in l (statement_trees f.body)) (below l f.labels) (once.labels l) (below_yes l f.labels less)) in
       let body = statements u f found false false (statement_trees f.body) regular.2 once.switches in
       let result = unless (is_void f.returns) (is_scalar_type u f.returns) in
-      let x = five (are_marked_statements u f (statement_trees f.body)) (are_scalars u f f.parameters) (is_void f.returns || is_scalar_type u f.returns) (is_small u f.returns) (list_all (is_small_local u) f.locals) body (scalars f f.parameters) result (λ e. e) (λ e. e) h in
+      let x = five (are_well_typed_statements u f (statement_trees f.body)) (are_scalars u f f.parameters) (is_void f.returns || is_scalar_type u f.returns) (is_small u f.returns) (list_all (is_small_local u) f.locals) body (scalars f f.parameters) result (λ e. e) (λ e. e) h in
       record { body = x.0; parameters = x.1; returns = λ e. scalar_type u f.returns (x.2 e); small = small_locals f x.3 x.4 }
 
   -- ---- objects of static storage
@@ -101,10 +101,10 @@ module _ (u : UnitView) where
   proper_stores [] h = tt
   proper_stores (x ∷ xs) h = both (is_proper_store u x) (list_all (is_proper_store u) xs) (proper_store x) (λ y. proper_stores xs y) h
 
-  static_there : (o : StaticView) → is_marked_static u o ≡ true → MarkedStatic u o
+  static_there : (o : StaticView) → is_well_typed_static u o ≡ true → WellTypedStatic u o
   static_there o h = let x = both (is_small u o.ctype) (list_all (is_proper_store u) o.stores) (small o.ctype) (proper_stores o.stores) h in record { small = x.0; stores = x.1 }
 
-  literal_there : (l : LiteralView) → is_marked_literal u l ≡ true → MarkedLiteral u l
+  literal_there : (l : LiteralView) → is_well_typed_literal u l ≡ true → WellTypedLiteral u l
   literal_there l h = let x = both (are_bytes l.bytes) (nat_le (length l.bytes + 1) (most_size u.model)) (bytes_are u l.bytes) (leb-true (length l.bytes + 1) (most_size u.model)) h in record { bytes = x.0; small = x.1 }
 
   -- ---- the entry
@@ -119,16 +119,16 @@ module _ (u : UnitView) where
 -- ---- units
 
 pub looks_stand : RegularJumpsStand → LooksStand
-looks_stand stand u h g f is = stand u f (all_at (is_regular_function u) u.functions g f (both_true (is_regular_unit u) (list_all (is_marked_function u) u.functions && (are_marked_objects u && has_entry u)) h).0 is)
+looks_stand stand u h g f is = stand u f (all_at (is_regular_function u) u.functions g f (both_true (is_regular_unit u) (list_all (is_well_typed_function u) u.functions && (are_well_typed_objects u && has_entry u)) h).0 is)
 
 pub looks_mark : LooksMark
 looks_mark u h =
-    let x = three (is_regular_unit u) (list_all (is_marked_function u) u.functions) (are_marked_objects u && has_entry u) (λ e. e) (λ e. e) (λ e. e) h in
-    let y = both (are_marked_objects u) (has_entry u) (both_true (list_all (is_marked_static u) u.objects) (list_all (is_marked_literal u) u.literals)) (both_true (is_some (function_at u u.entry)) (list_all (is_entered u) (entry_parameters u))) x.2 in
+    let x = three (is_regular_unit u) (list_all (is_well_typed_function u) u.functions) (are_well_typed_objects u && has_entry u) (λ e. e) (λ e. e) (λ e. e) h in
+    let y = both (are_well_typed_objects u) (has_entry u) (both_true (list_all (is_well_typed_static u) u.objects) (list_all (is_well_typed_literal u) u.literals)) (both_true (is_some (function_at u u.entry)) (list_all (is_entered u) (entry_parameters u))) x.2 in
     record {
-      functions = λ g f is. function u f (all_at (is_regular_function u) u.functions g f x.0 is) (all_at (is_marked_function u) u.functions g f x.1 is);
-      statics = λ n o is. static_there u o (all_at (is_marked_static u) u.objects n o y.0.0 is);
-      literals = λ n l is. literal_there u l (all_at (is_marked_literal u) u.literals n l y.0.1 is);
+      functions = λ g f is. function u f (all_at (is_regular_function u) u.functions g f x.0 is) (all_at (is_well_typed_function u) u.functions g f x.1 is);
+      statics = λ n o is. static_there u o (all_at (is_well_typed_static u) u.objects n o y.0.0 is);
+      literals = λ n l is. literal_there u l (all_at (is_well_typed_literal u) u.literals n l y.0.1 is);
       entry = there (function_at u u.entry) y.1.0;
       entered = integers u (entry_parameters u) y.1.1;
     }

@@ -14,7 +14,7 @@ use Rattle.c_layout.specs.declared.library_functions.LibFn.TheVariants as librar
 use Rattle.c_layout.specs.declared.syntax_tree.expressions.BinaryOp.TheVariants as op
 use Rattle.c_layout.specs.declared.syntax_tree.expressions.LogicalOp.TheVariants.{And}
 use Rattle.c_layout.specs.declared.syntax_tree.expressions.StepOp.TheVariants.{Increment}
-use Rattle.source_preservation.specs.Checks.LookedTerms.{exact, is_marked_term, is_marked_place, is_marked_condition}
+use Rattle.source_preservation.specs.Checks.LookedTerms.{exact, is_well_typed_term, is_well_typed_place, is_well_typed_condition}
 
 -- ---- types
 
@@ -91,10 +91,10 @@ module _ (at : Place) where
   unit = record { functions = f ∷ (g ∷ []); constants = []; objects = []; structs = []; literals = record { at = at; bytes = [] } ∷ []; entry = 0; model = lp64 }
 
   abbrev looked : TermTree → Bool
-  looked e = is_marked_term unit true e
+  looked e = is_well_typed_term unit true e
 
   abbrev decided : TermTree → Bool
-  decided e = is_marked_condition unit true e
+  decided e = is_well_typed_condition unit true e
 
   -- ---- numbers
 
@@ -170,7 +170,7 @@ module _ (at : Place) where
   no_null = refl
 
   -- `(void) 0` has no value
-  discarded : is_marked_term unit false (typed Void (tree.Discard (number int (pos 0)))) ≡ true
+  discarded : is_well_typed_term unit false (typed Void (tree.Discard (number int (pos 0)))) ≡ true
   discarded = refl
 
   no_value : looked (typed Void (tree.Discard (number int (pos 0)))) ≡ false
@@ -180,7 +180,7 @@ module _ (at : Place) where
   copied : looked (typed (Struct 0) (tree.Struct (Designates at (Struct 0) 0 (tree.Copied (object 4 (Struct 0)) (Designates at (Struct 0) 0 (tree.Target (typed (Pointer (Struct 0)) (tree.Convert Cast p)))))))) ≡ true
   copied = refl
 
-  no_object : is_marked_place unit (Designates at int 0 (tree.Object (Static 0))) ≡ false
+  no_object : is_well_typed_place unit (Designates at int 0 (tree.Object (Static 0))) ≡ false
   no_object = refl
 
   -- ---- calls
@@ -194,7 +194,7 @@ module _ (at : Place) where
   called_with_one : looked (typed int (tree.Call 0 (args (c ∷ [])) true)) ≡ false
   called_with_one = refl
 
-  nothing_called : is_marked_term unit false (typed Void (tree.Call 1 (args []) false)) ≡ true
+  nothing_called : is_well_typed_term unit false (typed Void (tree.Call 1 (args []) false)) ≡ true
   nothing_called = refl
 
   void_used : looked (typed Void (tree.Call 1 (args []) true)) ≡ false

@@ -8,7 +8,7 @@ use Rattle.c_layout.specs.CheckedUnits.{FunctionView, LocalView, StaticStoreView
 use Rattle.c_layout.specs.declared.checked_tree.checked_statements.CaseLabel.{CaseLabel}
 use Rattle.c_layout.specs.declared.checked_tree.checked_units.StaticBase.TheVariants.{Object}
 use Rattle.c_layout.specs.declared.checked_tree.checked_units.StaticValue.TheVariants.{Address}
-use Rattle.source_preservation.specs.UnitChecks.LookedUnits.{is_marked}
+use Rattle.source_preservation.specs.UnitChecks.LookedUnits.{is_well_typed}
 use Rattle.source_preservation.specs.UnitChecks.LookedScopes.{is_scoped}
 use Rattle.source_preservation.proofs.unit_checks.TermRows.{lp64, int, char, pointer, typed, number, object, value}
 
@@ -43,8 +43,8 @@ module _ (at : Place) where
   abbrev right : UnitView
   right = unit_of (assign 1 int (value at 0 int) ∷ (tree.Block (2 ∷ []) (statement_trees (assign 2 char (number at char (pos 1)) ∷ [])) ∷ (switch (case_label ∷ []) ∷ (tree.If (value at 1 int) (tree.Goto 0) ∷ []))))
 
-  right_marked : is_marked right ≡ true
-  right_marked = refl
+  right_well_typed : is_well_typed right ≡ true
+  right_well_typed = refl
 
   right_scoped : is_scoped right ≡ true
   right_scoped = refl
@@ -52,46 +52,46 @@ module _ (at : Place) where
   -- ---- units that are not marked
 
   -- `b = p;` for a pointer
-  other_mark : is_marked (unit_of (assign 1 int (value at 1 pointer) ∷ [])) ≡ false
+  other_mark : is_well_typed (unit_of (assign 1 int (value at 1 pointer) ∷ [])) ≡ false
   other_mark = refl
 
   -- a label of a switch that does not stand in it, and one of the function
-  no_case : is_marked (unit_of (switch (case_label ∷ (case_label ∷ [])) ∷ [])) ≡ false
+  no_case : is_well_typed (unit_of (switch (case_label ∷ (case_label ∷ [])) ∷ [])) ≡ false
   no_case = refl
 
-  no_label : is_marked (unit_of (tree.Goto 1 ∷ [])) ≡ false
+  no_label : is_well_typed (unit_of (tree.Goto 1 ∷ [])) ≡ false
   no_label = refl
 
   -- `return a;` in a void function
-  void_returns : is_marked (unit_with [] (function Void (local int ∷ (local int ∷ [])) (tree.Return at (Some (value at 0 int)) ∷ (tree.Label 0 tree.Nothing ∷ [])))) ≡ false
+  void_returns : is_well_typed (unit_with [] (function Void (local int ∷ (local int ∷ [])) (tree.Return at (Some (value at 0 int)) ∷ (tree.Label 0 tree.Nothing ∷ [])))) ≡ false
   void_returns = refl
 
   -- the entry's parameter is no integer
-  other_entry : is_marked (unit_with [] (function int (local pointer ∷ (local int ∷ [])) (tree.Label 0 tree.Nothing ∷ []))) ≡ false
+  other_entry : is_well_typed (unit_with [] (function int (local pointer ∷ (local int ∷ [])) (tree.Label 0 tree.Nothing ∷ []))) ≡ false
   other_entry = refl
 
   -- an object that is larger than any memory
-  too_large : is_marked (unit_with [] (function int (local int ∷ (local (Array int 4611686018427387904) ∷ [])) (tree.Label 0 tree.Nothing ∷ []))) ≡ false
+  too_large : is_well_typed (unit_with [] (function int (local int ∷ (local (Array int 4611686018427387904) ∷ [])) (tree.Label 0 tree.Nothing ∷ []))) ≡ false
   too_large = refl
 
   -- a text with more than bytes, and a store beyond all objects
-  no_text : is_marked (unit_of (tree.StartList at 1 (StoreText 0 1 (256 ∷ []) ∷ []) ∷ [])) ≡ false
+  no_text : is_well_typed (unit_of (tree.StartList at 1 (StoreText 0 1 (256 ∷ []) ∷ []) ∷ [])) ≡ false
   no_text = refl
 
-  too_far : is_marked (unit_of (tree.StartList at 1 (StoreValue 9223372036854775808 (number at int (pos 1)) ∷ []) ∷ [])) ≡ false
+  too_far : is_well_typed (unit_of (tree.StartList at 1 (StoreValue 9223372036854775808 (number at int (pos 1)) ∷ []) ∷ [])) ≡ false
   too_far = refl
 
   -- so it is of objects of static storage
   abbrev static : List StaticStoreView → UnitView
   static stores = unit_with stores (function int (local int ∷ (local int ∷ [])) (tree.Label 0 tree.Nothing ∷ []))
 
-  address : is_marked (static (SetValue 0 (Address (Object 0) 0 0 4) ∷ [])) ≡ true
+  address : is_well_typed (static (SetValue 0 (Address (Object 0) 0 0 4) ∷ [])) ≡ true
   address = refl
 
-  too_high : is_marked (static (SetValue 0 (Address (Object 0) 0 0 9223372036854775808) ∷ [])) ≡ false
+  too_high : is_well_typed (static (SetValue 0 (Address (Object 0) 0 0 9223372036854775808) ∷ [])) ≡ false
   too_high = refl
 
-  no_static_text : is_marked (static (SetText 0 1 (256 ∷ []) ∷ [])) ≡ false
+  no_static_text : is_well_typed (static (SetText 0 1 (256 ∷ []) ∷ [])) ≡ false
   no_static_text = refl
 
   -- ---- units that are not scoped

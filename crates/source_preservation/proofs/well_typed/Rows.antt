@@ -19,8 +19,8 @@ use Rattle.semantics.specs.SourceMachine.Items.{NamedTest}
 use Rattle.semantics.specs.SourceMachine.TermTests.{test_if}
 use Rattle.source_preservation.specs.ValueTyping.Marks.{Exactly, Loaded, Converted}
 use Rattle.source_preservation.specs.ValueTyping.MarkOperations.{IsKind, IsWider, HasTruths, ConvertsTo}
-use Rattle.source_preservation.specs.WellTyped.MarkedTerms.{MarkedTerm, MarkedCondition, ComparisonTerm, TestTerm}
-use Rattle.source_preservation.specs.WellTyped.MarkedStatements.{Matches, SelectsBy, MarkedStatement}
+use Rattle.source_preservation.specs.WellTyped.WellTypedTerms.{WellTypedTerm, WellTypedCondition, ComparisonTerm, TestTerm}
+use Rattle.source_preservation.specs.WellTyped.WellTypedStatements.{Matches, SelectsBy, WellTypedStatement}
 
 -- ---- the parts of small units, all at one place
 
@@ -84,7 +84,7 @@ truths = record { zero = refl; one = refl }
 abbrev less : TermTree → TermTree
 less a = term int (tree.Integer Less a (number 5))
 
-less_is : MarkedCondition unit true (less value)
+less_is : WellTypedCondition unit true (less value)
 less_is = (
   ((tt, int_is, refl), (int_kind, refl, refl), (int_kind, int_kind, refl, refl, (int_kind, refl, truths))),
   (Lt, Loaded x_named, Exactly (pos 5), refl, inl (inl (tt, int_is, refl)), inr (inl (pos 5, refl, refl)), record { common = int_kind; kind = int_is; is = refl; sides = inl ((refl, refl), refl, refl) }),
@@ -109,10 +109,10 @@ alone_is_not compares = compares
 abbrev assigned : TermTree
 assigned = term char (tree.Assign c (converted char (number 300)))
 
-assigned_is : MarkedTerm unit true assigned
+assigned_is : WellTypedTerm unit true assigned
 assigned_is = (tt, (char_is, inl ((int_kind, refl, refl), refl)), char_is, refl, refl)
 
-assigned_less_is : MarkedCondition unit true (less (converted int assigned))
+assigned_less_is : WellTypedCondition unit true (less (converted int assigned))
 assigned_less_is = (
   ((int_is, inl (assigned_is, refl)), (int_kind, refl, refl), (int_kind, int_kind, refl, refl, (int_kind, refl, truths))),
   (Lt, Converted c_named int_kind, Exactly (pos 5), refl, inr (int_is, (Loaded c_named, refl, (char_kind, refl, refl))), inr (inl (pos 5, refl, refl)), record { common = int_kind; kind = int_is; is = refl; sides = inl ((refl, refl), refl, refl) }),
@@ -124,13 +124,13 @@ module _ (f : FunctionView) where
   abbrev switch : TermTree → StatementTree
   switch e = tree.Switch here e [] false None tree.Nothing
 
-  switch_is : MarkedStatement unit f (switch (converted int (term char (tree.Load c))))
+  switch_is : WellTypedStatement unit f (switch (converted int (term char (tree.Load c))))
   switch_is = ((Converted c_named int_kind, (int_is, (Loaded c_named, (tt, char_is, refl), (char_kind, refl, refl))), (refl, (char_kind, refl, char_is, int_is, wider))), (λ n below rest. absurd (none n below)), tt)
     where
       none : (n : ℕ) → n < 0 → ⊥
       none n below = omega (arith, below)
 
-  null_is : MarkedStatement unit f (tree.Start here 0 (converted (Pointer int) (number 0)))
+  null_is : WellTypedStatement unit f (tree.Start here 0 (converted (Pointer int) (number 0)))
   null_is = ((tt, inr (refl, refl)), tt)
 
 -- ---- a switch on an int object, converted to char, which has not all its numbers

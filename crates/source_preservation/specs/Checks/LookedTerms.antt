@@ -206,48 +206,48 @@ calls_library u used t function args = accepts function (argument_kinds args) &&
 
 abbrev mutual
   -- a term whose value is used or not
-  pub is_marked_term : UnitView → Bool → TermTree → Bool
-  is_marked_term u used (Typed at t parens fixed (tree.Number n)) = has_number n t
-  is_marked_term u used (Typed at t parens fixed (tree.SizeofType n is_pointer)) = has_number (pos n) t
-  is_marked_term u used (Typed at t parens fixed (tree.Sizeof n operand is_pointer)) = has_number (pos n) t
-  is_marked_term u used (Typed at t parens fixed (tree.Load l)) = is_marked_place u l && (is_scalar_type u (lvalue_type l) && same_mark (lvalue_type l) t)
-  is_marked_term u used (Typed at t parens fixed (tree.AddressOf l)) = is_marked_place u l && is_address t
-  is_marked_term u used (Typed at t parens fixed (tree.Decay l)) = is_marked_place u l && is_address t
-  is_marked_term u used (Typed at t parens fixed (tree.Convert sort a)) = is_scalar_type u t && ((is_marked_term u true a && converts (scalar_of t) (scalar_of (term_type a))) || (is_address t && is_exact_zero u.model a))
-  is_marked_term u used (Typed at t parens fixed (tree.Discard a)) = is_marked_term u false a && not used
-  is_marked_term u used (Typed at t parens fixed (tree.Plus a)) = is_marked_term u true a && same_mark (term_type a) t
-  is_marked_term u used (Typed at t parens fixed (tree.Minus a)) = is_marked_term u true a && (same_type (term_type a) t && is_such (λ kind. is_kind u.model kind) t)
-  is_marked_term u used (Typed at t parens fixed (tree.Complement a)) = is_marked_term u true a && (same_type (term_type a) t && is_such (λ kind. is_kind u.model kind) t)
-  is_marked_term u used (Typed at t parens fixed (tree.Not a)) = is_marked_term u true a && is_truth t
-  is_marked_term u used (Typed at t parens fixed (tree.Integer sign a b)) = is_marked_term u true a && (is_marked_term u true b && combines u (meaning sign) (term_type a) (term_type b) t)
-  is_marked_term u used (Typed at t parens fixed (tree.Shift back size a b)) = is_marked_term u true a && (is_marked_term u true b && (adds_to (term_type a) (term_type b) && is_address t))
-  is_marked_term u used (Typed at t parens fixed (tree.Difference size a b)) = is_marked_term u true a && (is_marked_term u true b && (is_address (term_type a) && (is_address (term_type b) && subtracts u t)))
-  is_marked_term u used (Typed at t parens fixed (tree.Compare sign a b)) = is_marked_term u true a && (is_marked_term u true b && (is_address (term_type a) && (is_address (term_type b) && is_truth t)))
-  is_marked_term u used (Typed at t parens fixed (tree.Logical sign a b)) = is_marked_term u true a && (is_marked_term u true b && is_truth t)
-  is_marked_term u used (Typed at t parens fixed (tree.Conditional c a b)) = is_marked_term u true c && (has_tests u true c && (is_marked_term u used a && (is_marked_term u used b && (same_mark (term_type a) t && same_mark (term_type b) t))))
-  is_marked_term u used (Typed at t parens fixed (tree.Comma a b)) = is_marked_term u false a && (is_marked_term u used b && same_mark (term_type b) t)
-  is_marked_term u used (Typed at t parens fixed (tree.Assign l a)) = is_marked_place u l && (is_marked_term u true a && (is_scalar_type u (lvalue_type l) && (same_mark (term_type a) (lvalue_type l) && same_mark (lvalue_type l) t)))
-  is_marked_term u used (Typed at t parens fixed (tree.Compound sign kind l a)) = is_marked_place u l && (is_marked_term u true a && compounds u (number_operator (meaning sign)) (integer_type kind) (lvalue_type l) (term_type a) t)
-  is_marked_term u used (Typed at t parens fixed (tree.CompoundShift back size l a)) = is_marked_place u l && (is_marked_term u true a && (is_integer (term_type a) && (is_address (lvalue_type l) && is_address t)))
-  is_marked_term u used (Typed at t parens fixed (tree.Step sign time kind l)) = is_marked_place u l && steps_in u (integer_type kind) (lvalue_type l) t
-  is_marked_term u used (Typed at t parens fixed (tree.StepPointer sign time size l)) = is_marked_place u l && (is_address (lvalue_type l) && is_address t)
-  is_marked_term u used (Typed at t parens fixed (tree.Struct l)) = is_marked_place u l && is_address t
-  is_marked_term u used (Typed at t parens fixed (tree.Call g args is_used)) = are_marked_terms u args && calls used is_used t args (function_at u g)
-  is_marked_term u used (Typed at t parens fixed (tree.Library function args allocated)) = are_marked_terms u args && calls_library u used t function args
+  pub is_well_typed_term : UnitView → Bool → TermTree → Bool
+  is_well_typed_term u used (Typed at t parens fixed (tree.Number n)) = has_number n t
+  is_well_typed_term u used (Typed at t parens fixed (tree.SizeofType n is_pointer)) = has_number (pos n) t
+  is_well_typed_term u used (Typed at t parens fixed (tree.Sizeof n operand is_pointer)) = has_number (pos n) t
+  is_well_typed_term u used (Typed at t parens fixed (tree.Load l)) = is_well_typed_place u l && (is_scalar_type u (lvalue_type l) && same_mark (lvalue_type l) t)
+  is_well_typed_term u used (Typed at t parens fixed (tree.AddressOf l)) = is_well_typed_place u l && is_address t
+  is_well_typed_term u used (Typed at t parens fixed (tree.Decay l)) = is_well_typed_place u l && is_address t
+  is_well_typed_term u used (Typed at t parens fixed (tree.Convert sort a)) = is_scalar_type u t && ((is_well_typed_term u true a && converts (scalar_of t) (scalar_of (term_type a))) || (is_address t && is_exact_zero u.model a))
+  is_well_typed_term u used (Typed at t parens fixed (tree.Discard a)) = is_well_typed_term u false a && not used
+  is_well_typed_term u used (Typed at t parens fixed (tree.Plus a)) = is_well_typed_term u true a && same_mark (term_type a) t
+  is_well_typed_term u used (Typed at t parens fixed (tree.Minus a)) = is_well_typed_term u true a && (same_type (term_type a) t && is_such (λ kind. is_kind u.model kind) t)
+  is_well_typed_term u used (Typed at t parens fixed (tree.Complement a)) = is_well_typed_term u true a && (same_type (term_type a) t && is_such (λ kind. is_kind u.model kind) t)
+  is_well_typed_term u used (Typed at t parens fixed (tree.Not a)) = is_well_typed_term u true a && is_truth t
+  is_well_typed_term u used (Typed at t parens fixed (tree.Integer sign a b)) = is_well_typed_term u true a && (is_well_typed_term u true b && combines u (meaning sign) (term_type a) (term_type b) t)
+  is_well_typed_term u used (Typed at t parens fixed (tree.Shift back size a b)) = is_well_typed_term u true a && (is_well_typed_term u true b && (adds_to (term_type a) (term_type b) && is_address t))
+  is_well_typed_term u used (Typed at t parens fixed (tree.Difference size a b)) = is_well_typed_term u true a && (is_well_typed_term u true b && (is_address (term_type a) && (is_address (term_type b) && subtracts u t)))
+  is_well_typed_term u used (Typed at t parens fixed (tree.Compare sign a b)) = is_well_typed_term u true a && (is_well_typed_term u true b && (is_address (term_type a) && (is_address (term_type b) && is_truth t)))
+  is_well_typed_term u used (Typed at t parens fixed (tree.Logical sign a b)) = is_well_typed_term u true a && (is_well_typed_term u true b && is_truth t)
+  is_well_typed_term u used (Typed at t parens fixed (tree.Conditional c a b)) = is_well_typed_term u true c && (has_tests u true c && (is_well_typed_term u used a && (is_well_typed_term u used b && (same_mark (term_type a) t && same_mark (term_type b) t))))
+  is_well_typed_term u used (Typed at t parens fixed (tree.Comma a b)) = is_well_typed_term u false a && (is_well_typed_term u used b && same_mark (term_type b) t)
+  is_well_typed_term u used (Typed at t parens fixed (tree.Assign l a)) = is_well_typed_place u l && (is_well_typed_term u true a && (is_scalar_type u (lvalue_type l) && (same_mark (term_type a) (lvalue_type l) && same_mark (lvalue_type l) t)))
+  is_well_typed_term u used (Typed at t parens fixed (tree.Compound sign kind l a)) = is_well_typed_place u l && (is_well_typed_term u true a && compounds u (number_operator (meaning sign)) (integer_type kind) (lvalue_type l) (term_type a) t)
+  is_well_typed_term u used (Typed at t parens fixed (tree.CompoundShift back size l a)) = is_well_typed_place u l && (is_well_typed_term u true a && (is_integer (term_type a) && (is_address (lvalue_type l) && is_address t)))
+  is_well_typed_term u used (Typed at t parens fixed (tree.Step sign time kind l)) = is_well_typed_place u l && steps_in u (integer_type kind) (lvalue_type l) t
+  is_well_typed_term u used (Typed at t parens fixed (tree.StepPointer sign time size l)) = is_well_typed_place u l && (is_address (lvalue_type l) && is_address t)
+  is_well_typed_term u used (Typed at t parens fixed (tree.Struct l)) = is_well_typed_place u l && is_address t
+  is_well_typed_term u used (Typed at t parens fixed (tree.Call g args is_used)) = are_well_typed_terms u args && calls used is_used t args (function_at u g)
+  is_well_typed_term u used (Typed at t parens fixed (tree.Library function args allocated)) = are_well_typed_terms u args && calls_library u used t function args
 
-  pub is_marked_place : UnitView → LvalueTree → Bool
-  is_marked_place u (Designates at t parens (tree.Object o)) = has_object u o
-  is_marked_place u (Designates at t parens (tree.Literal n)) = is_some (slice_get u.literals n)
-  is_marked_place u (Designates at t parens (tree.Target e)) = is_marked_term u true e && is_address (term_type e)
-  is_marked_place u (Designates at t parens (tree.Member outer offset)) = is_marked_place u outer
-  is_marked_place u (Designates at t parens (tree.Copied target source)) = is_marked_place u target && is_marked_place u source
-  is_marked_place u (Designates at t parens (tree.Then left right)) = is_marked_term u false left && is_marked_place u right
+  pub is_well_typed_place : UnitView → LvalueTree → Bool
+  is_well_typed_place u (Designates at t parens (tree.Object o)) = has_object u o
+  is_well_typed_place u (Designates at t parens (tree.Literal n)) = is_some (slice_get u.literals n)
+  is_well_typed_place u (Designates at t parens (tree.Target e)) = is_well_typed_term u true e && is_address (term_type e)
+  is_well_typed_place u (Designates at t parens (tree.Member outer offset)) = is_well_typed_place u outer
+  is_well_typed_place u (Designates at t parens (tree.Copied target source)) = is_well_typed_place u target && is_well_typed_place u source
+  is_well_typed_place u (Designates at t parens (tree.Then left right)) = is_well_typed_term u false left && is_well_typed_place u right
 
   -- arguments
-  pub are_marked_terms : UnitView → TermTrees → Bool
-  are_marked_terms u tree.End = true
-  are_marked_terms u (tree.More e rest) = is_marked_term u true e && are_marked_terms u rest
+  pub are_well_typed_terms : UnitView → TermTrees → Bool
+  are_well_typed_terms u tree.End = true
+  are_well_typed_terms u (tree.More e rest) = is_well_typed_term u true e && are_well_typed_terms u rest
 
 -- a condition, whose leaves are tests or not
-abbrev pub is_marked_condition : UnitView → Bool → TermTree → Bool
-is_marked_condition u is_test e = is_marked_term u true e && has_tests u is_test e
+abbrev pub is_well_typed_condition : UnitView → Bool → TermTree → Bool
+is_well_typed_condition u is_test e = is_well_typed_term u true e && has_tests u is_test e

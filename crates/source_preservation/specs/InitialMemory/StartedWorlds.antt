@@ -6,7 +6,7 @@ use Rattle.memory_model.specs.Effects.UnitStarts.{entry_parameters}
 use Rattle.semantics.specs.SourceMachine.SourceRuns.{name_parameters}
 use Rattle.semantics.specs.SourceMachine.SourceStates.{function_at}
 use Rattle.source_preservation.specs.ValueTyping.ProperMemory.{IsProperMemory}
-use Rattle.source_preservation.specs.WellTyped.MarkedStates.{HaveRoom, StaticsHaveRoom}
+use Rattle.source_preservation.specs.WellTyped.WellTypedStates.{HaveRoom, StaticsHaveRoom}
 
 -- the entry's parameters name instances of their sizes, and so do objects of static storage
 pub record IsStarted (u : UnitView) (w : World) : Type 0 where

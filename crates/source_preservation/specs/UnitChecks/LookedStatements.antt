@@ -15,17 +15,17 @@ use Rattle.memory_model.specs.Effects.LibraryChecks.{most_size}
 use Rattle.source_preservation.specs.ValueTyping.Marks.{Mark, Loaded, Converted}
 use Rattle.source_preservation.specs.Checks.LookedTypes.{is_kind, is_wider, is_scalar_type, is_integer}
 use Rattle.source_preservation.specs.Checks.LookedTests.{same_object}
-use Rattle.source_preservation.specs.Checks.LookedTerms.{is_marked_term, is_marked_place, is_marked_condition, side}
+use Rattle.source_preservation.specs.Checks.LookedTerms.{is_well_typed_term, is_well_typed_place, is_well_typed_condition, side}
 
 -- ---- conditions and switches
 
-abbrev pub is_marked_if : UnitView → Option TermTree → Bool
-is_marked_if u None = true
-is_marked_if u (Some c) = is_marked_condition u true c
+abbrev pub is_well_typed_if : UnitView → Option TermTree → Bool
+is_well_typed_if u None = true
+is_well_typed_if u (Some c) = is_well_typed_condition u true c
 
-abbrev pub is_marked_step : UnitView → Option TermTree → Bool
-is_marked_step u None = true
-is_marked_step u (Some e) = is_marked_term u false e
+abbrev pub is_well_typed_step : UnitView → Option TermTree → Bool
+is_well_typed_step u None = true
+is_well_typed_step u (Some e) = is_well_typed_term u false e
 
 abbrev pub is_of_kind : UnitView → Scalar → Bool
 is_of_kind u (of.Int kind) = is_kind u.model kind
@@ -42,46 +42,46 @@ matches u o mark = false
 
 -- what a switch selects by
 abbrev pub selects_by : UnitView → TermTree → Option NamedObject → Bool
-selects_by u e None = is_marked_term u true e && is_integer (term_type e)
+selects_by u e None = is_well_typed_term u true e && is_integer (term_type e)
 selects_by u e (Some o) = matches u o (side u e)
 
 -- ---- initializers
 
-abbrev pub is_marked_store : UnitView → StoreTree → Bool
-is_marked_store u (StoreValue offset e) = is_marked_term u true e && (is_scalar_type u (term_type e) && nat_le offset (most_size u.model))
-is_marked_store u (StoreCopy offset l) = is_marked_place u l && nat_le offset (most_size u.model)
-is_marked_store u (StoreText offset room text) = are_bytes text
+abbrev pub is_well_typed_store : UnitView → StoreTree → Bool
+is_well_typed_store u (StoreValue offset e) = is_well_typed_term u true e && (is_scalar_type u (term_type e) && nat_le offset (most_size u.model))
+is_well_typed_store u (StoreCopy offset l) = is_well_typed_place u l && nat_le offset (most_size u.model)
+is_well_typed_store u (StoreText offset room text) = are_bytes text
 
 -- ---- statements
 
-abbrev pub is_marked_return : UnitView → FunctionView → Option TermTree → Bool
-is_marked_return u f None = true
-is_marked_return u f (Some e) = is_marked_term u true e && (is_scalar_type u (term_type e) && not (is_void f.returns))
+abbrev pub is_well_typed_return : UnitView → FunctionView → Option TermTree → Bool
+is_well_typed_return u f None = true
+is_well_typed_return u f (Some e) = is_well_typed_term u true e && (is_scalar_type u (term_type e) && not (is_void f.returns))
 
 -- labels apart
 abbrev mutual
-  pub is_marked_statement : UnitView → FunctionView → StatementTree → Bool
-  is_marked_statement u f (tree.Value e) = is_marked_term u false e
-  is_marked_statement u f tree.Nothing = true
-  is_marked_statement u f (tree.Forget at local) = true
-  is_marked_statement u f (tree.Start at local e) = is_marked_term u true e && is_scalar_type u (term_type e)
-  is_marked_statement u f (tree.StartCopy at local l) = is_marked_place u l
-  is_marked_statement u f (tree.StartList at local stores) = list_all (is_marked_store u) stores
-  is_marked_statement u f (tree.Block objects items) = are_marked_statements u f items
-  is_marked_statement u f (tree.If c body) = is_marked_condition u true c && is_marked_statement u f body
-  is_marked_statement u f (tree.IfElse c first second) = is_marked_condition u true c && (is_marked_statement u f first && is_marked_statement u f second)
-  is_marked_statement u f (tree.While c body) = is_marked_condition u true c && is_marked_statement u f body
-  is_marked_statement u f (tree.Do body c) = is_marked_condition u true c && is_marked_statement u f body
-  is_marked_statement u f (tree.For objects first c step body) = are_marked_statements u f first && (is_marked_if u c && (is_marked_step u step && is_marked_statement u f body))
-  is_marked_statement u f (tree.Switch at e labels has_default enumerators body) = selects_by u e (named e) && is_marked_statement u f body
-  is_marked_statement u f (tree.Case n body) = is_marked_statement u f body
-  is_marked_statement u f (tree.Default body) = is_marked_statement u f body
-  is_marked_statement u f (tree.Label n body) = is_marked_statement u f body
-  is_marked_statement u f (tree.Goto n) = true
-  is_marked_statement u f tree.Break = true
-  is_marked_statement u f tree.Continue = true
-  is_marked_statement u f (tree.Return at e) = is_marked_return u f e
+  pub is_well_typed_statement : UnitView → FunctionView → StatementTree → Bool
+  is_well_typed_statement u f (tree.Value e) = is_well_typed_term u false e
+  is_well_typed_statement u f tree.Nothing = true
+  is_well_typed_statement u f (tree.Forget at local) = true
+  is_well_typed_statement u f (tree.Start at local e) = is_well_typed_term u true e && is_scalar_type u (term_type e)
+  is_well_typed_statement u f (tree.StartCopy at local l) = is_well_typed_place u l
+  is_well_typed_statement u f (tree.StartList at local stores) = list_all (is_well_typed_store u) stores
+  is_well_typed_statement u f (tree.Block objects items) = are_well_typed_statements u f items
+  is_well_typed_statement u f (tree.If c body) = is_well_typed_condition u true c && is_well_typed_statement u f body
+  is_well_typed_statement u f (tree.IfElse c first second) = is_well_typed_condition u true c && (is_well_typed_statement u f first && is_well_typed_statement u f second)
+  is_well_typed_statement u f (tree.While c body) = is_well_typed_condition u true c && is_well_typed_statement u f body
+  is_well_typed_statement u f (tree.Do body c) = is_well_typed_condition u true c && is_well_typed_statement u f body
+  is_well_typed_statement u f (tree.For objects first c step body) = are_well_typed_statements u f first && (is_well_typed_if u c && (is_well_typed_step u step && is_well_typed_statement u f body))
+  is_well_typed_statement u f (tree.Switch at e labels has_default enumerators body) = selects_by u e (named e) && is_well_typed_statement u f body
+  is_well_typed_statement u f (tree.Case n body) = is_well_typed_statement u f body
+  is_well_typed_statement u f (tree.Default body) = is_well_typed_statement u f body
+  is_well_typed_statement u f (tree.Label n body) = is_well_typed_statement u f body
+  is_well_typed_statement u f (tree.Goto n) = true
+  is_well_typed_statement u f tree.Break = true
+  is_well_typed_statement u f tree.Continue = true
+  is_well_typed_statement u f (tree.Return at e) = is_well_typed_return u f e
 
-  pub are_marked_statements : UnitView → FunctionView → StatementTrees → Bool
-  are_marked_statements u f tree.NoMore = true
-  are_marked_statements u f (tree.And first rest) = is_marked_statement u f first && are_marked_statements u f rest
+  pub are_well_typed_statements : UnitView → FunctionView → StatementTrees → Bool
+  are_well_typed_statements u f tree.NoMore = true
+  are_well_typed_statements u f (tree.And first rest) = is_well_typed_statement u f first && are_well_typed_statements u f rest

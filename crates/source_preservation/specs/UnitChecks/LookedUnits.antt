@@ -15,7 +15,7 @@ use Rattle.semantics.specs.SourceMachine.Operations.{size_of}
 use Rattle.semantics.specs.SourceMachine.SourceStates.{function_at}
 use Rattle.source_preservation.specs.Checks.LookedTypes.{is_kind, is_scalar_type, is_such}
 use Rattle.c_layout.specs.ByteTexts.{are_bytes}
-use Rattle.source_preservation.specs.UnitChecks.LookedStatements.{are_marked_statements}
+use Rattle.source_preservation.specs.UnitChecks.LookedStatements.{are_well_typed_statements}
 
 -- ---- functions
 
@@ -31,8 +31,8 @@ abbrev pub are_scalars : UnitView → FunctionView → ℕ → Bool
 are_scalars u f zero = true
 are_scalars u f (suc n) = is_scalar_type u (local_type f n) && are_scalars u f n
 
-abbrev pub is_marked_function : UnitView → FunctionView → Bool
-is_marked_function u f = are_marked_statements u f (statement_trees f.body) && (are_scalars u f f.parameters && ((is_void f.returns || is_scalar_type u f.returns) && (is_small u f.returns && list_all (is_small_local u) f.locals)))
+abbrev pub is_well_typed_function : UnitView → FunctionView → Bool
+is_well_typed_function u f = are_well_typed_statements u f (statement_trees f.body) && (are_scalars u f f.parameters && ((is_void f.returns || is_scalar_type u f.returns) && (is_small u f.returns && list_all (is_small_local u) f.locals)))
 
 -- ---- objects of static storage
 
@@ -44,22 +44,22 @@ abbrev pub is_proper_store : UnitView → StaticStoreView → Bool
 is_proper_store u (SetValue offset v) = is_proper_value u v
 is_proper_store u (SetText offset room text) = are_bytes text
 
-abbrev pub is_marked_static : UnitView → StaticView → Bool
-is_marked_static u o = is_small u o.ctype && list_all (is_proper_store u) o.stores
+abbrev pub is_well_typed_static : UnitView → StaticView → Bool
+is_well_typed_static u o = is_small u o.ctype && list_all (is_proper_store u) o.stores
 
-abbrev pub is_marked_literal : UnitView → LiteralView → Bool
-is_marked_literal u l = are_bytes l.bytes && nat_le (length l.bytes + 1) (most_size u.model)
+abbrev pub is_well_typed_literal : UnitView → LiteralView → Bool
+is_well_typed_literal u l = are_bytes l.bytes && nat_le (length l.bytes + 1) (most_size u.model)
 
 -- ---- units
 
 abbrev pub is_entered : UnitView → LocalView → Bool
 is_entered u l = is_such (λ kind. is_kind u.model kind) l.ctype
 
-abbrev pub are_marked_objects : UnitView → Bool
-are_marked_objects u = list_all (is_marked_static u) u.objects && list_all (is_marked_literal u) u.literals
+abbrev pub are_well_typed_objects : UnitView → Bool
+are_well_typed_objects u = list_all (is_well_typed_static u) u.objects && list_all (is_well_typed_literal u) u.literals
 
 abbrev pub has_entry : UnitView → Bool
 has_entry u = is_some (function_at u u.entry) && list_all (is_entered u) (entry_parameters u)
 
-abbrev pub is_marked : UnitView → Bool
-is_marked u = is_regular_unit u && (list_all (is_marked_function u) u.functions && (are_marked_objects u && has_entry u))
+abbrev pub is_well_typed : UnitView → Bool
+is_well_typed u = is_regular_unit u && (list_all (is_well_typed_function u) u.functions && (are_well_typed_objects u && has_entry u))

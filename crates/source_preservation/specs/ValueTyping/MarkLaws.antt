@@ -7,7 +7,7 @@ use Rattle.memory_model.specs.Effects.Worlds.{World, Reply, goes, stops}
 use Rattle.memory_model.specs.Effects.LibraryCalls.{fgets}
 use Rattle.semantics.specs.SourceMachine.Operations.{Operation, perform}
 use Rattle.source_items.specs.Operations.GoingReplies.{IsDefined}
-use Rattle.source_preservation.specs.ValueTyping.Marks.{Mark, Ranged, Pointing, Has, AreMarked}
+use Rattle.source_preservation.specs.ValueTyping.Marks.{Mark, Ranged, Pointing, Has, AreWellTyped}
 use Rattle.source_preservation.specs.ValueTyping.ProperMemory.{IsProperMemory, Evolves}
 use Rattle.source_preservation.specs.ValueTyping.MarkOperations.{MarkOperates}
 use Rattle.cc_base.specs.declared.int_types.IntType.{IntType}
@@ -21,12 +21,12 @@ Comes P (stops why w) = IsDefined why
 pub record Leaves (u : UnitView) (names : ℕ → Option ℕ) (before : Memory) (after : List Mark) (rest values : List Scalar) (w : World) : Type 0 where
   pub own : List Scalar
   pub is : values ≡ own ++ rest
-  pub marked : AreMarked u.model names w.memory after own
+  pub well_typed : AreWellTyped u.model names w.memory after own
   pub evolves : Evolves u.model before w.memory
 
 -- an operation on values of the marks that it takes has a step, and gives those that it is to give
 abbrev pub OperationsKeepMarks : Type 0
-OperationsKeepMarks = (u : UnitView) (names : ℕ → Option ℕ) (operation : Operation) (before after : List Mark) (own rest : List Scalar) (w : World) → IsProperMemory u.model w.memory → MarkOperates u.model operation before after → AreMarked u.model names w.memory before own → Comes (Leaves u names w.memory after rest) (perform u operation (own ++ rest) w)
+OperationsKeepMarks = (u : UnitView) (names : ℕ → Option ℕ) (operation : Operation) (before after : List Mark) (own rest : List Scalar) (w : World) → IsProperMemory u.model w.memory → MarkOperates u.model operation before after → AreWellTyped u.model names w.memory before own → Comes (Leaves u names w.memory after rest) (perform u operation (own ++ rest) w)
 
 -- a line is read into memory, and the pointer to it or null is given
 abbrev pub LinesKeepMarks : Type 0

@@ -134,7 +134,7 @@ module _ (m : Model) (names : ℕ → Option ℕ) (memory : Memory) where
   Has mark v = ⊥
 
   -- values have marks, one after the other
-  abbrev pub AreMarked : List Mark → List Scalar → Type 0
-  AreMarked [] [] = Unit {0}
-  AreMarked (k ∷ ks) (v ∷ vs) = Has k v × AreMarked ks vs
-  AreMarked ks vs = ⊥
+  abbrev pub AreWellTyped : List Mark → List Scalar → Type 0
+  AreWellTyped [] [] = Unit {0}
+  AreWellTyped (k ∷ ks) (v ∷ vs) = Has k v × AreWellTyped ks vs
+  AreWellTyped ks vs = ⊥

@@ -6,7 +6,7 @@ use Rattle.c_layout.specs.CheckedUnits.{UnitView}
 use Rattle.c_layout.specs.declared.checked_tree.checked_statements.CaseLabel.{CaseLabel}
 use Rattle.memory_model.specs.Memory.Scalars.{Scalar, integer, pointer}
 use Rattle.semantics.specs.SourceMachine.Items.{Item}
-use Rattle.semantics.specs.SourceMachine.Scopes.{behind_loop}
+use Rattle.semantics.specs.SourceMachine.Scopes.{past_loop}
 use Rattle.semantics.specs.SourceMachine.LabelSearch as sought
 use Rattle.semantics.specs.SourceMachine.LabelSearch.{Sought, found, case_of}
 use Rattle.semantics.specs.SourceMachine.SourceStates.{State}
@@ -43,7 +43,7 @@ module _ (u : UnitView) (labels : List CaseLabel) (statement : StatementTree) (c
   lands sought.other rest is = by (found u sought.other statement rest)
     where
       by : (o : Option (List Item)) → IsThere (landing sought.other o rest)
-      by None = (behind_loop rest, refl)
+      by None = (past_loop rest, refl)
       by (Some to) = (to, refl)
 
   land_steps : (l : Sought) (s : State) → IsCase (length labels) l → NotStuck (land u statement l s)

@@ -63,10 +63,10 @@ module _ (laws : Laws) (u : UnitView) (f : FunctionView) (called : Option Bool) 
   acts (item.Choose at (Some test) held failed) s b shut = absurd (apart shut)
   acts (item.ReadLine at none some) s b shut = line_steps u s laws.lines none some (b.effect.0 ++ b.below) s.values (such s (item.ReadLine at none some) b (Address ∷ (Number ∷ (Address ∷ b.effect.0))) b.effect.1)
   acts (item.Statement statement) s b shut = tt
-  acts (item.WhileTurn c statement) s b shut = tt
-  acts (item.DoTurn statement c) s b shut = tt
-  acts (item.ForTurn c clause statement) s b shut = tt
-  acts item.TurnEnd s b shut = tt
+  acts (item.WhileIteration c statement) s b shut = tt
+  acts (item.DoIteration statement c) s b shut = tt
+  acts (item.ForIteration c clause statement) s b shut = tt
+  acts item.IterationEnd s b shut = tt
   acts item.LoopEnd s b shut = tt
   acts (item.Select at None labels statement) s b shut = select_steps u labels statement b.effect.0.cases s b.below s.values (such s (item.Select at None labels statement) b (Number ∷ []) b.effect.1)
   acts (item.Select at (Some o) labels statement) s b shut = absurd (apart shut)
@@ -75,7 +75,7 @@ module _ (laws : Laws) (u : UnitView) (f : FunctionView) (called : Option Bool) 
   acts item.Hop s b shut = tt
   acts (item.GoTo n) s b shut = in_function u s f b.is _ (step_there s (from_label u f n) _ b.effect.0 (λ to. tt))
   acts item.BreakOut s b shut = tt
-  acts item.NextTurn s b shut = tt
+  acts item.NextIteration s b shut = tt
   acts item.LeaveFunction s b shut = in_function u s f b.is _ tt
   acts item.EndBody s b shut = in_function u s f b.is _ tt
   acts (item.Invoke at g count used) s b shut = step_there s (function_at u g) _ (b.effect.function, b.effect.is) (λ called. tt)

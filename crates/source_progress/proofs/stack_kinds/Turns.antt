@@ -23,8 +23,8 @@ use Rattle.semantics.specs.SourceMachine.Items as item
 use Rattle.semantics.specs.SourceMachine.Items.{NamedSide, NamedTest, Item, Items, listed, Change}
 use Rattle.semantics.specs.SourceMachine.TermItems.{address_items}
 use Rattle.semantics.specs.SourceMachine.ConditionItems.{term_items}
-use Rattle.semantics.specs.SourceMachine.StatementItems.{of_statement, while_turn, do_turn, for_turn, body}
-use Rattle.semantics.specs.SourceMachine.Scopes.{all_of, open_scopes, jump, leap_in, behind_loop, behind_turn}
+use Rattle.semantics.specs.SourceMachine.StatementItems.{of_statement, while_iteration, do_iteration, for_iteration, body}
+use Rattle.semantics.specs.SourceMachine.Scopes.{all_of, open_scopes, jump, leap_in, past_loop, past_iteration}
 use Rattle.semantics.specs.SourceMachine.LabelSearch as sought
 use Rattle.semantics.specs.SourceMachine.LabelSearch.{Sought, found, from_label, case_of}
 use Rattle.semantics.specs.SourceMachine.SourceStates.{Frame, State, with_world, first_do, pushed, function_at, result_object, type_of, instance_of}
@@ -337,18 +337,18 @@ module _ (u : UnitView) where
     acts (item.Choose at test held failed) s r = chosen at test held failed s s.values r
     acts (item.ReadLine at none some) s r = read at none some s s.values r
     acts (item.Statement statement) s r = rested s (item.Statement statement) (of_statement u (is_entry s.frames) statement) (λ f called ks mid e. (e.1, statement_through u f called (is_entry s.frames) statement s.control e.0)) r
-    acts (item.WhileTurn c statement) s r = rested s (item.WhileTurn c statement) (while_turn u c statement) (λ f called ks mid e. (e.1, while_through u f called c statement s.control e.0)) r
-    acts (item.DoTurn statement c) s r = rested s (item.DoTurn statement c) (do_turn u statement c) (λ f called ks mid e. (e.1, do_through u f called c statement s.control e.0)) r
-    acts (item.ForTurn c clause statement) s r = rested s (item.ForTurn c clause statement) (for_turn u c clause statement) (λ f called ks mid e. (e.1, for_through u f called c clause statement s.control e.0)) r
-    acts item.TurnEnd s r = passed s item.TurnEnd (λ f called ks mid e. e.0 ∙ sym e.1) r
+    acts (item.WhileIteration c statement) s r = rested s (item.WhileIteration c statement) (while_iteration u c statement) (λ f called ks mid e. (e.1, while_through u f called c statement s.control e.0)) r
+    acts (item.DoIteration statement c) s r = rested s (item.DoIteration statement c) (do_iteration u statement c) (λ f called ks mid e. (e.1, do_through u f called c statement s.control e.0)) r
+    acts (item.ForIteration c clause statement) s r = rested s (item.ForIteration c clause statement) (for_iteration u c clause statement) (λ f called ks mid e. (e.1, for_through u f called c clause statement s.control e.0)) r
+    acts item.IterationEnd s r = passed s item.IterationEnd (λ f called ks mid e. e.0 ∙ sym e.1) r
     acts item.LoopEnd s r = passed s item.LoopEnd (λ f called ks mid e. e.0 ∙ sym e.1) r
     acts (item.Select at o labels statement) s r = selected at o labels statement s s.values r
     acts (item.Enters objects) s r = entering s objects r
     acts (item.Leaves objects) s r = leaving s objects r
     acts item.Hop s r = passed s item.Hop (λ f called ks mid e. sym e) r
     acts (item.GoTo n) s r = goes_to s n r
-    acts item.BreakOut s r = jumping s item.BreakOut (behind_loop s.control) (λ f called ks mid left e does. (e.1.0, does_behind_loop u f called s.control mid left e.0 does)) r
-    acts item.NextTurn s r = jumping s item.NextTurn (behind_turn s.control) (λ f called ks mid left e does. (e.1.0, does_behind_turn u f called s.control mid left e.0 does)) r
+    acts item.BreakOut s r = jumping s item.BreakOut (past_loop s.control) (λ f called ks mid left e does. (e.1.0, does_behind_loop u f called s.control mid left e.0 does)) r
+    acts item.NextIteration s r = jumping s item.NextIteration (past_iteration s.control) (λ f called ks mid left e does. (e.1.0, does_behind_turn u f called s.control mid left e.0 does)) r
     acts item.LeaveFunction s r = returning s r
     acts item.EndBody s r = ending s r
     acts (item.Invoke at g count used) s r = invoked s at g count used r

@@ -10,20 +10,20 @@ use Rattle.cfg.specs.declared.programs.Flow.{Flow}
 use Rattle.value_domain.specs.declared.values.row_cells.Cell.{Cell}
 use Rattle.memory_model.specs.Effects.Worlds.{Violation}
 use Rattle.lower_templates.specs.Views.ProgramViews.{flow_view}
-use Rattle.semantics.specs.CfgMachine.FlowStates.{Standing, FlowRun, running, found_in}
+use Rattle.semantics.specs.CfgMachine.FlowStates.{ProgramState, FlowRun, running, found_in}
 use Rattle.semantics.specs.CfgMachine.FlowSteps.{flow_steps}
 use Rattle.semantics.specs.CfgMachine.FlowStarts.{flow_begin}
 use Rattle.store_sound.specs.Concretization.ValueMeaning.{Naming}
 use Rattle.store_sound.specs.Concretization.RowMeaning.{MachineState, InGamma}
 
-abbrev pub state_of : Standing → MachineState
+abbrev pub state_of : ProgramState → MachineState
 state_of s = record { memory = s.world.memory; temps = s.temps; entered = s.bases }
 
 -- `row_before block at` is the row before an instruction, where the analysis comes to it; `Admits` says at which
 -- places it admits which rules
 module _ {I : Type 0} (l : LatticeOf I) (n : IntegersOf I) (gamma : I → ℤ → Type 0) (flow : Flow) (row_before : ℕ → ℕ → Option (List (Cell I))) (Admits : Place → Rule → Type 0) where
   -- the row before the next instruction, and the names by which it stands for the state
-  pub record StandsAt (s : Standing) : Type 0 where
+  pub record StandsAt (s : ProgramState) : Type 0 where
     pub row : List (Cell I)
     pub naming : Naming
     pub before : row_before s.block s.at ≡ Some row
@@ -31,7 +31,7 @@ module _ {I : Type 0} (l : LatticeOf I) (n : IntegersOf I) (gamma : I → ℤ �
 
   -- where a run goes on, the row there stands for its state; what it has violated is admitted
   pub record Covers (r : FlowRun) : Type 0 where
-    pub here : (s : Standing) (found : List Violation) → r ≡ running s found → StandsAt s
+    pub here : (s : ProgramState) (found : List Violation) → r ≡ running s found → StandsAt s
     pub all : (v : Violation) → Contains (found_in r) v → Admits v.at v.rule
 
   -- the statement for a closed map of a unit's program: each of its runs is covered. It is not proved yet

@@ -42,7 +42,7 @@ use Rattle.memory_model.specs.Effects.StructCopies.{overlap, same_spot, may_copy
 use Rattle.memory_model.specs.Effects.Operands.{as_pointer}
 use Rattle.memory_model.specs.Effects.Touches.{Spot, touched}
 use Rattle.memory_model.specs.Effects.Worlds.{World, Reply, goes, stops, behind, stopped_by, Left, Stuck}
-use Rattle.semantics.specs.CfgMachine.FlowStates.{Standing}
+use Rattle.semantics.specs.CfgMachine.FlowStates.{ProgramState}
 use Rattle.semantics.specs.CfgMachine.FlowActs.{giving}
 use Rattle.store_sound.specs.Concretization.ValueMeaning.{Naming, InGammaInto, InGammaPointer, InGammaScalar, InGammaByLife}
 use Rattle.store_sound.specs.Concretization.SoundMemory.{IsMemoryOf, IsPointerIn, IsWithin, IsNamed}
@@ -101,7 +101,7 @@ apart_is to from size x h same a b c d = elim (or_cases (same_spot to from) (not
     more : (m n : ℕ) → n < m → nat_le m n ≡ false
     more m n h = lt-leb m n h
 
-module _ {I : Type 0} {l : LatticeOf I} {n : IntegersOf I} {gamma : I → ℤ → Type 0} (o : OrderLaws l) (q : BoundLaws l n gamma) (c : SoundLaws l n gamma) (ranges : RangeLaws l n) (flow : Flow) (p : HasPremises flow) (h : HasStructs flow) (naming : Naming) (row : List (Cell I)) (s : Standing) (r : IsReached l n gamma flow naming row s) where
+module _ {I : Type 0} {l : LatticeOf I} {n : IntegersOf I} {gamma : I → ℤ → Type 0} (o : OrderLaws l) (q : BoundLaws l n gamma) (c : SoundLaws l n gamma) (ranges : RangeLaws l n) (flow : Flow) (p : HasPremises flow) (h : HasStructs flow) (naming : Naming) (row : List (Cell I)) (s : ProgramState) (r : IsReached l n gamma flow naming row s) where
   module _ (to : ℕ) (few : to < flow.temps) (index : ℕ) (x y : Pointers I) (t : StructType) (there : slice_get flow.structs.items.items index ≡ Some t) where
     abbrev view : StructView
     view = struct_view t
@@ -134,7 +134,7 @@ module _ {I : Type 0} {l : LatticeOf I} {n : IntegersOf I} {gamma : I → ℤ �
     abbrev after : Option (List (Cell I))
     after = kept_target l flow to target.rest (structs.copy_struct l n flow.model flow.bases.items (structs_view flow.structs) index target.rest source.rest row)
 
-    abbrev Good : Reply Standing → Type 0
+    abbrev Good : Reply ProgramState → Type 0
     Good reply = IsStoodFor l n gamma flow after told reply
 
     clean : AreAdmitted told s.world.violated
@@ -272,7 +272,7 @@ module _ {I : Type 0} {l : LatticeOf I} {n : IntegersOf I} {gamma : I → ℤ �
             ap (λ z. copy_found l n flow.model flow.bases.items (structs_view flow.structs) index target.rest source.rest z row) in_view
             ∙ ((λ i. structs.copy_between l n flow.model flow.bases.items (structs_view flow.structs) index (struct_view t) target.rest.bases (to_side.0.is i) source.rest.bases (from_side.0.is i) row) ∙ rows.is)
 
-        now : Standing
+        now : ProgramState
         now = record s { world = u }
 
         reached : IsReached l n gamma flow naming rows.value (record s { world = u })

@@ -23,7 +23,7 @@ use Rattle.memory_model.specs.Effects.ObjectEffects.{cleared}
 use Rattle.memory_model.specs.Effects.Worlds.{World}
 use Rattle.lower_templates.specs.Worklist.Acts.{act}
 use Rattle.lower_templates.specs.Views.ProgramViews.{flow_view}
-use Rattle.semantics.specs.CfgMachine.FlowStates.{Standing}
+use Rattle.semantics.specs.CfgMachine.FlowStates.{ProgramState}
 use Rattle.semantics.specs.CfgMachine.FlowSteps.{act_step}
 use Rattle.store_sound.specs.Concretization.Coverage.{state_of}
 use Rattle.store_sound.specs.Concretization.Matching.{Matched}
@@ -156,7 +156,7 @@ module _ {I : Type 0} {l : LatticeOf I} {n : IntegersOf I} {gamma : I → ℤ �
     tells = rw c (record { number = near_one q (n.one (pos 0)) (pos 0) (record { from = omega (arith, ints); to = omega (arith, ints) }) (q.one_bounds (pos 0)); labels_are = refl; apart = record { bases = refl; null = refl; ended = refl }; determinate = refl });
   }
 
-module _ {I : Type 0} {l : LatticeOf I} {n : IntegersOf I} {gamma : I → ℤ → Type 0} (q : BoundLaws l n gamma) (flow : Flow) (p : HasPremises flow) (objects : HasObjects flow) (plain : IsPlainProgram flow) (naming : Naming) (row : List (Cell I)) (s : Standing) (r : IsReached l n gamma flow naming row s) (t : ExactState l n flow row (state_of s)) where
+module _ {I : Type 0} {l : LatticeOf I} {n : IntegersOf I} {gamma : I → ℤ → Type 0} (q : BoundLaws l n gamma) (flow : Flow) (p : HasPremises flow) (objects : HasObjects flow) (plain : IsPlainProgram flow) (naming : Naming) (row : List (Cell I)) (s : ProgramState) (r : IsReached l n gamma flow naming row s) (t : ExactState l n flow row (state_of s)) where
   module _ (b i : ℕ) (info : BaseInfo) (at : slice_get flow.bases.items b ≡ Some info) (entered : s.bases b ≡ Some i) (declared : info.shape.heap ≡ false) (kind : info.kind ≡ Older → ⊥) where
     single : (j : ℕ) (leaf : Leaf) → slice_get info.shape.cells j ≡ Some leaf → leaf.count ≡ 1
     single j leaf e = plain.apart b j info leaf at e
@@ -184,7 +184,7 @@ module _ {I : Type 0} {l : LatticeOf I} {n : IntegersOf I} {gamma : I → ℤ �
       if_some_told l n flow _ no_violations s (s.bases b) _ d (λ i e d. record {
         goes_on = λ t u f.
             let w : World = cleared i s.world in
-            let now : Standing = record s { at = suc s.at; world = w } in
+            let now : ProgramState = record s { at = suc s.at; world = w } in
             let a : now ≡ t = cc in
             let c : w ≡ u = cc in
             let here : ExactAfter l n flow (Some (at_base (clear_object l n) (slice_get flow.bases.items b) row)) (record now { world = w }) = record {

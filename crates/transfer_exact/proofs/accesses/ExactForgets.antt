@@ -25,7 +25,7 @@ use Rattle.memory_model.specs.Effects.ObjectEffects.{forgotten}
 use Rattle.memory_model.specs.Effects.Worlds.{World}
 use Rattle.lower_templates.specs.Worklist.Acts.{act}
 use Rattle.lower_templates.specs.Views.ProgramViews.{flow_view}
-use Rattle.semantics.specs.CfgMachine.FlowStates.{Standing}
+use Rattle.semantics.specs.CfgMachine.FlowStates.{ProgramState}
 use Rattle.semantics.specs.CfgMachine.FlowSteps.{act_step}
 use Rattle.store_sound.specs.Concretization.Coverage.{state_of}
 use Rattle.store_sound.specs.Concretization.Matching.{Fits, Matched}
@@ -51,7 +51,7 @@ use Rattle.transfer_exact.proofs.places.HeldReads.{inside}
 use Rattle.transfer_exact.proofs.accesses.Moves.{change_tells}
 use Rattle.transfer_exact.proofs.places.OneLeaf.{owned, place_is}
 
-module _ {I : Type 0} {l : LatticeOf I} {n : IntegersOf I} {gamma : I → ℤ → Type 0} (q : BoundLaws l n gamma) (flow : Flow) (p : HasPremises flow) (objects : HasObjects flow) (plain : IsPlainProgram flow) (naming : Naming) (row : List (Cell I)) (s : Standing) (r : IsReached l n gamma flow naming row s) (t : ExactState l n flow row (state_of s)) where
+module _ {I : Type 0} {l : LatticeOf I} {n : IntegersOf I} {gamma : I → ℤ → Type 0} (q : BoundLaws l n gamma) (flow : Flow) (p : HasPremises flow) (objects : HasObjects flow) (plain : IsPlainProgram flow) (naming : Naming) (row : List (Cell I)) (s : ProgramState) (r : IsReached l n gamma flow naming row s) (t : ExactState l n flow row (state_of s)) where
   module _ (b i : ℕ) (info : BaseInfo) (at : slice_get flow.bases.items b ≡ Some info) (entered : s.bases b ≡ Some i) (declared : info.shape.heap ≡ false) (kind : info.kind ≡ Older → ⊥) where
     single : (j : ℕ) (leaf : Leaf) → slice_get info.shape.cells j ≡ Some leaf → leaf.count ≡ 1
     single j leaf e = plain.apart b j info leaf at e
@@ -111,7 +111,7 @@ module _ {I : Type 0} {l : LatticeOf I} {n : IntegersOf I} {gamma : I → ℤ �
       if_some_told l n flow _ no_violations s (s.bases b) _ d (λ i e d. record {
         goes_on = λ t u f.
             let w : World = forgotten i s.world in
-            let now : Standing = record s { at = suc s.at; world = w } in
+            let now : ProgramState = record s { at = suc s.at; world = w } in
             let a : now ≡ t = cc in
             let c : w ≡ u = cc in
             let here : ExactAfter l n flow (Some (at_base (blank_object l n) (slice_get flow.bases.items b) row)) (record now { world = w }) = record {

@@ -46,7 +46,7 @@ use Rattle.memory_model.specs.Effects.Touches.{Spot, touched, touched_by}
 use Rattle.memory_model.specs.Effects.Worlds.{World, Reply, goes, behind, noted, stopped_by}
 use Rattle.lower_templates.specs.Worklist.Acts.{act}
 use Rattle.lower_templates.specs.Views.ProgramViews.{flow_view}
-use Rattle.semantics.specs.CfgMachine.FlowStates.{Standing}
+use Rattle.semantics.specs.CfgMachine.FlowStates.{ProgramState}
 use Rattle.semantics.specs.CfgMachine.FlowActs.{giving}
 use Rattle.semantics.specs.CfgMachine.FlowSteps.{act_step}
 use Rattle.store_sound.specs.Concretization.Coverage.{state_of}
@@ -89,7 +89,7 @@ unminded : (kind : declared.Scalar) → (same_class (class_in kind) Char && is_u
 unminded (of.Int k) h m = both (same_class (class_in (of.Int k)) Char) k.signed h m
 unminded of.Pointer h m = cc
 
-module _ {I : Type 0} {l : LatticeOf I} {n : IntegersOf I} {gamma : I → ℤ → Type 0} (q : BoundLaws l n gamma) (flow : Flow) (p : HasPremises flow) (objects : HasObjects flow) (plain : IsPlainProgram flow) (naming : Naming) (row : List (Cell I)) (s : Standing) (r : IsReached l n gamma flow naming row s) (t : ExactState l n flow row (state_of s)) (to : ℕ) (few : to < flow.temps) where
+module _ {I : Type 0} {l : LatticeOf I} {n : IntegersOf I} {gamma : I → ℤ → Type 0} (q : BoundLaws l n gamma) (flow : Flow) (p : HasPremises flow) (objects : HasObjects flow) (plain : IsPlainProgram flow) (naming : Naming) (row : List (Cell I)) (s : ProgramState) (r : IsReached l n gamma flow naming row s) (t : ExactState l n flow row (state_of s)) (to : ℕ) (few : to < flow.temps) where
   module _ (kind : declared.Scalar) (x : Pointers I) where
     abbrev touched_at : Class × Bool → Touched I
     touched_at cl = touch l n flow.bases.items row x 0 (table.class_bytes flow.model cl.0) false
@@ -104,7 +104,7 @@ module _ {I : Type 0} {l : LatticeOf I} {n : IntegersOf I} {gamma : I → ℤ �
     abbrev told_at : Class × Bool → Violations
     told_at cl = violations_union (touched_at cl).violations (told_by cl (read_at cl))
 
-    abbrev ExactAt : Class × Bool → Reply Standing → Type 0
+    abbrev ExactAt : Class × Bool → Reply ProgramState → Type 0
     ExactAt cl reply = IsExact l n flow (put_loaded l n flow row to kind (read_at cl)) (told_at cl) reply
 
     abbrev pair : Class × Bool
@@ -282,7 +282,7 @@ module _ {I : Type 0} {l : LatticeOf I} {n : IntegersOf I} {gamma : I → ℤ �
       subst (λ cl. ExactAt kind (temp_value l n flow row from).pointer cl (giving s to (effect.load flow.model kind (pointer at) s.world))) (sym (class_pair kind))
       (by_pointer kind (temp_value l n flow row from).pointer at (from, e, refl) (typed at e) at refl (t.temps from (pointer at) e).points)
 
-module _ {I : Type 0} {l : LatticeOf I} {n : IntegersOf I} {gamma : I → ℤ → Type 0} (q : BoundLaws l n gamma) (flow : Flow) (p : HasPremises flow) (objects : HasObjects flow) (plain : IsPlainProgram flow) (naming : Naming) (row : List (Cell I)) (s : Standing) (r : IsReached l n gamma flow naming row s) (t : ExactState l n flow row (state_of s)) where
+module _ {I : Type 0} {l : LatticeOf I} {n : IntegersOf I} {gamma : I → ℤ → Type 0} (q : BoundLaws l n gamma) (flow : Flow) (p : HasPremises flow) (objects : HasObjects flow) (plain : IsPlainProgram flow) (naming : Naming) (row : List (Cell I)) (s : ProgramState) (r : IsReached l n gamma flow naming row s) (t : ExactState l n flow row (state_of s)) where
   pub load_told : (to from : ℕ) (kind : declared.Scalar) → fits_operation (names_of flow) (op.Load to from kind) ≡ true → IsTyped flow s from kind → IsDefined (act_step (flow_view flow) (act (op.Load to from kind)) s) → StepIsExact l n flow row (op.Load to from kind) s
   unfolding operate load_step operation_violations
   load_told to from kind fits typed d =

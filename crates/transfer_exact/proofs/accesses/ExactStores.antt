@@ -55,7 +55,7 @@ use Rattle.memory_model.specs.Effects.Worlds.{World, Reply, goes, stops, behind,
 use Rattle.lower_templates.specs.Worklist.Acts.{act}
 use Rattle.lower_templates.specs.Views.ProgramViews.{flow_view}
 use Rattle.semantics.specs.CfgMachine.FlowSteps.{act_step}
-use Rattle.semantics.specs.CfgMachine.FlowStates.{Standing, if_some, next}
+use Rattle.semantics.specs.CfgMachine.FlowStates.{ProgramState, if_some, next}
 use Rattle.semantics.specs.CfgMachine.FlowActs.{keeping, storing}
 use Rattle.store_sound.specs.Concretization.Coverage.{state_of}
 use Rattle.store_sound.specs.Concretization.SoundMemory.{IsPointerIn, IsWithin, IsInstanceOf, storage_for}
@@ -138,12 +138,12 @@ module _ {I : Type 0} {l : LatticeOf I} {n : IntegersOf I} {gamma : I → ℤ �
   temp_near row naming memory t (integer z la) h = near_has q _ z h.0
   temp_near row naming memory t (pointer at) h = tt
 
-  module _ (naming : Naming) (row : List (Cell I)) (s : Standing) (r : IsReached l n gamma flow naming row s) (t : ExactState l n flow row (state_of s)) (told : Violations) (clean : AreViolated told s.world.violated) where
+  module _ (naming : Naming) (row : List (Cell I)) (s : ProgramState) (r : IsReached l n gamma flow naming row s) (t : ExactState l n flow row (state_of s)) (told : Violations) (clean : AreViolated told s.world.violated) where
     keeps_told : (kept : Option (ℕ × ℕ)) → has_kept (names_of flow) kept ≡ true → IsDefined (keeping s kept) → IsExact l n flow (Some (move_temp l n flow kept row)) told (keeping s kept)
     unfolding move_temp
     keeps_told None fits d = record {
       goes_on = λ u w e.
-          let now : Standing = record s { at = suc s.at } in
+          let now : ProgramState = record s { at = suc s.at } in
           let a : now ≡ u = cc in
           let b : s.world ≡ w = cc in
           let here : ExactAfter l n flow (Some row) (record now { world = s.world }) = record { row = row; is = refl; tells = t } in
@@ -157,7 +157,7 @@ module _ {I : Type 0} {l : LatticeOf I} {n : IntegersOf I} {gamma : I → ℤ �
         if_some_told l n flow _ told s (s.temps k.1) _ d (λ v e d.
         result_told q flow p naming row s r t k.0 few (temp_value l n flow row k.1) v s.world (record { tells = t.temps k.1 v e; near = temp_near row naming s.world.memory k.1 v (r.stands_for.temps k.1 v e); within = r.stands_for.held.within k.1 v e }) refl _ told refl clean)
 
-module _ {I : Type 0} {l : LatticeOf I} {n : IntegersOf I} {gamma : I → ℤ → Type 0} (o : OrderLaws l) (q : BoundLaws l n gamma) (c : SoundLaws l n gamma) (ranges : RangeLaws l n) (exact : ExactLaws n) (flow : Flow) (p : HasPremises flow) (objects : HasObjects flow) (plain : IsPlainProgram flow) (naming : Naming) (row : List (Cell I)) (s : Standing) (r : IsReached l n gamma flow naming row s) (t : ExactState l n flow row (state_of s)) where
+module _ {I : Type 0} {l : LatticeOf I} {n : IntegersOf I} {gamma : I → ℤ → Type 0} (o : OrderLaws l) (q : BoundLaws l n gamma) (c : SoundLaws l n gamma) (ranges : RangeLaws l n) (exact : ExactLaws n) (flow : Flow) (p : HasPremises flow) (objects : HasObjects flow) (plain : IsPlainProgram flow) (naming : Naming) (row : List (Cell I)) (s : ProgramState) (r : IsReached l n gamma flow naming row s) (t : ExactState l n flow row (state_of s)) where
   module _ (kind : declared.Scalar) (kept : Option (ℕ × ℕ)) (to from : ℕ) (v : Scalar) (has : s.temps from ≡ Some v) (fits : fits_operation (names_of flow) (op.Store to from kind None) ≡ true) (keepable : has_kept (names_of flow) kept ≡ true) (of_kind : is_of_kind kind v ≡ true) where
     abbrev x : Pointers I
     x = (temp_value l n flow row to).pointer
@@ -174,7 +174,7 @@ module _ {I : Type 0} {l : LatticeOf I} {n : IntegersOf I} {gamma : I → ℤ �
     abbrev after_at : Class × Bool → Option (List (Cell I))
     after_at cl = store l n flow.model flow.bases.items (touched_at cl).rest cl.0 cl.1 y row
 
-    abbrev ExactAt : Class × Bool → Reply Standing → Type 0
+    abbrev ExactAt : Class × Bool → Reply ProgramState → Type 0
     ExactAt cl reply = IsExact l n flow (moved_behind l n flow kept (after_at cl)) (touched_at cl).violations reply
 
     abbrev pair : Class × Bool
@@ -264,7 +264,7 @@ module _ {I : Type 0} {l : LatticeOf I} {n : IntegersOf I} {gamma : I → ℤ �
             whole : effect.store flow.model kind (pointer at) v s.world ≡ goes v after_store
             whole = rw of_kind (ap (λ z. behind z (store_at flow.model (class_in kind) v)) went ∙ reply_is)
 
-            abbrev now : Standing
+            abbrev now : ProgramState
             now = record s { world = after_store }
 
             act_is : act_step (flow_view flow) (act (op.Store to from kind None)) s ≡ next now

@@ -51,7 +51,7 @@ use Rattle.memory_model.specs.Effects.ScalarBytes.{bits_in}
 use Rattle.memory_model.specs.Effects.Worlds.{Reply, goes, stops, stopped_by, violating, Ended, Violated}
 use Rattle.lower_templates.specs.Worklist.Acts.{act}
 use Rattle.lower_templates.specs.Views.ProgramViews.{flow_view}
-use Rattle.semantics.specs.CfgMachine.FlowStates.{Standing, values_of}
+use Rattle.semantics.specs.CfgMachine.FlowStates.{ProgramState, values_of}
 use Rattle.semantics.specs.CfgMachine.FlowActs.{calling}
 use Rattle.semantics.specs.CfgMachine.FlowSteps.{act_step}
 use Rattle.store_sound.specs.Concretization.SeenLabels.{as_set}
@@ -155,7 +155,7 @@ truth_near : (b : Bool) → IsNearNumber (cond b (pos 1) (pos 0))
 truth_near true = record { from = omega (arith, ints); to = omega (arith, ints) }
 truth_near false = record { from = omega (arith, ints); to = omega (arith, ints) }
 
-module _ {I : Type 0} {l : LatticeOf I} {n : IntegersOf I} {gamma : I → ℤ → Type 0} (q : BoundLaws l n gamma) (x : ExactLaws n) (flow : Flow) (p : HasPremises flow) (naming : Naming) (row : List (Cell I)) (s : Standing) (r : IsReached l n gamma flow naming row s) (t : ExactState l n flow row (state_of s)) where
+module _ {I : Type 0} {l : LatticeOf I} {n : IntegersOf I} {gamma : I → ℤ → Type 0} (q : BoundLaws l n gamma) (x : ExactLaws n) (flow : Flow) (p : HasPremises flow) (naming : Naming) (row : List (Cell I)) (s : ProgramState) (r : IsReached l n gamma flow naming row s) (t : ExactState l n flow row (state_of s)) where
   module _ (to : Option ℕ) (has : has_result (names_of flow) to ≡ true) (newest : Option ℕ) where
     -- what a plan makes of the row is told
     abbrev GoodPlan : Plan I → Reply (Option Scalar) → Type 0

@@ -26,7 +26,7 @@ use Rattle.memory_model.specs.Memory.Scalars.{Scalar, integer, pointer}
 use Rattle.memory_model.specs.Effects.Accesses.{class_in}
 use Rattle.memory_model.specs.Effects.Tests.{object, side_scalar, object_relabelled, is_number, passing, pass_case}
 use Rattle.memory_model.specs.Effects.Worlds.{World, with_memory}
-use Rattle.semantics.specs.CfgMachine.FlowStates.{Standing, with_instance}
+use Rattle.semantics.specs.CfgMachine.FlowStates.{ProgramState, with_instance}
 use Rattle.semantics.specs.CfgMachine.FlowEdges.{in_world, first_signed, integer_in, matching}
 use Rattle.lower_templates.specs.Views.ProgramViews.{flow_view}
 use Rattle.store_sound.specs.Concretization.ValueMeaning.{Naming}
@@ -70,7 +70,7 @@ case_scalar value (Some (pointer p)) h = absurd (true≢false (sym h))
 
 -- ---- the object
 
-module _ {I : Type 0} {l : LatticeOf I} {n : IntegersOf I} {gamma : I → ℤ → Type 0} (o : OrderLaws l) (q : BoundLaws l n gamma) (flow : Flow) (p : HasPremises flow) (naming : Naming) (row : List (Cell I)) (s : Standing) (r : IsReached l n gamma flow naming row s) (st : ExactState l n flow row (state_of s)) where
+module _ {I : Type 0} {l : LatticeOf I} {n : IntegersOf I} {gamma : I → ℤ → Type 0} (o : OrderLaws l) (q : BoundLaws l n gamma) (flow : Flow) (p : HasPremises flow) (naming : Naming) (row : List (Cell I)) (s : ProgramState) (r : IsReached l n gamma flow naming row s) (st : ExactState l n flow row (state_of s)) where
   module _ (b i : ℕ) (kind : IntType) (t : IsScalarObject flow b (of.Int kind)) (en : s.bases b ≡ Some i) (value : ℤ) where
     abbrev memory : Memory
     memory = s.world.memory
@@ -131,7 +131,7 @@ module _ {I : Type 0} {l : LatticeOf I} {n : IntegersOf I} {gamma : I → ℤ �
             record {
               goes_on = λ y u f.
                   let new : World = with_memory s.world after in
-                  let now : Standing = record s { world = new } in
+                  let now : ProgramState = record s { world = new } in
                   let a : now ≡ y = cc in
                   let g : new ≡ u = cc in
                   let there : ExactAfter l n flow (refine_case l n flow b value row) (record now { world = new }) = record { row = case_row; is = is; tells = case_tells k.0 k.1 } in

@@ -33,7 +33,7 @@ use Rattle.lower_templates.specs.Worklist.Acts.{act}
 use Rattle.lower_templates.specs.Worklist.Pieces.{way}
 use Rattle.lower_templates.specs.Views.ProgramViews.{FlowView, EdgeView, flow_view}
 use Rattle.lower_templates.specs.Views.ProgramViews.{edge as edge_view}
-use Rattle.semantics.specs.CfgMachine.FlowStates.{Standing, if_some, stuck_at}
+use Rattle.semantics.specs.CfgMachine.FlowStates.{ProgramState, if_some, stuck_at}
 use Rattle.semantics.specs.CfgMachine.FlowEdges.{same_truth, is_among, is_taken, edge_taken, edges_of, testing, matching, with_put, on_way, at_block, along}
 use Rattle.semantics.specs.CfgMachine.FlowSteps.{block_of, on_edge, switching, act_step}
 use Rattle.store_sound.specs.Concretization.ValueMeaning.{Naming}
@@ -123,7 +123,7 @@ module _ {I : Type 0} {l : LatticeOf I} {n : IntegersOf I} {gamma : I → ℤ �
   same_row : (a b : List (Cell I)) (after : Option (List (Cell I))) → after ≡ Some a → after ≡ Some b → a ≡ b
   same_row a b after e g = let h : Some a ≡ Some b = sym e ∙ g in cc
 
-  put_behind : (kept : Option (ℕ × ℤ)) → fits_taken (names_of flow) kept ≡ true → (after : Option (List (Cell I))) (t : Standing) (w : World) → InGammaAfter l n gamma flow after (record t { world = w }) → ExactAfter l n flow after (record t { world = w }) → ExactAfter l n flow (kept_behind l n flow kept after) (record (with_put kept t) { world = w })
+  put_behind : (kept : Option (ℕ × ℤ)) → fits_taken (names_of flow) kept ≡ true → (after : Option (List (Cell I))) (t : ProgramState) (w : World) → InGammaAfter l n gamma flow after (record t { world = w }) → ExactAfter l n flow after (record t { world = w }) → ExactAfter l n flow (kept_behind l n flow kept after) (record (with_put kept t) { world = w })
   unfolding put_kept
   put_behind None fits after t w sb h = record { row = h.row; is = ap (kept_behind l n flow None) h.is; tells = h.tells }
   put_behind (Some k) fits after t w sb h =
@@ -138,7 +138,7 @@ module _ {I : Type 0} {l : LatticeOf I} {n : IntegersOf I} {gamma : I → ℤ �
             (record { tells = tells_number l n t.bases w.memory (n.one k.1) set.no_labels k.1 no_labels (q.one_bounds k.1) refl; near = is_near k.1 a.1; within = tt });
       }
 
-  kept_told : (kept : Option (ℕ × ℤ)) → fits_taken (names_of flow) kept ≡ true → (after : Option (List (Cell I))) (reply : Reply Standing) → IsStoodFor l n gamma flow after no_violations reply → IsExact l n flow after no_violations reply → IsExact l n flow (kept_behind l n flow kept after) no_violations (behind reply (λ t w. goes (with_put kept t) w))
+  kept_told : (kept : Option (ℕ × ℤ)) → fits_taken (names_of flow) kept ≡ true → (after : Option (List (Cell I))) (reply : Reply ProgramState) → IsStoodFor l n gamma flow after no_violations reply → IsExact l n flow after no_violations reply → IsExact l n flow (kept_behind l n flow kept after) no_violations (behind reply (λ t w. goes (with_put kept t) w))
   kept_told kept fits after (goes t w) st h = record {
     goes_on = λ s u e.
         let a : with_put kept t ≡ s = cc in
@@ -154,7 +154,7 @@ module _ {I : Type 0} {l : LatticeOf I} {n : IntegersOf I} {gamma : I → ℤ �
     violated = none_violated w.violated;
   }
 
-  module _ (naming : Naming) (row : List (Cell I)) (s : Standing) (r : IsReached l n gamma flow naming row s) (t : ExactState l n flow row (state_of s)) where
+  module _ (naming : Naming) (row : List (Cell I)) (s : ProgramState) (r : IsReached l n gamma flow naming row s) (t : ExactState l n flow row (state_of s)) where
     here_told : IsExact l n flow (Some row) no_violations (goes s s.world)
     here_told = record {
       goes_on = λ y u e.
@@ -287,7 +287,7 @@ module _ {I : Type 0} {l : LatticeOf I} {n : IntegersOf I} {gamma : I → ℤ �
           | inl g ↦ absurd (apart.apart number other it e v is at (leaves ∙ sym from) ne taken g)
         ]
 
-        by_reply : (e : EdgeView) (y : IsTakenEdge flow s.block v e (leads o)) (reply : Reply Standing) → IsExact l n flow (follow l n flow row y.it.from y.it.kind) no_violations reply → (u : Standing) (w : World) → behind reply (λ t w. goes (at_block y.it.to t) w) ≡ goes u w → EdgeExact l n gamma flow row o s.block (record u { world = w })
+        by_reply : (e : EdgeView) (y : IsTakenEdge flow s.block v e (leads o)) (reply : Reply ProgramState) → IsExact l n flow (follow l n flow row y.it.from y.it.kind) no_violations reply → (u : ProgramState) (w : World) → behind reply (λ t w. goes (at_block y.it.to t) w) ≡ goes u w → EdgeExact l n gamma flow row o s.block (record u { world = w })
         unfolding edge
         by_reply e y (stops why w) h u z k = cc
         by_reply e y (goes t w) h u z k =
@@ -305,7 +305,7 @@ module _ {I : Type 0} {l : LatticeOf I} {n : IntegersOf I} {gamma : I → ℤ �
             } in
             subst (λ y. EdgeExact l n gamma flow row o s.block (record y { world = z })) a (subst (λ z. EdgeExact l n gamma flow row o s.block (record (at_block y.it.to t) { world = z })) b now)
 
-        by_edge : (e : Option EdgeView) → edge_taken v (edges_of f (block_of f s.block)) ≡ e → IsDefined (along f s e) → (u : Standing) (w : World) → along f s e ≡ goes u w → EdgeExact l n gamma flow row o s.block (record u { world = w })
+        by_edge : (e : Option EdgeView) → edge_taken v (edges_of f (block_of f s.block)) ≡ e → IsDefined (along f s e) → (u : ProgramState) (w : World) → along f s e ≡ goes u w → EdgeExact l n gamma flow row o s.block (record u { world = w })
         by_edge None k d u w g = cc
         by_edge (Some e) k d u w g =
             let own : List Edge = take holder.holder.edges (drop holder.holder.first_edge flow.edges.items) in
@@ -315,7 +315,7 @@ module _ {I : Type 0} {l : LatticeOf I} {n : IntegersOf I} {gamma : I → ℤ �
             let def : IsDefined (along f s (Some (edge_view y.it))) = subst (λ z. IsDefined (along f s (Some z))) (sym y.same) d in
             by_reply e y (on_way f s (way y.it.kind)) (way_on y.number y.it y.is y.leaves (to_way y.it.kind y.fits) taken (defined_first (on_way f s (way y.it.kind)) _ def)) u w (ap (λ z. along f s (Some z)) y.same ∙ g)
 
-        edge_tells : IsDefined (on_edge f s v) → (u : Standing) (w : World) → on_edge f s v ≡ goes u w → EdgeExact l n gamma flow row o s.block (record u { world = w })
+        edge_tells : IsDefined (on_edge f s v) → (u : ProgramState) (w : World) → on_edge f s v ≡ goes u w → EdgeExact l n gamma flow row o s.block (record u { world = w })
         edge_tells d u w g = by_edge (edge_taken v (edges_of f (block_of f s.block))) refl d u w g
 
       -- ---- the instructions
@@ -323,7 +323,7 @@ module _ {I : Type 0} {l : LatticeOf I} {n : IntegersOf I} {gamma : I → ℤ �
       branch_told : (u : ℕ) (scalar : _) → i.operation ≡ op.Branch u scalar → IsDefined (act_step f (act (op.Branch u scalar)) s) → EdgeIsExact l n gamma flow row (op.Branch u scalar) s
       branch_told u scalar same d = record { goes_on = λ y w g. by_temp (s.temps u) refl y w g }
         where
-          by_temp : (v : Option Scalar) → s.temps u ≡ v → (y : Standing) (w : World) → if_some s (s.temps u) (on_edge f s) ≡ goes y w → EdgeExact l n gamma flow row (op.Branch u scalar) s.block (record y { world = w })
+          by_temp : (v : Option Scalar) → s.temps u ≡ v → (y : ProgramState) (w : World) → if_some s (s.temps u) (on_edge f s) ≡ goes y w → EdgeExact l n gamma flow row (op.Branch u scalar) s.block (record y { world = w })
           by_temp None e y w g = let h : stuck_at s ≡ goes y w = ap (λ z. if_some s z (on_edge f s)) (sym e) ∙ g in cc
           by_temp (Some v) e y w g =
               edge_tells (op.Branch u scalar) same (λ z. cc) (lead_branch u scalar) v
@@ -334,7 +334,7 @@ module _ {I : Type 0} {l : LatticeOf I} {n : IntegersOf I} {gamma : I → ℤ �
       switch_told : (u : ℕ) (type : _) → i.operation ≡ op.Switch u type → IsDefined (act_step f (act (op.Switch u type)) s) → EdgeIsExact l n gamma flow row (op.Switch u type) s
       switch_told u type same d = record { goes_on = λ y w g. by_temp (s.temps u) refl y w g }
         where
-          by_temp : (v : Option Scalar) → s.temps u ≡ v → (y : Standing) (w : World) → if_some s (s.temps u) (switching f s) ≡ goes y w → EdgeExact l n gamma flow row (op.Switch u type) s.block (record y { world = w })
+          by_temp : (v : Option Scalar) → s.temps u ≡ v → (y : ProgramState) (w : World) → if_some s (s.temps u) (switching f s) ≡ goes y w → EdgeExact l n gamma flow row (op.Switch u type) s.block (record y { world = w })
           by_temp None e y w g = let h : stuck_at s ≡ goes y w = ap (λ z. if_some s z (switching f s)) (sym e) ∙ g in cc
           by_temp (Some (pointer at)) e y w g = let h : stuck_at s ≡ goes y w = ap (λ z. if_some s z (switching f s)) (sym e) ∙ g in cc
           by_temp (Some (integer z la)) e y w g =

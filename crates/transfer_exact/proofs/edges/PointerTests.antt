@@ -13,7 +13,7 @@ use Rattle.transfer_checks.specs.ViolationSets.{no_violations}
 use Rattle.memory_model.specs.Effects.Tests as machine
 use Rattle.memory_model.specs.Effects.Tests.{TestedSide, object, constant, nothing, test_holds, passing}
 use Rattle.memory_model.specs.Effects.Worlds.{World, Reply, with_memory}
-use Rattle.semantics.specs.CfgMachine.FlowStates.{Standing}
+use Rattle.semantics.specs.CfgMachine.FlowStates.{ProgramState}
 use Rattle.semantics.specs.CfgMachine.FlowEdges.{with_side, in_world, testing}
 use Rattle.lower_templates.specs.Views.ProgramViews.{flow_view}
 use Rattle.store_sound.specs.Concretization.Coverage.{state_of}
@@ -23,8 +23,8 @@ use Rattle.transfer_exact.specs.Values.SingleSteps.{IsDefined, ExactAfter, IsExa
 use Rattle.transfer_exact.proofs.values.Told.{if_some_told}
 use Rattle.transfer_exact.proofs.values.Violated.{none_violated}
 
-module _ {I : Type 0} (l : LatticeOf I) (n : IntegersOf I) (flow : Flow) (row : List (Cell I)) (s : Standing) (t : ExactState l n flow row (state_of s)) where
-  any_side_told : (after : Option (List (Cell I))) (x : Side) (use_it : TestedSide → Reply Standing) → IsDefined (with_side s x use_it) → ((ts : TestedSide) → IsDefined (use_it ts) → IsExact l n flow after no_violations (use_it ts)) → IsExact l n flow after no_violations (with_side s x use_it)
+module _ {I : Type 0} (l : LatticeOf I) (n : IntegersOf I) (flow : Flow) (row : List (Cell I)) (s : ProgramState) (t : ExactState l n flow row (state_of s)) where
+  any_side_told : (after : Option (List (Cell I))) (x : Side) (use_it : TestedSide → Reply ProgramState) → IsDefined (with_side s x use_it) → ((ts : TestedSide) → IsDefined (use_it ts) → IsExact l n flow after no_violations (use_it ts)) → IsExact l n flow after no_violations (with_side s x use_it)
   any_side_told after (side.Object b kind) use_it d h = if_some_told l n flow after no_violations s (s.bases b) (λ i. use_it (object i kind)) d (λ i e d. h (object i kind) d)
   any_side_told after (side.Number z) use_it d h = h (constant z) d
   any_side_told after side.Null use_it d h = h nothing d
@@ -34,7 +34,7 @@ module _ {I : Type 0} (l : LatticeOf I) (n : IntegersOf I) (flow : Flow) (row : 
   stays_told after is true d = record {
     goes_on = λ u w f.
         let new : World = with_memory s.world s.world.memory in
-        let now : Standing = record s { world = new } in
+        let now : ProgramState = record s { world = new } in
         let a : now ≡ u = cc in
         let e : new ≡ w = cc in
         let there : ExactAfter l n flow after (record now { world = new }) = record { row = row; is = is; tells = t } in
@@ -44,7 +44,7 @@ module _ {I : Type 0} (l : LatticeOf I) (n : IntegersOf I) (flow : Flow) (row : 
   }
 
   -- the run goes on where the test in a common type, or in none, agrees with memory
-  abbrev asked : Test → Option IntType → Reply Standing
+  abbrev asked : Test → Option IntType → Reply ProgramState
   asked test z = with_side s test.left (λ left. with_side s test.right (λ right. in_world s (machine.pass_test flow.model (record { left = left; rel = test.rel; right = right; common = z }) s.world)))
 
   pub pointer_test_told : (test : Test) → IsPointerTest test → IsDefined (testing (flow_view flow) s (Some test)) → IsExact l n flow (refine l n flow test row) no_violations (testing (flow_view flow) s (Some test))

@@ -31,7 +31,7 @@ use Rattle.memory_model.specs.Effects.Worlds.{World}
 use Rattle.lower_templates.specs.Worklist.Acts.{act}
 use Rattle.lower_templates.specs.Views.ProgramViews.{flow_view}
 use Rattle.semantics.specs.CfgMachine.FlowActs.{enter, entering}
-use Rattle.semantics.specs.CfgMachine.FlowStates.{Standing}
+use Rattle.semantics.specs.CfgMachine.FlowStates.{ProgramState}
 use Rattle.semantics.specs.CfgMachine.FlowSteps.{act_step}
 use Rattle.store_sound.specs.Concretization.Coverage.{state_of}
 use Rattle.store_sound.specs.Concretization.Matching.{Fits, Matched}
@@ -117,7 +117,7 @@ module _ {I : Type 0} (n : IntegersOf I) (old : Memory) (it : Instance) (names :
 
 -- ---- the state
 
-module _ {I : Type 0} {l : LatticeOf I} {n : IntegersOf I} {gamma : I → ℤ → Type 0} (q : BoundLaws l n gamma) (flow : Flow) (p : HasPremises flow) (objects : HasObjects flow) (plain : IsPlainProgram flow) (naming : Naming) (row : List (Cell I)) (s : Standing) (r : IsReached l n gamma flow naming row s) (t : ExactState l n flow row (state_of s)) where
+module _ {I : Type 0} {l : LatticeOf I} {n : IntegersOf I} {gamma : I → ℤ → Type 0} (q : BoundLaws l n gamma) (flow : Flow) (p : HasPremises flow) (objects : HasObjects flow) (plain : IsPlainProgram flow) (naming : Naming) (row : List (Cell I)) (s : ProgramState) (r : IsReached l n gamma flow naming row s) (t : ExactState l n flow row (state_of s)) where
   module _ (b : ℕ) (info : BaseInfo) (at : slice_get flow.bases.items b ≡ Some info) (free : s.bases b ≡ None) (declared : info.shape.heap ≡ false) where
     abbrev memory : Memory
     memory = s.world.memory
@@ -205,7 +205,7 @@ module _ {I : Type 0} {l : LatticeOf I} {n : IntegersOf I} {gamma : I → ℤ �
     abbrev behind_world : World
     behind_world = entered flow.model info.shape.cells info.size s.world
 
-    abbrev now : Standing
+    abbrev now : ProgramState
     now = record s { at = suc s.at; bases = put_at s.bases b (next_instance s.world); world = behind_world }
 
     abbrev behind_it : Option (List (Cell I))

@@ -24,7 +24,7 @@ use Rattle.memory_model.specs.Effects.ObjectEffects.{set_life, left}
 use Rattle.memory_model.specs.Effects.Worlds.{World}
 use Rattle.lower_templates.specs.Worklist.Acts.{act}
 use Rattle.lower_templates.specs.Views.ProgramViews.{flow_view}
-use Rattle.semantics.specs.CfgMachine.FlowStates.{Standing}
+use Rattle.semantics.specs.CfgMachine.FlowStates.{ProgramState}
 use Rattle.semantics.specs.CfgMachine.FlowSteps.{act_step}
 use Rattle.store_sound.specs.Concretization.Coverage.{state_of}
 use Rattle.store_sound.specs.Concretization.Places.{IsPlaceOf}
@@ -49,7 +49,7 @@ use Rattle.transfer_exact.proofs.objects.LeftRows.{small, value_left}
 clear_other : {A : Type 0} (f : ℕ → Option A) (b d : ℕ) (x : A) → clear_at f b d ≡ Some x → (d ≡ b → ⊥) × (f d ≡ Some x)
 clear_other f b d x e = grind arith
 
-module _ {I : Type 0} {l : LatticeOf I} {n : IntegersOf I} {gamma : I → ℤ → Type 0} (flow : Flow) (p : HasPremises flow) (plain : IsPlainProgram flow) (naming : Naming) (row : List (Cell I)) (s : Standing) (r : IsReached l n gamma flow naming row s) (t : ExactState l n flow row (state_of s)) where
+module _ {I : Type 0} {l : LatticeOf I} {n : IntegersOf I} {gamma : I → ℤ → Type 0} (flow : Flow) (p : HasPremises flow) (plain : IsPlainProgram flow) (naming : Naming) (row : List (Cell I)) (s : ProgramState) (r : IsReached l n gamma flow naming row s) (t : ExactState l n flow row (state_of s)) where
   module _ (b i : ℕ) (info : BaseInfo) (at : slice_get flow.bases.items b ≡ Some info) (entered : s.bases b ≡ Some i) (declared : info.shape.heap ≡ false) where
     abbrev memory : Memory
     memory = s.world.memory
@@ -112,7 +112,7 @@ module _ {I : Type 0} {l : LatticeOf I} {n : IntegersOf I} {gamma : I → ℤ �
       if_some_told l n flow _ no_violations s (s.bases b) _ d (λ i e d. record {
         goes_on = λ x u f.
             let w : World = left i s.world in
-            let now : Standing = record s { at = suc s.at; bases = clear_at s.bases b; world = w } in
+            let now : ProgramState = record s { at = suc s.at; bases = clear_at s.bases b; world = w } in
             let a : now ≡ x = cc in
             let c : w ≡ u = cc in
             let here : ExactAfter l n flow (Some (at_base (leave_object l b) (slice_get flow.bases.items b) row)) (record now { world = w }) = record {

@@ -21,7 +21,7 @@ use Rattle.memory_model.specs.Memory.Scalars.{pointer}
 use Rattle.memory_model.specs.Effects.Worlds.{goes}
 use Rattle.lower_templates.specs.Worklist.Acts.{act}
 use Rattle.lower_templates.specs.Views.ProgramViews.{flow_view}
-use Rattle.semantics.specs.CfgMachine.FlowStates.{Standing, size_in}
+use Rattle.semantics.specs.CfgMachine.FlowStates.{ProgramState, size_in}
 use Rattle.semantics.specs.CfgMachine.FlowActs.{giving}
 use Rattle.semantics.specs.CfgMachine.FlowSteps.{act_step}
 use Rattle.store_sound.specs.Concretization.ValueMeaning.{Naming}
@@ -58,7 +58,7 @@ module _ {I : Type 0} {l : LatticeOf I} {n : IntegersOf I} {gamma : I → ℤ �
   pub one_is : (a z : ℤ) → a ≡ z → IsOne n (n.one a) z
   one_is a z e = subst (IsOne n (n.one a)) e (q.one_bounds a)
 
-  module _ (flow : Flow) (p : HasPremises flow) (naming : Naming) (row : List (Cell I)) (s : Standing) (r : IsReached l n gamma flow naming row s) (t : ExactState l n flow row (state_of s)) where
+  module _ (flow : Flow) (p : HasPremises flow) (naming : Naming) (row : List (Cell I)) (s : ProgramState) (r : IsReached l n gamma flow naming row s) (t : ExactState l n flow row (state_of s)) where
     address_into : (b i offset : ℕ) (info : BaseInfo) → slice_get flow.bases.items b ≡ Some info → s.bases b ≡ Some i → IsIntoOne n s.bases (address_of n b offset info.size) i offset 0 info.size
     address_into b i offset info e k = record {
       base = b;

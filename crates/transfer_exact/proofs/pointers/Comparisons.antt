@@ -56,7 +56,7 @@ use Rattle.memory_model.specs.Effects.Touches.{is_allocated}
 use Rattle.memory_model.specs.Effects.Worlds.{Reply, goes, unless, stopped_by}
 use Rattle.lower_templates.specs.Worklist.Acts.{act}
 use Rattle.lower_templates.specs.Views.ProgramViews.{flow_view}
-use Rattle.semantics.specs.CfgMachine.FlowStates.{Standing}
+use Rattle.semantics.specs.CfgMachine.FlowStates.{ProgramState}
 use Rattle.semantics.specs.CfgMachine.FlowActs.{giving}
 use Rattle.semantics.specs.CfgMachine.FlowSteps.{act_step}
 use Rattle.store_sound.specs.Concretization.ValueMeaning.{Naming}
@@ -148,7 +148,7 @@ ranges_met a b = both_ways (pos a) (pos b) ∙ same_numbers a b
 ranges_one : (a b : ℕ) → ranges_same_one (Some (pos a, pos a)) (Some (pos b, pos b)) ≡ (a == b)
 ranges_one a b = ap₂ (λ x y. x && (y && int_eq (pos a) (pos b))) (some_same (pos a)) (some_same (pos b)) ∙ same_numbers a b
 
-module _ {I : Type 0} {l : LatticeOf I} {n : IntegersOf I} {gamma : I → ℤ → Type 0} (q : BoundLaws l n gamma) (ex : ExactLaws n) (flow : Flow) (p : HasPremises flow) (plain : IsPlainProgram flow) (naming : Naming) (row : List (Cell I)) (s : Standing) (r : IsReached l n gamma flow naming row s) (t : ExactState l n flow row (state_of s)) where
+module _ {I : Type 0} {l : LatticeOf I} {n : IntegersOf I} {gamma : I → ℤ → Type 0} (q : BoundLaws l n gamma) (ex : ExactLaws n) (flow : Flow) (p : HasPremises flow) (plain : IsPlainProgram flow) (naming : Naming) (row : List (Cell I)) (s : ProgramState) (r : IsReached l n gamma flow naming row s) (t : ExactState l n flow row (state_of s)) where
   abbrev single : Bases
   single = single_bases flow.bases.items
 

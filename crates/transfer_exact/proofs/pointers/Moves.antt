@@ -43,7 +43,7 @@ use Rattle.memory_model.specs.Effects.PointerEffects.{is_ended_life, distance_of
 use Rattle.memory_model.specs.Effects.Worlds.{World, Reply, goes, noted, unless, stopped_by}
 use Rattle.lower_templates.specs.Worklist.Acts.{act}
 use Rattle.lower_templates.specs.Views.ProgramViews.{flow_view}
-use Rattle.semantics.specs.CfgMachine.FlowStates.{Standing}
+use Rattle.semantics.specs.CfgMachine.FlowStates.{ProgramState}
 use Rattle.semantics.specs.CfgMachine.FlowActs.{giving, with_amount}
 use Rattle.semantics.specs.CfgMachine.FlowSteps.{act_step}
 use Rattle.store_sound.specs.Concretization.SeenLabels.{as_set}
@@ -100,14 +100,14 @@ noted_there : (before : List Rule) (b : Bool) (r : Rule) → b ≡ true → Cont
 noted_there before true r e = behind_there before (r ∷ []) r (one_there r)
 noted_there before false r e = cc
 
-module _ {I : Type 0} {l : LatticeOf I} {n : IntegersOf I} {gamma : I → ℤ → Type 0} (q : BoundLaws l n gamma) (flow : Flow) (p : HasPremises flow) (naming : Naming) (row : List (Cell I)) (s : Standing) (r : IsReached l n gamma flow naming row s) (t : ExactState l n flow row (state_of s)) where
+module _ {I : Type 0} {l : LatticeOf I} {n : IntegersOf I} {gamma : I → ℤ → Type 0} (q : BoundLaws l n gamma) (flow : Flow) (p : HasPremises flow) (naming : Naming) (row : List (Cell I)) (s : ProgramState) (r : IsReached l n gamma flow naming row s) (t : ExactState l n flow row (state_of s)) where
   -- ---- amounts
 
   near_temp : (u : ℕ) (z : ℤ) → gamma (temp_value l n flow row u).num z → IsNearNumber z
   unfolding value_at
   near_temp u z h = near_has q _ z h
 
-  amount_told : (after : Option (List (Cell I))) (w : Violations) (by : Amount) (use_it : Scalar → Reply Standing) → IsDefined (with_amount s by use_it) → ((v : Scalar) → ExactScalar n s.bases s.world.memory (amount_value l n flow row by) v → ((z : ℤ) (la : Labels) → v ≡ integer z la → IsNearNumber z) → IsDefined (use_it v) → IsExact l n flow after w (use_it v)) → IsExact l n flow after w (with_amount s by use_it)
+  amount_told : (after : Option (List (Cell I))) (w : Violations) (by : Amount) (use_it : Scalar → Reply ProgramState) → IsDefined (with_amount s by use_it) → ((v : Scalar) → ExactScalar n s.bases s.world.memory (amount_value l n flow row by) v → ((z : ℤ) (la : Labels) → v ≡ integer z la → IsNearNumber z) → IsDefined (use_it v) → IsExact l n flow after w (use_it v)) → IsExact l n flow after w (with_amount s by use_it)
   amount_told after w (amount.Temp u) use_it d h = if_some_told l n flow after w s (s.temps u) use_it d (λ v e d. h v (t.temps u v e) (λ z la g. near_temp u z (subst (InGammaScalar gamma naming s.world.memory (temp_value l n flow row u)) g (r.stands_for.temps u v e)).0) d)
   amount_told after w amount.One use_it d h =
       let near : IsNearNumber (pos 1) = record { from = omega (arith, ints); to = omega (arith, ints) } in

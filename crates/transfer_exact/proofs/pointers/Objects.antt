@@ -10,14 +10,14 @@ use Rattle.cfg.specs.declared.programs.Flow.{Flow}
 use Rattle.store_objects.specs.LiveBases.{most_bases}
 use Rattle.value_domain.specs.declared.values.row_cells.Cell.{Cell}
 use Rattle.memory_model.specs.Memory.Instances.{live, bytes_at, bytes_of, life_at}
-use Rattle.semantics.specs.CfgMachine.FlowStates.{Standing}
+use Rattle.semantics.specs.CfgMachine.FlowStates.{ProgramState}
 use Rattle.store_sound.specs.Concretization.ValueMeaning.{Naming}
 use Rattle.store_sound.proofs.operations.LoadSound.{instance_there}
 use Rattle.store_sound.specs.Programs.Premises.{HasPremises}
 use Rattle.transfer_sound.specs.Values.SoundSteps.{IsReached}
 use Rattle.transfer_sound.proofs.values.PartSteps.{declared_storage}
 
-module _ {I : Type 0} {l : LatticeOf I} {n : IntegersOf I} {gamma : I → ℤ → Type 0} (flow : Flow) (p : HasPremises flow) (naming : Naming) (row : List (Cell I)) (s : Standing) (r : IsReached l n gamma flow naming row s) where
+module _ {I : Type 0} {l : LatticeOf I} {n : IntegersOf I} {gamma : I → ℤ → Type 0} (flow : Flow) (p : HasPremises flow) (naming : Naming) (row : List (Cell I)) (s : ProgramState) (r : IsReached l n gamma flow naming row s) where
   -- the instance that a base names
   pub record IsObject (b i : ℕ) (info : BaseInfo) : Type 0 where
     pub alive : life_at s.world.memory i ≡ live

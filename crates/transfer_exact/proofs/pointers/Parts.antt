@@ -37,7 +37,7 @@ use Rattle.memory_model.specs.Effects.Operands.{as_pointer}
 use Rattle.memory_model.specs.Effects.Worlds.{behind, goes, stopped_by}
 use Rattle.lower_templates.specs.Worklist.Acts.{act}
 use Rattle.lower_templates.specs.Views.ProgramViews.{flow_view}
-use Rattle.semantics.specs.CfgMachine.FlowStates.{Standing}
+use Rattle.semantics.specs.CfgMachine.FlowStates.{ProgramState}
 use Rattle.semantics.specs.CfgMachine.FlowActs.{giving}
 use Rattle.semantics.specs.CfgMachine.FlowSteps.{act_step}
 use Rattle.store_sound.specs.Concretization.ValueMeaning.{Naming}
@@ -73,7 +73,7 @@ within_is a b c h k = grind (arith, ints)
 too_far : (z c : ℤ) → (c +ℤ pos 1) ≤ℤ z → (int_le (pos 0) z && int_le z c) ≡ false
 too_far z c h = grind (arith, ints)
 
-module _ {I : Type 0} {l : LatticeOf I} {n : IntegersOf I} {gamma : I → ℤ → Type 0} (q : BoundLaws l n gamma) (flow : Flow) (p : HasPremises flow) (plain : IsPlainProgram flow) (naming : Naming) (row : List (Cell I)) (s : Standing) (r : IsReached l n gamma flow naming row s) (t : ExactState l n flow row (state_of s)) (x : Pointers I) (from size : ℕ) where
+module _ {I : Type 0} {l : LatticeOf I} {n : IntegersOf I} {gamma : I → ℤ → Type 0} (q : BoundLaws l n gamma) (flow : Flow) (p : HasPremises flow) (plain : IsPlainProgram flow) (naming : Naming) (row : List (Cell I)) (s : ProgramState) (r : IsReached l n gamma flow naming row s) (t : ExactState l n flow row (state_of s)) (x : Pointers I) (from size : ℕ) where
   abbrev bases : List BaseInfo
   bases = flow.bases.items
 
@@ -208,7 +208,7 @@ module _ {I : Type 0} {l : LatticeOf I} {n : IntegersOf I} {gamma : I → ℤ �
     part_good null st inside = nowhere_good true false refl st
     part_good (into i offset lo hi) st inside = life_good (life_at s.world.memory i) i offset lo hi refl st inside
 
-module _ {I : Type 0} {l : LatticeOf I} {n : IntegersOf I} {gamma : I → ℤ → Type 0} (q : BoundLaws l n gamma) (flow : Flow) (p : HasPremises flow) (plain : IsPlainProgram flow) (naming : Naming) (row : List (Cell I)) (s : Standing) (r : IsReached l n gamma flow naming row s) (t : ExactState l n flow row (state_of s)) where
+module _ {I : Type 0} {l : LatticeOf I} {n : IntegersOf I} {gamma : I → ℤ → Type 0} (q : BoundLaws l n gamma) (flow : Flow) (p : HasPremises flow) (plain : IsPlainProgram flow) (naming : Naming) (row : List (Cell I)) (s : ProgramState) (r : IsReached l n gamma flow naming row s) (t : ExactState l n flow row (state_of s)) where
   pub narrow_told : (to from offset size : ℕ) → fits_operation (names_of flow) (op.Narrow to from offset size) ≡ true → IsDefined (act_step (flow_view flow) (act (op.Narrow to from offset size)) s) → StepIsExact l n flow row (op.Narrow to from offset size) s
   unfolding operate narrow_step narrow_touched operation_violations
   narrow_told to from offset size fits d =

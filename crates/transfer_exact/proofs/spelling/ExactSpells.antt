@@ -26,7 +26,7 @@ use Rattle.memory_model.specs.Effects.Touches.{set_bytes}
 use Rattle.memory_model.specs.Effects.Worlds.{World}
 use Rattle.lower_templates.specs.Worklist.Acts.{act}
 use Rattle.lower_templates.specs.Views.ProgramViews.{flow_view}
-use Rattle.semantics.specs.CfgMachine.FlowStates.{Standing}
+use Rattle.semantics.specs.CfgMachine.FlowStates.{ProgramState}
 use Rattle.semantics.specs.CfgMachine.FlowSteps.{act_step}
 use Rattle.store_sound.specs.Concretization.Coverage.{state_of}
 use Rattle.store_sound.specs.Concretization.RowMeaning.{MachineState}
@@ -51,7 +51,7 @@ use Rattle.transfer_exact.specs.Spelling.CopyLaws.{IsSpelled}
 use Rattle.transfer_exact.proofs.spelling.SpelledRows.{spelled_within}
 use Rattle.transfer_exact.proofs.spelling.SpelledLeaves.{written, spelled_leaves}
 
-module _ {I : Type 0} {l : LatticeOf I} {n : IntegersOf I} {gamma : I → ℤ → Type 0} (q : BoundLaws l n gamma) (flow : Flow) (p : HasPremises flow) (objects : HasObjects flow) (plain : IsPlainProgram flow) (naming : Naming) (row : List (Cell I)) (s : Standing) (r : IsReached l n gamma flow naming row s) (t : ExactState l n flow row (state_of s)) where
+module _ {I : Type 0} {l : LatticeOf I} {n : IntegersOf I} {gamma : I → ℤ → Type 0} (q : BoundLaws l n gamma) (flow : Flow) (p : HasPremises flow) (objects : HasObjects flow) (plain : IsPlainProgram flow) (naming : Naming) (row : List (Cell I)) (s : ProgramState) (r : IsReached l n gamma flow naming row s) (t : ExactState l n flow row (state_of s)) where
   module _ (b i offset room : ℕ) (text : List ℕ) (info : BaseInfo) (at : slice_get flow.bases.items b ≡ Some info) (entered : s.bases b ≡ Some i) (declared : info.shape.heap ≡ false) (fitting : has_room offset room (Some info) ≡ true) (h : SpellsBytes flow b offset room text) where
     named : naming i ≡ Some b
     named = r.stands_for.lives.named b i entered
@@ -113,7 +113,7 @@ module _ {I : Type 0} {l : LatticeOf I} {n : IntegersOf I} {gamma : I → ℤ �
         if_some_told l n flow _ no_violations s (s.bases b) _ d (λ i e d. record {
           goes_on = λ t u f.
               let w : World = spelled i offset room text s.world in
-              let now : Standing = record s { at = suc s.at; world = w } in
+              let now : ProgramState = record s { at = suc s.at; world = w } in
               let a : now ≡ t = cc in
               let c : w ≡ u = cc in
               let here : ExactAfter l n flow (Some (row_behind (slice_get flow.bases.items b))) (record now { world = w }) = record {

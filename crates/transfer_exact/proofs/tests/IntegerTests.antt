@@ -27,7 +27,7 @@ use Rattle.memory_model.specs.Memory.Scalars.{integer}
 use Rattle.memory_model.specs.Effects.Tests as machine
 use Rattle.memory_model.specs.Effects.Tests.{TestedSide, SideTest, object, side_scalar, side_labels, test_holds, bounded, after_test, passing}
 use Rattle.memory_model.specs.Effects.Worlds.{World, Reply, with_memory}
-use Rattle.semantics.specs.CfgMachine.FlowStates.{Standing}
+use Rattle.semantics.specs.CfgMachine.FlowStates.{ProgramState}
 use Rattle.semantics.specs.CfgMachine.FlowEdges.{with_side, in_world, testing}
 use Rattle.lower_templates.specs.Views.ProgramViews.{flow_view}
 use Rattle.store_sound.specs.Concretization.Coverage.{state_of}
@@ -98,7 +98,7 @@ own_exact rel k la = labels_exact rel k la la ∙ ap as_set (own_change rel k la
 one_some : {I : Type 0} (n : IntegersOf I) (x : I) (a : ℤ) → IsOne n x a → is_some (n.bounds x) ≡ true
 one_some n x a e = ap is_some e
 
-module _ {I : Type 0} {l : LatticeOf I} {n : IntegersOf I} {gamma : I → ℤ → Type 0} (o : OrderLaws l) (q : BoundLaws l n gamma) (c : SoundLaws l n gamma) (exact : ExactLaws n) (flow : Flow) (p : HasPremises flow) (naming : Naming) (row : List (Cell I)) (s : Standing) (r : IsReached l n gamma flow naming row s) (st : ExactState l n flow row (state_of s)) where
+module _ {I : Type 0} {l : LatticeOf I} {n : IntegersOf I} {gamma : I → ℤ → Type 0} (o : OrderLaws l) (q : BoundLaws l n gamma) (c : SoundLaws l n gamma) (exact : ExactLaws n) (flow : Flow) (p : HasPremises flow) (naming : Naming) (row : List (Cell I)) (s : ProgramState) (r : IsReached l n gamma flow naming row s) (st : ExactState l n flow row (state_of s)) where
   abbrev memory : Memory
   memory = s.world.memory
 
@@ -109,7 +109,7 @@ module _ {I : Type 0} {l : LatticeOf I} {n : IntegersOf I} {gamma : I → ℤ �
   passing_told goal after true h d = record {
     goes_on = λ y u f.
         let new : World = with_memory s.world after in
-        let now : Standing = record s { world = new } in
+        let now : ProgramState = record s { world = new } in
         let a : now ≡ y = cc in
         let g : new ≡ u = cc in
         subst (λ z. ExactAfter l n flow goal (record z { world = u })) a (subst (λ z. ExactAfter l n flow goal (record now { world = z })) g (h refl));
@@ -117,7 +117,7 @@ module _ {I : Type 0} {l : LatticeOf I} {n : IntegersOf I} {gamma : I → ℤ �
     violated = none_violated s.world.violated;
   }
 
-  side_told : (goal : Option (List (Cell I))) (x : Side) → NamesScalar flow x → (use_it : TestedSide → Reply Standing) → IsDefined (with_side s x use_it) → ((i : ℕ) → IsSeen flow s.bases x i → IsDefined (use_it (tested x i)) → IsExact l n flow goal no_violations (use_it (tested x i))) → IsExact l n flow goal no_violations (with_side s x use_it)
+  side_told : (goal : Option (List (Cell I))) (x : Side) → NamesScalar flow x → (use_it : TestedSide → Reply ProgramState) → IsDefined (with_side s x use_it) → ((i : ℕ) → IsSeen flow s.bases x i → IsDefined (use_it (tested x i)) → IsExact l n flow goal no_violations (use_it (tested x i))) → IsExact l n flow goal no_violations (with_side s x use_it)
   side_told goal (side.Object b kind) t use_it d h = if_some_told l n flow goal no_violations s (s.bases b) (λ i. use_it (object i kind)) d (λ i e d. h i (t, e) d)
   side_told goal (side.Number z) t use_it d h = h 0 t d
   side_told goal side.Null t use_it d h = h 0 tt d
@@ -339,10 +339,10 @@ module _ {I : Type 0} {l : LatticeOf I} {n : IntegersOf I} {gamma : I → ℤ �
     abbrev refined_row : Side → Side → Option (List (Cell I))
     refined_row x y = refine_in l n flow (record test { left = x; right = y }) (Some k) row
 
-    abbrev behind_test : TestedSide → TestedSide → Reply Standing
+    abbrev behind_test : TestedSide → TestedSide → Reply ProgramState
     behind_test x y = in_world s (machine.pass_test flow.model (record { left = x; rel = test.rel; right = y; common = Some k }) s.world)
 
-    abbrev asked : Side → Side → Reply Standing
+    abbrev asked : Side → Side → Reply ProgramState
     asked x y = with_side s x (λ left. with_side s y (λ right. behind_test left right))
 
     own_told : (b i : ℕ) (kl kr : declared.Scalar) (left : IsScalarObject flow b kl) (right : IsScalarObject flow b kr) → s.bases b ≡ Some i → IsDefined (behind_test (object i kl) (object i kr)) → IsExact l n flow (refined_row (side.Object b kl) (side.Object b kr)) no_violations (behind_test (object i kl) (object i kr))

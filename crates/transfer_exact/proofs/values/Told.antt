@@ -14,7 +14,7 @@ use Rattle.memory_model.specs.Memory.Scalars.{Scalar, integer, pointer}
 use Rattle.memory_model.specs.Effects.NumberedTables.{put_at}
 use Rattle.memory_model.specs.Effects.Worlds.{World, Why, Reply, goes, stops}
 use Rattle.memory_model.specs.Effects.Operands.{with_number, with_pointer}
-use Rattle.semantics.specs.CfgMachine.FlowStates.{Standing, if_some}
+use Rattle.semantics.specs.CfgMachine.FlowStates.{ProgramState, if_some}
 use Rattle.semantics.specs.CfgMachine.FlowActs.{giving}
 use Rattle.store_sound.specs.Concretization.ValueMeaning.{Naming}
 use Rattle.store_sound.specs.Concretization.Coverage.{state_of}
@@ -26,30 +26,30 @@ use Rattle.transfer_exact.proofs.values.Violated.{AreViolated}
 use Rattle.transfer_exact.proofs.values.PutExact.{IsExactResult, put_tells}
 
 module _ {I : Type 0} (l : LatticeOf I) (n : IntegersOf I) (flow : Flow) (after : Option (List (Cell I))) (admitted : Violations) where
-  abbrev Told : Reply Standing → Type 0
+  abbrev Told : Reply ProgramState → Type 0
   Told reply = IsExact l n flow after admitted reply
 
   -- where the run stops there is no row
   pub stop_told : (why : Why) (w : World) → after ≡ None → AreViolated admitted w.violated → Told (stops why w)
   stop_told why w e h = record { goes_on = λ s u f. cc; ends = λ y u f. e; violated = h }
 
-  pub if_some_told : {A : Type 0} (s : Standing) (o : Option A) (use_it : A → Reply Standing) → IsDefined (if_some s o use_it) → ((x : A) → o ≡ Some x → IsDefined (use_it x) → Told (use_it x)) → Told (if_some s o use_it)
+  pub if_some_told : {A : Type 0} (s : ProgramState) (o : Option A) (use_it : A → Reply ProgramState) → IsDefined (if_some s o use_it) → ((x : A) → o ≡ Some x → IsDefined (use_it x) → Told (use_it x)) → Told (if_some s o use_it)
   if_some_told s None use_it d h = absurd (d s.world refl)
   if_some_told s (Some x) use_it d h = h x refl d
 
   -- ---- operands
 
-  pub number_told : (s : Standing) (to : ℕ) (v : Scalar) (w : World) (use_it : ℤ → Labels → World → Reply Scalar) → IsDefined (giving s to (with_number v w use_it)) → ((z : ℤ) (labels : Labels) → v ≡ integer z labels → IsDefined (giving s to (use_it z labels w)) → Told (giving s to (use_it z labels w))) → Told (giving s to (with_number v w use_it))
+  pub number_told : (s : ProgramState) (to : ℕ) (v : Scalar) (w : World) (use_it : ℤ → Labels → World → Reply Scalar) → IsDefined (giving s to (with_number v w use_it)) → ((z : ℤ) (labels : Labels) → v ≡ integer z labels → IsDefined (giving s to (use_it z labels w)) → Told (giving s to (use_it z labels w))) → Told (giving s to (with_number v w use_it))
   number_told s to (integer z labels) w use_it d h = h z labels refl d
   number_told s to (pointer p) w use_it d h = absurd (d w refl)
 
-  pub pointer_told : (s : Standing) (to : ℕ) (v : Scalar) (w : World) (use_it : MachinePointer → World → Reply Scalar) → IsDefined (giving s to (with_pointer v w use_it)) → ((p : MachinePointer) → v ≡ pointer p → IsDefined (giving s to (use_it p w)) → Told (giving s to (use_it p w))) → Told (giving s to (with_pointer v w use_it))
+  pub pointer_told : (s : ProgramState) (to : ℕ) (v : Scalar) (w : World) (use_it : MachinePointer → World → Reply Scalar) → IsDefined (giving s to (with_pointer v w use_it)) → ((p : MachinePointer) → v ≡ pointer p → IsDefined (giving s to (use_it p w)) → Told (giving s to (use_it p w))) → Told (giving s to (with_pointer v w use_it))
   pointer_told s to (integer z labels) w use_it d h = absurd (d w refl)
   pointer_told s to (pointer p) w use_it d h = h p refl d
 
-module _ {I : Type 0} {l : LatticeOf I} {n : IntegersOf I} {gamma : I → ℤ → Type 0} (q : BoundLaws l n gamma) (flow : Flow) (p : HasPremises flow) (naming : Naming) (row : List (Cell I)) (s : Standing) (r : IsReached l n gamma flow naming row s) (t : ExactState l n flow row (state_of s)) where
+module _ {I : Type 0} {l : LatticeOf I} {n : IntegersOf I} {gamma : I → ℤ → Type 0} (q : BoundLaws l n gamma) (flow : Flow) (p : HasPremises flow) (naming : Naming) (row : List (Cell I)) (s : ProgramState) (r : IsReached l n gamma flow naming row s) (t : ExactState l n flow row (state_of s)) where
   -- the standing behind an instruction that gives something
-  abbrev standing_behind : ℕ → Scalar → World → Standing
+  abbrev standing_behind : ℕ → Scalar → World → ProgramState
   standing_behind to v w = record s { at = suc s.at; temps = put_at s.temps to v; world = w }
 
   module _ (to : ℕ) (few : to < flow.temps) (x : Value I) (v : Scalar) (w : World) (result : IsExactResult q flow p s.bases s.world.memory x v) (same : w.memory ≡ s.world.memory) where

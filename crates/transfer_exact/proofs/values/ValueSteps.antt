@@ -60,7 +60,7 @@ use Rattle.memory_model.specs.Effects.Worlds.{Stuck, Reply, goes, stops, violati
 use Rattle.memory_model.specs.Effects.IntegerEffects.{truth, plain_one, is_outside, result_of, binary_faults, why_none, computed, binary_numbers, unary_math, overflow_faults, unary_number, pointer_from, convert}
 use Rattle.lower_templates.specs.Worklist.Acts.{act}
 use Rattle.lower_templates.specs.Views.ProgramViews.{flow_view}
-use Rattle.semantics.specs.CfgMachine.FlowStates.{Standing}
+use Rattle.semantics.specs.CfgMachine.FlowStates.{ProgramState}
 use Rattle.semantics.specs.CfgMachine.FlowActs.{giving, with_amount}
 use Rattle.semantics.specs.CfgMachine.FlowSteps.{act_step}
 use Rattle.store_sound.specs.Concretization.SeenLabels.{as_set}
@@ -204,7 +204,7 @@ module _ {I : Type 0} (l : LatticeOf I) (n : IntegersOf I) (flow : Flow) (row : 
   unfolding put_pointer
   pointer_put entered memory x p h = rw (there entered memory x p h) refl
 
-module _ {I : Type 0} {l : LatticeOf I} {n : IntegersOf I} {gamma : I → ℤ → Type 0} (q : BoundLaws l n gamma) (c : SoundLaws l n gamma) (ranges : RangeLaws l n) (x : ExactLaws n) (flow : Flow) (p : HasPremises flow) (naming : Naming) (row : List (Cell I)) (s : Standing) (r : IsReached l n gamma flow naming row s) (t : ExactState l n flow row (state_of s)) where
+module _ {I : Type 0} {l : LatticeOf I} {n : IntegersOf I} {gamma : I → ℤ → Type 0} (q : BoundLaws l n gamma) (c : SoundLaws l n gamma) (ranges : RangeLaws l n) (x : ExactLaws n) (flow : Flow) (p : HasPremises flow) (naming : Naming) (row : List (Cell I)) (s : ProgramState) (r : IsReached l n gamma flow naming row s) (t : ExactState l n flow row (state_of s)) where
   abbrev Defined : Operation → Type 0
   Defined o = IsDefined (act_step (flow_view flow) (act o) s)
 
@@ -280,7 +280,7 @@ module _ {I : Type 0} {l : LatticeOf I} {n : IntegersOf I} {gamma : I → ℤ �
 
   -- ---- operators on two integers
 
-  amount_told : (after : Option (List (Cell I))) (w : Violations) (by : Amount) (use_it : Scalar → Reply Standing) → IsDefined (with_amount s by use_it) → ((v : Scalar) → ExactScalar n s.bases s.world.memory (amount_value l n flow row by) v → FitsBy by v → IsDefined (use_it v) → IsExact l n flow after w (use_it v)) → IsExact l n flow after w (with_amount s by use_it)
+  amount_told : (after : Option (List (Cell I))) (w : Violations) (by : Amount) (use_it : Scalar → Reply ProgramState) → IsDefined (with_amount s by use_it) → ((v : Scalar) → ExactScalar n s.bases s.world.memory (amount_value l n flow row by) v → FitsBy by v → IsDefined (use_it v) → IsExact l n flow after w (use_it v)) → IsExact l n flow after w (with_amount s by use_it)
   amount_told after w (amount.Temp u) use_it d h = if_some_told l n flow after w s (s.temps u) use_it d (λ v e d. h v (t.temps u v e) e d)
   amount_told after w amount.One use_it d h =
       h plain_one (record { number = near_one q (n.one (pos 1)) (pos 1) (record { from = omega (arith, ints); to = omega (arith, ints) }) (q.one_bounds (pos 1)); labels_are = refl; apart = record { bases = refl; null = refl; ended = refl }; determinate = refl }) refl d

@@ -10,7 +10,7 @@ use Rattle.memory_model.specs.Memory.ScalarSizes.{class_bytes}
 use Rattle.memory_model.specs.Memory.Bytes.{MachinePointer, null, into}
 use Rattle.memory_model.specs.Memory.Scalars.{pointer}
 use Rattle.memory_model.specs.Effects.Accesses.{class_in}
-use Rattle.semantics.specs.CfgMachine.FlowStates.{Standing}
+use Rattle.semantics.specs.CfgMachine.FlowStates.{ProgramState}
 use Rattle.store_sound.specs.Operations.Scalars.{signed_in}
 use Rattle.struct_copies_sound.specs.Leaves.StructLeaves.{IsStruct}
 
@@ -32,13 +32,13 @@ abbrev pub PointsToKind : Flow → (ℕ → Option ℕ) → declared.Scalar → 
 PointsToKind flow entered kind null = Unit {0}
 PointsToKind flow entered kind (into i offset lo hi) = (b : ℕ) (base : BaseInfo) → slice_get flow.bases.items b ≡ Some base → entered b ≡ Some i → lo ≤ offset → offset + class_bytes flow.model (class_in kind) ≤ hi → IsAtLeaf kind base offset
 
-abbrev pub IsTyped : Flow → Standing → ℕ → declared.Scalar → Type 0
+abbrev pub IsTyped : Flow → ProgramState → ℕ → declared.Scalar → Type 0
 IsTyped flow s temp kind = (p : MachinePointer) → s.temps temp ≡ Some (pointer p) → PointsToKind flow s.bases kind p
 
-abbrev pub IsTypedLoad : Flow → Operation → Standing → Type 0
+abbrev pub IsTypedLoad : Flow → Operation → ProgramState → Type 0
 IsTypedLoad flow (op.Load to from kind) s = IsTyped flow s from kind
 IsTypedLoad flow _ s = ⊥
 
-abbrev pub IsTypedStore : Flow → Operation → Standing → Type 0
+abbrev pub IsTypedStore : Flow → Operation → ProgramState → Type 0
 IsTypedStore flow (op.Store to from kind kept) s = IsTyped flow s to kind
 IsTypedStore flow _ s = ⊥

@@ -22,7 +22,7 @@ use Rattle.memory_model.specs.Effects.Worlds.{World, goes}
 use Rattle.lower_templates.specs.Worklist.Acts.{act}
 use Rattle.lower_templates.specs.Worklist.Pieces.{way}
 use Rattle.lower_templates.specs.Views.ProgramViews.{flow_view}
-use Rattle.semantics.specs.CfgMachine.FlowStates.{Standing}
+use Rattle.semantics.specs.CfgMachine.FlowStates.{ProgramState}
 use Rattle.semantics.specs.CfgMachine.FlowEdges.{is_taken, testing, matching}
 use Rattle.semantics.specs.CfgMachine.FlowSteps.{act_step}
 use Rattle.store_sound.specs.Concretization.Coverage.{state_of}
@@ -58,12 +58,12 @@ module _ {I : Type 0} (l : LatticeOf I) (n : IntegersOf I) (gamma : I → ℤ �
   -- where a test agrees with memory, what it makes of the row tells what it makes of memory
   abbrev pub TestIsExact : Option Test → Type 0
   TestIsExact None = Unit {0}
-  TestIsExact (Some test) = (naming : Naming) (row : List (Cell I)) (s : Standing) → IsReached l n gamma flow naming row s → ExactState l n flow row (state_of s) → IsDefined (testing (flow_view flow) s (Some test)) → IsExact l n flow (refine l n flow test row) no_violations (testing (flow_view flow) s (Some test))
+  TestIsExact (Some test) = (naming : Naming) (row : List (Cell I)) (s : ProgramState) → IsReached l n gamma flow naming row s → ExactState l n flow row (state_of s) → IsDefined (testing (flow_view flow) s (Some test)) → IsExact l n flow (refine l n flow test row) no_violations (testing (flow_view flow) s (Some test))
 
   -- where the object that is switched on has a label's value
   abbrev pub CaseIsExact : ℤ → Option ℕ → Type 0
   CaseIsExact value None = Unit {0}
-  CaseIsExact value (Some base) = (naming : Naming) (row : List (Cell I)) (s : Standing) → IsReached l n gamma flow naming row s → ExactState l n flow row (state_of s) → IsDefined (matching (flow_view flow) s value (Some base)) → IsExact l n flow (refine_case l n flow base value row) no_violations (matching (flow_view flow) s value (Some base))
+  CaseIsExact value (Some base) = (naming : Naming) (row : List (Cell I)) (s : ProgramState) → IsReached l n gamma flow naming row s → ExactState l n flow row (state_of s) → IsDefined (matching (flow_view flow) s value (Some base)) → IsExact l n flow (refine_case l n flow base value row) no_violations (matching (flow_view flow) s value (Some base))
 
   abbrev pub KindIsExact : EdgeKind → Type 0
   KindIsExact (kind.When truth test kept) = TestIsExact test
@@ -77,7 +77,7 @@ module _ {I : Type 0} (l : LatticeOf I) (n : IntegersOf I) (gamma : I → ℤ �
   -- ---- ways
 
   -- along one edge of the block the row comes to the state behind, along each other one there is none
-  pub record EdgeExact (row : List (Cell I)) (o : Operation) (from : ℕ) (s : Standing) : Type 0 where
+  pub record EdgeExact (row : List (Cell I)) (o : Operation) (from : ℕ) (s : ProgramState) : Type 0 where
     pub number : ℕ
     pub taken : Edge
     pub is : slice_get flow.edges.items number ≡ Some taken
@@ -86,8 +86,8 @@ module _ {I : Type 0} (l : LatticeOf I) (n : IntegersOf I) (gamma : I → ℤ �
     pub behind : ExactAfter l n flow (edge l n flow row number) s
     pub others : (other : ℕ) (e : Edge) → slice_get flow.edges.items other ≡ Some e → e.from ≡ from → FitsWay o e.kind → (other ≡ number → ⊥) → edge l n flow row other ≡ None
 
-  pub record EdgeIsExact (row : List (Cell I)) (o : Operation) (s : Standing) : Type 0 where
-    pub goes_on : (t : Standing) (w : World) → act_step (flow_view flow) (act o) s ≡ goes t w → EdgeExact row o s.block (record t { world = w })
+  pub record EdgeIsExact (row : List (Cell I)) (o : Operation) (s : ProgramState) : Type 0 where
+    pub goes_on : (t : ProgramState) (w : World) → act_step (flow_view flow) (act o) s ≡ goes t w → EdgeExact row o s.block (record t { world = w })
 
   abbrev pub EdgesAreExact : Limits → Type 0
-  EdgesAreExact limits = HasPremises flow → WaysAreApart flow → TestsAreSound l n gamma flow → TestsAreExact → is_well_formed limits flow ≡ true → (naming : Naming) (row : List (Cell I)) (s : Standing) (i : Instruction) → last_instruction flow s.block ≡ Some i → IsWay i.operation → IsReached l n gamma flow naming row s → ExactState l n flow row (state_of s) → IsDefined (act_step (flow_view flow) (act i.operation) s) → EdgeIsExact row i.operation s
+  EdgesAreExact limits = HasPremises flow → WaysAreApart flow → TestsAreSound l n gamma flow → TestsAreExact → is_well_formed limits flow ≡ true → (naming : Naming) (row : List (Cell I)) (s : ProgramState) (i : Instruction) → last_instruction flow s.block ≡ Some i → IsWay i.operation → IsReached l n gamma flow naming row s → ExactState l n flow row (state_of s) → IsDefined (act_step (flow_view flow) (act i.operation) s) → EdgeIsExact row i.operation s

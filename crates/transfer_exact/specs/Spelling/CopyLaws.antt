@@ -10,7 +10,7 @@ use Rattle.cfg.specs.declared.programs.Flow.{Flow}
 use Rattle.value_domain.specs.declared.values.row_cells.Cell.{Cell}
 use Rattle.transfer_edges.specs.StartRows.{start_row}
 use Rattle.lower_templates.specs.Views.ProgramViews.{flow_view}
-use Rattle.semantics.specs.CfgMachine.FlowStates.{Standing, running}
+use Rattle.semantics.specs.CfgMachine.FlowStates.{ProgramState, running}
 use Rattle.semantics.specs.CfgMachine.FlowStarts.{flow_begin}
 use Rattle.store_sound.specs.Concretization.Coverage.{state_of}
 use Rattle.store_sound.specs.Programs.Premises.{HasPremises}
@@ -22,7 +22,7 @@ use Rattle.transfer_exact.specs.Accesses.StoreLaws.{AreExactAt}
 use Rattle.transfer_exact.specs.Accesses.TypedAccesses.{HasObjects}
 use Rattle.transfer_exact.specs.Spelling.TypedCopies.{IsTypedCopy}
 
-abbrev pub IsSpelled : Flow → Operation → Standing → Type 0
+abbrev pub IsSpelled : Flow → Operation → ProgramState → Type 0
 IsSpelled flow o s = SpellsCharacters flow o
 
 module _ {I : Type 0} (l : LatticeOf I) (n : IntegersOf I) (gamma : I → ℤ → Type 0) (flow : Flow) where
@@ -35,4 +35,4 @@ module _ {I : Type 0} (l : LatticeOf I) (n : IntegersOf I) (gamma : I → ℤ �
   -- where the entry has no parameter, the row of the entry tells the state in which a run begins
   abbrev pub StartIsExact : Type 0
   StartIsExact = (limits : Limits) → is_well_formed limits flow ≡ true → HasPremises flow → HasObjects flow → IsPlainProgram flow → flow.parameters.items ≡ [] → (u : UnitView) → u.model ≡ flow.model → HasBeginnings u flow
-      → (row after : List (Cell I)) → length row ≡ flow.width → start_row l n flow row ≡ Some after → (draws : List ℤ) (s : Standing) → flow_begin u (flow_view flow) draws ≡ running s [] → ExactState l n flow after (state_of s)
+      → (row after : List (Cell I)) → length row ≡ flow.width → start_row l n flow row ≡ Some after → (draws : List ℤ) (s : ProgramState) → flow_begin u (flow_view flow) draws ≡ running s [] → ExactState l n flow after (state_of s)

@@ -11,7 +11,7 @@ use Rattle.cfg.specs.declared.programs.Flow.{Flow}
 use Rattle.memory_model.specs.Memory.Bytes.{MachinePointer, null, into}
 use Rattle.memory_model.specs.Memory.Scalars.{pointer}
 use Rattle.store_sound.specs.Concretization.Places.{OwnedByLeaf}
-use Rattle.semantics.specs.CfgMachine.FlowStates.{Standing}
+use Rattle.semantics.specs.CfgMachine.FlowStates.{ProgramState}
 
 -- a leaf of an object stands where a leaf of a struct that begins at the offset does
 pub record IsSameLeaf (leaf own : Leaf) (offset : ℕ) : Type 0 where
@@ -43,7 +43,7 @@ abbrev pub PointsToStruct : Flow → (ℕ → Option ℕ) → ℕ → MachinePoi
 PointsToStruct flow entered index null = Unit {0}
 PointsToStruct flow entered index (into i offset lo hi) = (b : ℕ) (base : BaseInfo) (view : StructView) → slice_get flow.bases.items b ≡ Some base → slice_get (structs_view flow.structs) index ≡ Some view → entered b ≡ Some i → lo ≤ offset → offset + view.size ≤ hi → IsAtStruct flow index view base offset
 
-abbrev pub HasStructType : Flow → Standing → ℕ → ℕ → Type 0
+abbrev pub HasStructType : Flow → ProgramState → ℕ → ℕ → Type 0
 HasStructType flow s temp index = (p : MachinePointer) → s.temps temp ≡ Some (pointer p) → PointsToStruct flow s.bases index p
 
 -- two places of a struct type in one instance, each within its bounds, are one place, or share no byte (6.5.16.1)
@@ -52,9 +52,9 @@ AreOneOrApart flow index null q = Unit {0}
 AreOneOrApart flow index (into i offset lo hi) null = Unit {0}
 AreOneOrApart flow index (into i offset lo hi) (into j at below above) = (x : ℕ) (view : StructView) → slice_get (structs_view flow.structs) index ≡ Some view → i ≡ j → lo ≤ offset → offset + view.size ≤ hi → below ≤ at → at + view.size ≤ above → offset ≤ x → x < offset + view.size → at ≤ x → x < at + view.size → offset ≡ at
 
-abbrev pub HasPlaces : Flow → Standing → ℕ → ℕ → ℕ → Type 0
+abbrev pub HasPlaces : Flow → ProgramState → ℕ → ℕ → ℕ → Type 0
 HasPlaces flow s to from index = (p q : MachinePointer) → s.temps to ≡ Some (pointer p) → s.temps from ≡ Some (pointer q) → AreOneOrApart flow index p q
 
-abbrev pub IsTypedCopy : Flow → Operation → Standing → Type 0
+abbrev pub IsTypedCopy : Flow → Operation → ProgramState → Type 0
 IsTypedCopy flow (op.Copy to from index) s = HasStructType flow s to index × HasStructType flow s from index × HasPlaces flow s to from index
 IsTypedCopy flow _ s = ⊥

@@ -18,7 +18,7 @@ use Rattle.memory_model.specs.Memory.Labels.{Labels}
 use Rattle.memory_model.specs.Memory.Scalars.{Scalar, integer}
 use Rattle.lower_templates.specs.Worklist.Acts.{act}
 use Rattle.lower_templates.specs.Views.ProgramViews.{flow_view}
-use Rattle.semantics.specs.CfgMachine.FlowStates.{Standing}
+use Rattle.semantics.specs.CfgMachine.FlowStates.{ProgramState}
 use Rattle.semantics.specs.CfgMachine.FlowSteps.{act_step}
 use Rattle.store_sound.specs.Concretization.Coverage.{state_of}
 use Rattle.store_sound.specs.Concretization.ValueMeaning.{Naming}
@@ -67,7 +67,7 @@ IsPlainCall _ = ⊥
 module _ {I : Type 0} (l : LatticeOf I) (n : IntegersOf I) (gamma : I → ℤ → Type 0) (flow : Flow) where
   -- instructions that fit the program, on a row that stands for the state and tells it, where the step is defined
   abbrev pub AreExact : (Operation → Type 0) → Type 0
-  AreExact Is = (naming : Naming) (row : List (Cell I)) (s : Standing) (o : Operation) → Is o → fits_operation (names_of flow) o ≡ true → HasOperands o s.temps → HasRight o s.temps → IsReached l n gamma flow naming row s → ExactState l n flow row (state_of s) → IsDefined (act_step (flow_view flow) (act o) s) → StepIsExact l n flow row o s
+  AreExact Is = (naming : Naming) (row : List (Cell I)) (s : ProgramState) (o : Operation) → Is o → fits_operation (names_of flow) o ≡ true → HasOperands o s.temps → HasRight o s.temps → IsReached l n gamma flow naming row s → ExactState l n flow row (state_of s) → IsDefined (act_step (flow_view flow) (act o) s) → StepIsExact l n flow row o s
 
   abbrev pub ValueStepsAreExact : Type 0
   ValueStepsAreExact = HasPremises flow → AreExact (λ o. is_on_values o ≡ true)

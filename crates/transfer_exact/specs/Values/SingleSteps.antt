@@ -15,7 +15,7 @@ use Rattle.transfer_instructions.specs.Instructions.StepViolations.{operation_vi
 use Rattle.memory_model.specs.Effects.Worlds.{World, Why, Stuck, Reply, goes, stops, world_of}
 use Rattle.lower_templates.specs.Worklist.Acts.{act}
 use Rattle.lower_templates.specs.Views.ProgramViews.{flow_view}
-use Rattle.semantics.specs.CfgMachine.FlowStates.{Standing}
+use Rattle.semantics.specs.CfgMachine.FlowStates.{ProgramState}
 use Rattle.semantics.specs.CfgMachine.FlowSteps.{act_step}
 use Rattle.store_sound.specs.Concretization.Coverage.{state_of}
 use Rattle.transfer_exact.specs.Values.SingleRows.{ExactState}
@@ -26,15 +26,15 @@ IsDefined {A} reply = (w : World) → reply ≡ stops Stuck w → ⊥
 
 module _ {I : Type 0} (l : LatticeOf I) (n : IntegersOf I) (flow : Flow) where
   -- the row behind tells the state behind
-  pub record ExactAfter (after : Option (List (Cell I))) (s : Standing) : Type 0 where
+  pub record ExactAfter (after : Option (List (Cell I))) (s : ProgramState) : Type 0 where
     pub row : List (Cell I)
     pub is : after ≡ Some row
     pub tells : ExactState l n flow row (state_of s)
 
-  pub record IsExact (after : Option (List (Cell I))) (admitted : Violations) (reply : Reply Standing) : Type 0 where
-    pub goes_on : (s : Standing) (w : World) → reply ≡ goes s w → ExactAfter after (record s { world = w })
+  pub record IsExact (after : Option (List (Cell I))) (admitted : Violations) (reply : Reply ProgramState) : Type 0 where
+    pub goes_on : (s : ProgramState) (w : World) → reply ≡ goes s w → ExactAfter after (record s { world = w })
     pub ends : (why : Why) (w : World) → reply ≡ stops why w → after ≡ None
     pub violated : (r : Rule) → violates admitted r ≡ true → Contains (world_of reply).violated r
 
-  abbrev pub StepIsExact : List (Cell I) → Operation → Standing → Type 0
+  abbrev pub StepIsExact : List (Cell I) → Operation → ProgramState → Type 0
   StepIsExact row o s = IsExact (operate l n flow row o) (operation_violations l n flow row o) (act_step (flow_view flow) (act o) s)

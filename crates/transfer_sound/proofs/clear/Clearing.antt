@@ -39,7 +39,7 @@ use Rattle.memory_model.specs.Memory.Numbers.{Labelled, unsigned_of, number_of}
 use Rattle.memory_model.specs.Effects.ObjectEffects.{all_of, cleared}
 use Rattle.memory_model.specs.Effects.Touches.{set_bytes}
 use Rattle.memory_model.specs.Effects.Worlds.{World}
-use Rattle.semantics.specs.CfgMachine.FlowStates.{Standing}
+use Rattle.semantics.specs.CfgMachine.FlowStates.{ProgramState}
 use Rattle.store_sound.specs.Concretization.FirstZeroBytes.{first_zero}
 use Rattle.store_sound.specs.Concretization.Matching.{number_in}
 use Rattle.store_sound.specs.Concretization.ValueMeaning.{Naming, InGammaContent, InGammaZero}
@@ -134,7 +134,7 @@ module _ {I : Type 0} (l : LatticeOf I) (n : IntegersOf I) (info : BaseInfo) whe
 
 -- ---- the object
 
-module _ {I : Type 0} {l : LatticeOf I} {n : IntegersOf I} {gamma : I → ℤ → Type 0} (q : BoundLaws l n gamma) (flow : Flow) (p : HasPremises flow) (naming : Naming) (row : List (Cell I)) (s : Standing) (r : IsReached l n gamma flow naming row s)
+module _ {I : Type 0} {l : LatticeOf I} {n : IntegersOf I} {gamma : I → ℤ → Type 0} (q : BoundLaws l n gamma) (flow : Flow) (p : HasPremises flow) (naming : Naming) (row : List (Cell I)) (s : ProgramState) (r : IsReached l n gamma flow naming row s)
     (b i : ℕ) (info : BaseInfo) (at : slice_get flow.bases.items b ≡ Some info) (entered : s.bases b ≡ Some i) (declared : info.shape.heap ≡ false) (kind : info.kind ≡ Older → ⊥)
     (full : (z : ℕ) (zeros : ZeroPart) → slice_get info.shape.zeros z ≡ Some zeros → IsFull info zeros) where
   abbrev new : Memory
@@ -246,7 +246,7 @@ module _ {I : Type 0} {l : LatticeOf I} {n : IntegersOf I} {gamma : I → ℤ �
       (rewrite_sane flow.model flow.bases.items naming (is_set q flow p naming row s r b i info at entered declared kind nil).rewrite r.stands_for.sane (λ o x e. let z = nil_at o x e in rw z (omega arith, tt)))
       after outside own_leaves own_zeros
 
-module _ {I : Type 0} {l : LatticeOf I} {n : IntegersOf I} {gamma : I → ℤ → Type 0} (q : BoundLaws l n gamma) (flow : Flow) (p : HasPremises flow) (limits : Limits) (good : is_well_formed limits flow ≡ true) (naming : Naming) (row : List (Cell I)) (s : Standing) (r : IsReached l n gamma flow naming row s) where
+module _ {I : Type 0} {l : LatticeOf I} {n : IntegersOf I} {gamma : I → ℤ → Type 0} (q : BoundLaws l n gamma) (flow : Flow) (p : HasPremises flow) (limits : Limits) (good : is_well_formed limits flow ≡ true) (naming : Naming) (row : List (Cell I)) (s : ProgramState) (r : IsReached l n gamma flow naming row s) where
   pub clear_sound : (b : ℕ) → fits_operation (names_of flow) (op.Clear b) ≡ true → StepIsSound l n gamma flow row (op.Clear b) s
   unfolding operate clear operation_violations
   clear_sound b fitted =
@@ -257,7 +257,7 @@ module _ {I : Type 0} {l : LatticeOf I} {n : IntegersOf I} {gamma : I → ℤ �
       if_some_good l n gamma flow _ no_violations s r.begun (s.bases b) _ (λ i e. record {
         goes_on = λ t u f.
             let w : World = cleared i s.world in
-            let now : Standing = record s { at = suc s.at; world = w } in
+            let now : ProgramState = record s { at = suc s.at; world = w } in
             let a : now ≡ t = cc in
             let c : w ≡ u = cc in
             let here : InGammaAfter l n gamma flow (Some (at_base (clear_object l n) (slice_get flow.bases.items b) row)) (record now { world = w }) = record {

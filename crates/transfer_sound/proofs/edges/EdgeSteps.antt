@@ -37,7 +37,7 @@ use Rattle.memory_model.specs.Effects.Worlds.{World, Reply, goes, stops, behind,
 use Rattle.lower_templates.specs.Worklist.Acts.{act}
 use Rattle.lower_templates.specs.Worklist.Pieces.{way}
 use Rattle.lower_templates.specs.Views.ProgramViews.{FlowView, EdgeView, flow_view}
-use Rattle.semantics.specs.CfgMachine.FlowStates.{Standing, if_some, stuck_at}
+use Rattle.semantics.specs.CfgMachine.FlowStates.{ProgramState, if_some, stuck_at}
 use Rattle.semantics.specs.CfgMachine.FlowEdges.{same_truth, is_among, is_taken, edge_taken, edges_of, testing, matching, with_put, on_way, at_block, along}
 use Rattle.semantics.specs.CfgMachine.FlowSteps.{block_of, on_edge, switching, act_step}
 use Rattle.store_sound.specs.Concretization.ValueMeaning.{Naming, InGammaScalar}
@@ -105,7 +105,7 @@ module _ {I : Type 0} {l : LatticeOf I} {n : IntegersOf I} {gamma : I → ℤ �
 
   -- ---- a temporary that an edge puts a number into
 
-  put_behind : (kept : Option (ℕ × ℤ)) → fits_taken (names_of flow) kept ≡ true → (after : Option (List (Cell I))) (t : Standing) (w : World) → InGammaAfter l n gamma flow after (record t { world = w }) → InGammaAfter l n gamma flow (kept_behind l n flow kept after) (record (with_put kept t) { world = w })
+  put_behind : (kept : Option (ℕ × ℤ)) → fits_taken (names_of flow) kept ≡ true → (after : Option (List (Cell I))) (t : ProgramState) (w : World) → InGammaAfter l n gamma flow after (record t { world = w }) → InGammaAfter l n gamma flow (kept_behind l n flow kept after) (record (with_put kept t) { world = w })
   unfolding put_kept
   put_behind None fits after t w h = record { row = h.row; is = ap (kept_behind l n flow None) h.is; long = h.long; naming = h.naming; stands_for = h.stands_for; short = h.short }
   put_behind (Some k) fits after t w h =
@@ -122,7 +122,7 @@ module _ {I : Type 0} {l : LatticeOf I} {n : IntegersOf I} {gamma : I → ℤ �
         short = h.short;
       }
 
-  kept_good : (kept : Option (ℕ × ℤ)) → fits_taken (names_of flow) kept ≡ true → (after : Option (List (Cell I))) (reply : Reply Standing) → IsStoodFor l n gamma flow after no_violations reply → IsStoodFor l n gamma flow (kept_behind l n flow kept after) no_violations (behind reply (λ t w. goes (with_put kept t) w))
+  kept_good : (kept : Option (ℕ × ℤ)) → fits_taken (names_of flow) kept ≡ true → (after : Option (List (Cell I))) (reply : Reply ProgramState) → IsStoodFor l n gamma flow after no_violations reply → IsStoodFor l n gamma flow (kept_behind l n flow kept after) no_violations (behind reply (λ t w. goes (with_put kept t) w))
   kept_good kept fits after (goes t w) h = record {
     goes_on = λ s u e.
         let a : with_put kept t ≡ s = cc in
@@ -133,7 +133,7 @@ module _ {I : Type 0} {l : LatticeOf I} {n : IntegersOf I} {gamma : I → ℤ �
   }
   kept_good kept fits after (stops why w) h = record { goes_on = λ s u e. cc; admits = h.admits }
 
-  module _ (naming : Naming) (row : List (Cell I)) (s : Standing) (r : IsReached l n gamma flow naming row s) where
+  module _ (naming : Naming) (row : List (Cell I)) (s : ProgramState) (r : IsReached l n gamma flow naming row s) where
     here_good : IsStoodFor l n gamma flow (Some row) no_violations (goes s s.world)
     here_good = record {
       goes_on = λ t u e.
@@ -209,8 +209,8 @@ module _ {I : Type 0} {l : LatticeOf I} {n : IntegersOf I} {gamma : I → ℤ �
 
     module _ (limits : Limits) (good : is_well_formed limits flow ≡ true) (i : Instruction) (last : last_instruction flow s.block ≡ Some i) (o : Operation) (same : i.operation ≡ o) (off : leads o ≡ On → ⊥) (stays : operate l n flow row o ≡ Some row) where
       -- a reply behind which an edge has been passed
-      record PassesEdge (reply : Reply Standing) : Type 0 where
-        goes_on : (t : Standing) (w : World) → reply ≡ goes t w → EdgeBehind l n gamma flow row o s.block (record t { world = w })
+      record PassesEdge (reply : Reply ProgramState) : Type 0 where
+        goes_on : (t : ProgramState) (w : World) → reply ≡ goes t w → EdgeBehind l n gamma flow row o s.block (record t { world = w })
         admits : AreAdmitted no_violations (world_of reply).violated
 
       stop_passes : (why : _) (w : World) → w.violated ≡ [] → PassesEdge (stops why w)
@@ -220,14 +220,14 @@ module _ {I : Type 0} {l : LatticeOf I} {n : IntegersOf I} {gamma : I → ℤ �
       unfolding edge
       way_passes v e x h = subst (λ z. PassesEdge (along f s (Some z))) x.same (by_reply (on_way f s (way x.it.kind)) h)
         where
-          by_reply : (reply : Reply Standing) → IsStoodFor l n gamma flow (follow l n flow row x.it.from x.it.kind) no_violations reply → PassesEdge (behind reply (λ t w. goes (at_block x.it.to t) w))
+          by_reply : (reply : Reply ProgramState) → IsStoodFor l n gamma flow (follow l n flow row x.it.from x.it.kind) no_violations reply → PassesEdge (behind reply (λ t w. goes (at_block x.it.to t) w))
           by_reply (stops why w) h = record { goes_on = λ t u k. cc; admits = h.admits }
           by_reply (goes t w) h = record {
             goes_on = λ t' u k.
                 let a : at_block x.it.to t ≡ t' = cc in
                 let b : w ≡ u = cc in
                 let sb = h.goes_on t w refl in
-                let now : Standing = record (at_block x.it.to t) { world = w } in
+                let now : ProgramState = record (at_block x.it.to t) { world = w } in
                 let eb : EdgeBehind l n gamma flow row o s.block now = record {
                   stays = stays;
                   number = x.number;
@@ -276,7 +276,7 @@ module _ {I : Type 0} {l : LatticeOf I} {n : IntegersOf I} {gamma : I → ℤ �
       unfolding operate operation_violations
       branch_passes t scalar same = by_temp (s.temps t) refl
         where
-          sound_by : (reply : Reply Standing) → act_step f (act (op.Branch t scalar)) s ≡ reply → PassesEdge limits good i last (op.Branch t scalar) same (λ e. cc) refl reply → EndIsSound l n gamma flow row (op.Branch t scalar) s
+          sound_by : (reply : Reply ProgramState) → act_step f (act (op.Branch t scalar)) s ≡ reply → PassesEdge limits good i last (op.Branch t scalar) same (λ e. cc) refl reply → EndIsSound l n gamma flow row (op.Branch t scalar) s
           sound_by reply e h = record { goes_on = λ x w k. h.goes_on x w (sym e ∙ k); admits = λ rule k. h.admits rule (subst (λ z. Contains (world_of z).violated rule) e k) }
 
           by_temp : (v : Option Scalar) → s.temps t ≡ v → EndIsSound l n gamma flow row (op.Branch t scalar) s
@@ -289,7 +289,7 @@ module _ {I : Type 0} {l : LatticeOf I} {n : IntegersOf I} {gamma : I → ℤ �
       unfolding operate operation_violations
       switch_passes t k same = by_temp (s.temps t) refl
         where
-          sound_by : (reply : Reply Standing) → act_step f (act (op.Switch t k)) s ≡ reply → PassesEdge limits good i last (op.Switch t k) same (λ e. cc) refl reply → EndIsSound l n gamma flow row (op.Switch t k) s
+          sound_by : (reply : Reply ProgramState) → act_step f (act (op.Switch t k)) s ≡ reply → PassesEdge limits good i last (op.Switch t k) same (λ e. cc) refl reply → EndIsSound l n gamma flow row (op.Switch t k) s
           sound_by reply e h = record { goes_on = λ x w g. h.goes_on x w (sym e ∙ g); admits = λ rule g. h.admits rule (subst (λ z. Contains (world_of z).violated rule) e g) }
 
           by_temp : (v : Option Scalar) → s.temps t ≡ v → EndIsSound l n gamma flow row (op.Switch t k) s

@@ -43,7 +43,7 @@ use Rattle.memory_model.specs.Effects.ObjectEffects.{blank_bytes, fresh, entered
 use Rattle.memory_model.specs.Effects.Worlds.{World, Stuck}
 use Rattle.lower_templates.specs.Views.ProgramViews.{flow_view}
 use Rattle.semantics.specs.CfgMachine.FlowActs.{enter, entering}
-use Rattle.semantics.specs.CfgMachine.FlowStates.{Standing}
+use Rattle.semantics.specs.CfgMachine.FlowStates.{ProgramState}
 use Rattle.store_sound.specs.Concretization.Matching.{number_in}
 use Rattle.store_sound.specs.Concretization.ValueMeaning.{Naming, InGammaContent, InGammaScalar, InGammaZero, InGammaState}
 use Rattle.store_sound.specs.Concretization.SoundMemory.{storage_for}
@@ -81,7 +81,7 @@ put_other f b d x h = grind arith
 live_ends : live ≡ ended → ⊥
 live_ends e = cc
 
-module _ {I : Type 0} {l : LatticeOf I} {n : IntegersOf I} {gamma : I → ℤ → Type 0} (q : BoundLaws l n gamma) (flow : Flow) (p : HasPremises flow) (naming : Naming) (row : List (Cell I)) (s : Standing) (r : IsReached l n gamma flow naming row s)
+module _ {I : Type 0} {l : LatticeOf I} {n : IntegersOf I} {gamma : I → ℤ → Type 0} (q : BoundLaws l n gamma) (flow : Flow) (p : HasPremises flow) (naming : Naming) (row : List (Cell I)) (s : ProgramState) (r : IsReached l n gamma flow naming row s)
     (b : ℕ) (info : BaseInfo) (at : slice_get flow.bases.items b ≡ Some info) (free : s.bases b ≡ None) (declared : info.shape.heap ≡ false) (kind : info.kind ≡ Automatic) where
   abbrev old : Memory
   old = s.world.memory
@@ -319,12 +319,12 @@ module _ {I : Type 0} {l : LatticeOf I} {n : IntegersOf I} {gamma : I → ℤ �
     | inr ne ↦ subst (λ z. pos (length z) ≤ℤ greatest_of (kind_of flow.model Pointer true)) (sym (bytes_stay w t j ne)) (r.short j)
   ]
 
-module _ {I : Type 0} {l : LatticeOf I} {n : IntegersOf I} {gamma : I → ℤ → Type 0} (q : BoundLaws l n gamma) (flow : Flow) (p : HasPremises flow) (naming : Naming) (row : List (Cell I)) (s : Standing) (r : IsReached l n gamma flow naming row s) where
+module _ {I : Type 0} {l : LatticeOf I} {n : IntegersOf I} {gamma : I → ℤ → Type 0} (q : BoundLaws l n gamma) (flow : Flow) (p : HasPremises flow) (naming : Naming) (row : List (Cell I)) (s : ProgramState) (r : IsReached l n gamma flow naming row s) where
   module _ (b : ℕ) (info : BaseInfo) (at : slice_get flow.bases.items b ≡ Some info) (declared : info.shape.heap ≡ false) (kind : info.kind ≡ Automatic) where
     abbrev behind_world : World
     behind_world = entered flow.model info.shape.cells info.size s.world
 
-    abbrev now : Standing
+    abbrev now : ProgramState
     now = record s { at = suc s.at; bases = put_at s.bases b (next_instance s.world); world = behind_world }
 
     abbrev behind_it : Option (List (Cell I))

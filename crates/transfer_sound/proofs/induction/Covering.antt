@@ -20,7 +20,7 @@ use Rattle.row_bounds.specs.AdmittedRules.{instructions_in, instructions_of, row
 use Rattle.memory_model.specs.Effects.Worlds.{World, Reply, goes, stops, world_of, Violation}
 use Rattle.lower_templates.specs.Worklist.Acts.{act, Step}
 use Rattle.lower_templates.specs.Views.ProgramViews.{FlowView, flow_view}
-use Rattle.semantics.specs.CfgMachine.FlowStates.{Standing, FlowRun, running, stopped, found_in}
+use Rattle.semantics.specs.CfgMachine.FlowStates.{ProgramState, FlowRun, running, stopped, found_in}
 use Rattle.semantics.specs.CfgMachine.FlowSteps.{block_of, begun, act_step, violations_at, run_by, instruction_step, flow_step, flow_steps}
 use Rattle.semantics.specs.CfgMachine.FlowStarts.{first_standing, begun_by, flow_begin}
 use Rattle.memory_model.specs.Effects.UnitStarts.{start_world}
@@ -63,11 +63,11 @@ module _ {I : Type 0} (l : LatticeOf I) (n : IntegersOf I) (gamma : I → ℤ �
 
   -- operands are such as their instructions suppose where a run stands for which the row there does
   abbrev OperandsAt : UnitView → List (Option (List (Cell I))) → Type 0
-  OperandsAt u rows = (draws : List ℤ) (count : ℕ) (s : Standing) (found : List Violation) → flow_steps f count (flow_begin u f draws) ≡ running s found → (naming : Naming) (row : List (Cell I)) (i : Instruction) → slice_get (instructions_of flow s.block) s.at ≡ Some i → row_before l n flow rows s.block s.at ≡ Some row → InGamma l n gamma flow naming row (state_of s) → HasOperands i.operation s.temps
+  OperandsAt u rows = (draws : List ℤ) (count : ℕ) (s : ProgramState) (found : List Violation) → flow_steps f count (flow_begin u f draws) ≡ running s found → (naming : Naming) (row : List (Cell I)) (i : Instruction) → slice_get (instructions_of flow s.block) s.at ≡ Some i → row_before l n flow rows s.block s.at ≡ Some row → InGamma l n gamma flow naming row (state_of s) → HasOperands i.operation s.temps
 
   module _ (limits : Limits) (good : is_well_formed limits flow ≡ true) (steps_sound : StepsGoOnSoundly l n gamma flow) (ends_sound : EndsGoOnSoundly l n gamma flow limits) (u : UnitView) (rows : List (Option (List (Cell I)))) (begins : Begins l n gamma flow u rows) (carries : Carries l n gamma flow rows) (operands_at : OperandsAt u rows) where
     -- what holds where a run stands
-    record IsHere (s : Standing) : Type 0 where
+    record IsHere (s : ProgramState) : Type 0 where
       row : List (Cell I)
       naming : Naming
       before : row_before l n flow rows s.block s.at ≡ Some row
@@ -76,12 +76,12 @@ module _ {I : Type 0} (l : LatticeOf I) (n : IntegersOf I) (gamma : I → ℤ �
       short : AreShort flow.model s.world.memory
 
     record IsGood (r : FlowRun) : Type 0 where
-      here : (s : Standing) (found : List Violation) → r ≡ running s found → IsHere s
+      here : (s : ProgramState) (found : List Violation) → r ≡ running s found → IsHere s
       all : (v : Violation) → Contains (found_in r) v → Admits l n flow rows v.at v.rule
 
     -- ---- at the start of a block
 
-    at_start : (s : Standing) (b : ℕ) → s.block ≡ b → s.at ≡ 0 → InGammaAfter l n gamma flow (row_at rows b) s → IsHere s
+    at_start : (s : ProgramState) (b : ℕ) → s.block ≡ b → s.at ≡ 0 → InGammaAfter l n gamma flow (row_at rows b) s → IsHere s
     at_start s b block at h = record {
       row = h.row;
       naming = h.naming;
@@ -91,12 +91,12 @@ module _ {I : Type 0} (l : LatticeOf I) (n : IntegersOf I) (gamma : I → ℤ �
       short = h.short;
     }
 
-    record IsFirst (s : Standing) (found : List Violation) : Type 0 where
+    record IsFirst (s : ProgramState) (found : List Violation) : Type 0 where
       block : s.block ≡ 0
       at : s.at ≡ 0
       none : found ≡ []
 
-    first_is : (reply : Reply (Unit {0})) (s : Standing) (found : List Violation) → begun_by u f reply ≡ running s found → IsFirst s found
+    first_is : (reply : Reply (Unit {0})) (s : ProgramState) (found : List Violation) → begun_by u f reply ≡ running s found → IsFirst s found
     first_is (goes v w) s found e = let a : first_standing u f w ≡ s = cc in record { block = ap (λ z. z.block) (sym a); at = ap (λ z. z.at) (sym a); none = cc }
     first_is (stops why w) s found e = cc
 
@@ -112,7 +112,7 @@ module _ {I : Type 0} (l : LatticeOf I) (n : IntegersOf I) (gamma : I → ℤ �
 
     -- ---- behind a step
 
-    replied : (found : List Violation) (place : Place) (reply : Reply Standing) → ((t : Standing) (w : World) → reply ≡ goes t w → IsHere (record t { world = w })) → ((r : Rule) → Contains (world_of reply).violated r → Admits l n flow rows place r) → ((v : Violation) → Contains found v → Admits l n flow rows v.at v.rule) → IsGood (run_by found place reply)
+    replied : (found : List Violation) (place : Place) (reply : Reply ProgramState) → ((t : ProgramState) (w : World) → reply ≡ goes t w → IsHere (record t { world = w })) → ((r : Rule) → Contains (world_of reply).violated r → Admits l n flow rows place r) → ((v : Violation) → Contains found v → Admits l n flow rows v.at v.rule) → IsGood (run_by found place reply)
     replied found place (goes t w) h told all = record {
       here = λ s more e. let a : record t { world = w } ≡ s = cc in subst IsHere a (h t w refl);
       all = λ v c. elim (Contains-append_cases found (violations_at place w.violated) v c) [
@@ -128,7 +128,7 @@ module _ {I : Type 0} (l : LatticeOf I) (n : IntegersOf I) (gamma : I → ℤ �
       ];
     }
 
-    module _ (s : Standing) (found : List Violation) (run : IsGood (running s found)) (operands : (i : Instruction) → slice_get (instructions_of flow s.block) s.at ≡ Some i → HasOperands i.operation s.temps) (i : Step) (k : IsAt flow s.block s.at i) where
+    module _ (s : ProgramState) (found : List Violation) (run : IsGood (running s found)) (operands : (i : Instruction) → slice_get (instructions_of flow s.block) s.at ≡ Some i → HasOperands i.operation s.temps) (i : Step) (k : IsAt flow s.block s.at i) where
       abbrev it : Instruction
       it = k.instruction
 
@@ -197,7 +197,7 @@ module _ {I : Type 0} (l : LatticeOf I) (n : IntegersOf I) (gamma : I → ℤ �
       step_is_good : IsGood (instruction_step f found s (Some i))
       step_is_good = subst (λ z. IsGood (run_by found z.at (act_step f z.does (begun s)))) k.same instruction_good
 
-    step_at : (s : Standing) (found : List Violation) → IsGood (running s found) → ((i : Instruction) → slice_get (instructions_of flow s.block) s.at ≡ Some i → HasOperands i.operation s.temps) → (o : Option Step) → slice_get (block_of f s.block).steps s.at ≡ o → IsGood (instruction_step f found s o)
+    step_at : (s : ProgramState) (found : List Violation) → IsGood (running s found) → ((i : Instruction) → slice_get (instructions_of flow s.block) s.at ≡ Some i → HasOperands i.operation s.temps) → (o : Option Step) → slice_get (block_of f s.block).steps s.at ≡ o → IsGood (instruction_step f found s o)
     step_at s found run operands None e = record { here = λ t more h. cc; all = run.all }
     step_at s found run operands (Some i) e = step_is_good s found run operands i (is_at flow s.block s.at i e)
 

@@ -13,7 +13,7 @@ use Rattle.value_domain.specs.declared.values.row_cells.Cell.{Cell}
 use Rattle.value_domain.specs.Values.Cells.{cell_lattice}
 use Rattle.store_sound.specs.Concretization.Coverage.{state_of}
 use Rattle.store_sound.specs.Concretization.RowMeaning.{InGamma}
-use Rattle.semantics.specs.CfgMachine.FlowStates.{Standing}
+use Rattle.semantics.specs.CfgMachine.FlowStates.{ProgramState}
 use Rattle.transfer_system.specs.Edges.{edge}
 use Rattle.transfer_system.specs.System.BlockPasses.{block_end, edge_behind, edge_end}
 use Rattle.transfer_system.specs.System.BlockPasses as passes
@@ -53,10 +53,10 @@ module _ {I : Type 0} (l : LatticeOf I) (n : IntegersOf I) (flow : Flow) where
 
   module _ (gamma : I → ℤ → Type 0) (rows : List (Option (List (Cell I)))) where
     abbrev pub EdgesCarry : Type 0
-    EdgesCarry = (number : ℕ) (e : Edge) (r x : List (Cell I)) (s : Standing) → slice_get flow.edges.items number ≡ Some e → row_at rows e.from ≡ Some r → edge_end l n flow e.from number r ≡ Some x
+    EdgesCarry = (number : ℕ) (e : Edge) (r x : List (Cell I)) (s : ProgramState) → slice_get flow.edges.items number ≡ Some e → row_at rows e.from ≡ Some r → edge_end l n flow e.from number r ≡ Some x
         → InGammaAfter l n gamma flow (Some x) s → InGammaAfter l n gamma flow (row_at rows e.to) s
 
-    by_row : EdgesCarry → (number : ℕ) (e : Edge) (z : Option (List (Cell I))) (row x : List (Cell I)) (s : Standing) → slice_get flow.edges.items number ≡ Some e → row_at rows e.from ≡ z → rows_behind l n flow z (take (length (rules.instructions_of flow e.from)) (rules.instructions_of flow e.from)) ≡ Some row → edge l n flow row number ≡ Some x
+    by_row : EdgesCarry → (number : ℕ) (e : Edge) (z : Option (List (Cell I))) (row x : List (Cell I)) (s : ProgramState) → slice_get flow.edges.items number ≡ Some e → row_at rows e.from ≡ z → rows_behind l n flow z (take (length (rules.instructions_of flow e.from)) (rules.instructions_of flow e.from)) ≡ Some row → edge l n flow row number ≡ Some x
         → InGammaAfter l n gamma flow (Some x) s → InGammaAfter l n gamma flow (row_at rows e.to) s
     unfolding edge_end
     by_row carry number e None row x s there at before along behind = let c = sym (none_behind (take (length (rules.instructions_of flow e.from)) (rules.instructions_of flow e.from))) ∙ before in absurd (cc)
@@ -73,7 +73,7 @@ IsLeftUnmixed (Some row) = AreUnmixed row
 
 module _ {I : Type 0} {l : LatticeOf I} {n : IntegersOf I} {gamma : I → ℤ → Type 0} (o : OrderLaws l) (q : BoundLaws l n gamma) (flow : Flow) where
   -- a larger row of which no cell is mixed stands for the state for which the row that came does
-  pub larger_behind : (s : Standing) (x : List (Cell I)) (y : Option (List (Cell I))) → InGammaAfter l n gamma flow (Some x) s → reached_leq (cell_lattice l) (Some x) y ≡ true → IsLeftUnmixed y → InGammaAfter l n gamma flow y s
+  pub larger_behind : (s : ProgramState) (x : List (Cell I)) (y : Option (List (Cell I))) → InGammaAfter l n gamma flow (Some x) s → reached_leq (cell_lattice l) (Some x) y ≡ true → IsLeftUnmixed y → InGammaAfter l n gamma flow y s
   larger_behind s x None behind e u = absurd (cc)
   larger_behind s x (Some y) behind e u =
       let same : behind.row ≡ x = (let i = behind.is in cc) in

@@ -38,7 +38,7 @@ use Rattle.memory_model.specs.Memory.Scalars.{Scalar}
 use Rattle.memory_model.specs.Effects.NumberedTables.{clear_at}
 use Rattle.memory_model.specs.Effects.ObjectEffects.{set_life, left}
 use Rattle.memory_model.specs.Effects.Worlds.{World}
-use Rattle.semantics.specs.CfgMachine.FlowStates.{Standing}
+use Rattle.semantics.specs.CfgMachine.FlowStates.{ProgramState}
 use Rattle.store_sound.specs.Concretization.Matching.{Matched}
 use Rattle.store_sound.specs.Concretization.ValueMeaning.{Naming, InGammaScalar, InGammaZero, InGammaState}
 use Rattle.store_sound.specs.Concretization.RowMeaning.{IsLiveOf, InGammaCell, InGammaLeaf, InGammaClass, InGamma, array_bytes}
@@ -85,7 +85,7 @@ clear_other f b d x e = grind arith
 clear_keeps : {A : Type 0} (f : ℕ → Option A) (b d : ℕ) (x : A) → (d ≡ b → ⊥) → f d ≡ Some x → clear_at f b d ≡ Some x
 clear_keeps f b d x h e = grind arith
 
-module _ {I : Type 0} {l : LatticeOf I} {n : IntegersOf I} {gamma : I → ℤ → Type 0} (flow : Flow) (p : HasPremises flow) (naming : Naming) (row : List (Cell I)) (s : Standing) (r : IsReached l n gamma flow naming row s)
+module _ {I : Type 0} {l : LatticeOf I} {n : IntegersOf I} {gamma : I → ℤ → Type 0} (flow : Flow) (p : HasPremises flow) (naming : Naming) (row : List (Cell I)) (s : ProgramState) (r : IsReached l n gamma flow naming row s)
     (b i : ℕ) (info : BaseInfo) (at : slice_get flow.bases.items b ≡ Some info) (entered : s.bases b ≡ Some i) (declared : info.shape.heap ≡ false) (kind : info.kind ≡ Older → ⊥) where
   abbrev old : Memory
   old = s.world.memory
@@ -260,7 +260,7 @@ module _ {I : Type 0} {l : LatticeOf I} {n : IntegersOf I} {gamma : I → ℤ �
   pub left_short : AreShort flow.model new
   left_short j = subst (λ z. pos (length z) ≤ℤ greatest_of (kind_of flow.model Pointer true)) (sym (ends.bytes j)) (r.short j)
 
-module _ {I : Type 0} {l : LatticeOf I} {n : IntegersOf I} {gamma : I → ℤ → Type 0} (flow : Flow) (p : HasPremises flow) (naming : Naming) (row : List (Cell I)) (s : Standing) (r : IsReached l n gamma flow naming row s) where
+module _ {I : Type 0} {l : LatticeOf I} {n : IntegersOf I} {gamma : I → ℤ → Type 0} (flow : Flow) (p : HasPremises flow) (naming : Naming) (row : List (Cell I)) (s : ProgramState) (r : IsReached l n gamma flow naming row s) where
   pub leave_sound : (b : ℕ) → fits_operation (names_of flow) (op.Leave b) ≡ true → StepIsSound l n gamma flow row (op.Leave b) s
   unfolding operate leave operation_violations
   leave_sound b fitted =
@@ -270,7 +270,7 @@ module _ {I : Type 0} {l : LatticeOf I} {n : IntegersOf I} {gamma : I → ℤ �
       if_some_good l n gamma flow _ no_violations s r.begun (s.bases b) _ (λ i e. record {
         goes_on = λ t u f.
             let w : World = left i s.world in
-            let now : Standing = record s { at = suc s.at; bases = clear_at s.bases b; world = w } in
+            let now : ProgramState = record s { at = suc s.at; bases = clear_at s.bases b; world = w } in
             let a : now ≡ t = cc in
             let c : w ≡ u = cc in
             let here : InGammaAfter l n gamma flow (Some (at_base (leave_object l b) (slice_get flow.bases.items b) row)) (record now { world = w }) = record {

@@ -37,7 +37,7 @@ use Rattle.memory_model.specs.Effects.Accesses.{class_in, is_unsigned, points_in
 use Rattle.memory_model.specs.Effects.Accesses as effect
 use Rattle.memory_model.specs.Effects.Touches.{Spot, touched}
 use Rattle.memory_model.specs.Effects.Worlds.{World, Reply, goes, noted, stopped_by, Left}
-use Rattle.semantics.specs.CfgMachine.FlowStates.{Standing}
+use Rattle.semantics.specs.CfgMachine.FlowStates.{ProgramState}
 use Rattle.semantics.specs.CfgMachine.FlowActs.{giving}
 use Rattle.store_sound.specs.Concretization.ValueMeaning.{Naming, InGammaPointer, InGammaScalar}
 use Rattle.store_sound.specs.Concretization.SoundMemory.{IsPointerIn, IsScalarIn}
@@ -107,7 +107,7 @@ freed_pointer (of.Int k) w (integer z la) of_kind h = absurd (true≢false (sym 
 freed_pointer (of.Int k) w (pointer at) of_kind h = absurd (true≢false (sym of_kind))
 freed_pointer of.Pointer w v of_kind h = refl
 
-module _ {I : Type 0} {l : LatticeOf I} {n : IntegersOf I} {gamma : I → ℤ → Type 0} (o : OrderLaws l) (q : BoundLaws l n gamma) (c : SoundLaws l n gamma) (flow : Flow) (p : HasPremises flow) (naming : Naming) (row : List (Cell I)) (s : Standing) (r : IsReached l n gamma flow naming row s) (to : ℕ) (few : to < flow.temps) where
+module _ {I : Type 0} {l : LatticeOf I} {n : IntegersOf I} {gamma : I → ℤ → Type 0} (o : OrderLaws l) (q : BoundLaws l n gamma) (c : SoundLaws l n gamma) (flow : Flow) (p : HasPremises flow) (naming : Naming) (row : List (Cell I)) (s : ProgramState) (r : IsReached l n gamma flow naming row s) (to : ℕ) (few : to < flow.temps) where
   -- what was read is put into a temporary, as what stands for it
   read_good : (kind : declared.Scalar) (x : Value I) (v : Scalar) (w : World) (told : Violations) (after : Option (List (Cell I))) → IsOfKind kind v → InGammaScalar gamma naming s.world.memory x v → IsNearScalar v → IsScalarIn s.world.memory v → w.memory ≡ s.world.memory → after ≡ put_read l n flow row to kind x → AreAdmitted told w.violated → IsStoodFor l n gamma flow after told (giving s to (goes v w))
   unfolding put_read
@@ -132,7 +132,7 @@ module _ {I : Type 0} {l : LatticeOf I} {n : IntegersOf I} {gamma : I → ℤ �
     abbrev told_at : Class × Bool → Violations
     told_at cl = violations_union (touched_at cl).violations (told_by cl (read_at cl))
 
-    abbrev GoodAt : Class × Bool → Reply Standing → Type 0
+    abbrev GoodAt : Class × Bool → Reply ProgramState → Type 0
     GoodAt cl reply = IsStoodFor l n gamma flow (put_loaded l n flow row to kind (read_at cl)) (told_at cl) reply
 
     abbrev pair : Class × Bool
@@ -202,7 +202,7 @@ module _ {I : Type 0} {l : LatticeOf I} {n : IntegersOf I} {gamma : I → ℤ �
       load_good : GoodAt (class_of kind) (giving s to reply)
       load_good = subst (λ cl. GoodAt cl (giving s to reply)) (sym (class_pair kind)) (ends (touch_end s.world at (machine.class_bytes flow.model (class_in kind)) false))
 
-module _ {I : Type 0} {l : LatticeOf I} {n : IntegersOf I} {gamma : I → ℤ → Type 0} (o : OrderLaws l) (q : BoundLaws l n gamma) (c : SoundLaws l n gamma) (flow : Flow) (p : HasPremises flow) (naming : Naming) (row : List (Cell I)) (s : Standing) (r : IsReached l n gamma flow naming row s) where
+module _ {I : Type 0} {l : LatticeOf I} {n : IntegersOf I} {gamma : I → ℤ → Type 0} (o : OrderLaws l) (q : BoundLaws l n gamma) (c : SoundLaws l n gamma) (flow : Flow) (p : HasPremises flow) (naming : Naming) (row : List (Cell I)) (s : ProgramState) (r : IsReached l n gamma flow naming row s) where
   pub load_sound : (to from : ℕ) (kind : declared.Scalar) → fits_operation (names_of flow) (op.Load to from kind) ≡ true → StepIsSound l n gamma flow row (op.Load to from kind) s
   unfolding operate load_step operation_violations
   load_sound to from kind fits =

@@ -39,7 +39,7 @@ use Rattle.memory_model.specs.Effects.Accesses as effect
 use Rattle.memory_model.specs.Effects.Operands.{is_of_kind}
 use Rattle.memory_model.specs.Effects.Touches.{Spot, touched}
 use Rattle.memory_model.specs.Effects.Worlds.{World, Reply, goes, stops, behind, stopped_by, Left, Stuck}
-use Rattle.semantics.specs.CfgMachine.FlowStates.{Standing}
+use Rattle.semantics.specs.CfgMachine.FlowStates.{ProgramState}
 use Rattle.semantics.specs.CfgMachine.FlowActs.{keeping, storing}
 use Rattle.store_sound.specs.Concretization.ValueMeaning.{Naming, InGammaPointer, InGammaScalar}
 use Rattle.store_sound.specs.Concretization.SoundMemory.{IsPointerIn, IsScalarIn}
@@ -72,7 +72,7 @@ module _ {I : Type 0} {l : LatticeOf I} {n : IntegersOf I} {gamma : I → ℤ �
 
   -- ---- the value that is kept
 
-  module _ (naming : Naming) (row : List (Cell I)) (s : Standing) (r : IsReached l n gamma flow naming row s) (told : Violations) where
+  module _ (naming : Naming) (row : List (Cell I)) (s : ProgramState) (r : IsReached l n gamma flow naming row s) (told : Violations) where
     clean : AreAdmitted told s.world.violated
     clean = same_admitted told s.world.violated [] r.begun (none_admitted told)
 
@@ -80,7 +80,7 @@ module _ {I : Type 0} {l : LatticeOf I} {n : IntegersOf I} {gamma : I → ℤ �
     unfolding move_temp
     keeps_good None fits = record {
       goes_on = λ t u e.
-          let now : Standing = record s { at = suc s.at } in
+          let now : ProgramState = record s { at = suc s.at } in
           let a : now ≡ t = cc in
           let b : s.world ≡ u = cc in
           let here : InGammaAfter l n gamma flow (Some row) (record now { world = s.world }) = record { row = row; is = refl; long = r.long; naming = naming; stands_for = r.stands_for; short = r.short } in
@@ -94,7 +94,7 @@ module _ {I : Type 0} {l : LatticeOf I} {n : IntegersOf I} {gamma : I → ℤ �
         let st = r.stands_for.temps k.1 v e in
         result_good q flow p naming row s r k.0 few (temp_value l n flow row k.1) v s.world (record { stands_for = st; near = temp_near row naming s.world.memory k.1 v st; within = r.stands_for.held.within k.1 v e }) refl _ told refl clean)
 
-module _ {I : Type 0} {l : LatticeOf I} {n : IntegersOf I} {gamma : I → ℤ → Type 0} (o : OrderLaws l) (q : BoundLaws l n gamma) (c : SoundLaws l n gamma) (ranges : RangeLaws l n) (flow : Flow) (p : HasPremises flow) (naming : Naming) (row : List (Cell I)) (s : Standing) (r : IsReached l n gamma flow naming row s) where
+module _ {I : Type 0} {l : LatticeOf I} {n : IntegersOf I} {gamma : I → ℤ → Type 0} (o : OrderLaws l) (q : BoundLaws l n gamma) (c : SoundLaws l n gamma) (ranges : RangeLaws l n) (flow : Flow) (p : HasPremises flow) (naming : Naming) (row : List (Cell I)) (s : ProgramState) (r : IsReached l n gamma flow naming row s) where
   module _ (kind : declared.Scalar) (kept : Option (ℕ × ℕ)) (has : has_kept (names_of flow) kept ≡ true) (x : Pointers I) (value : ℕ) where
     abbrev y : Value I
     y = temp_value l n flow row value
@@ -105,7 +105,7 @@ module _ {I : Type 0} {l : LatticeOf I} {n : IntegersOf I} {gamma : I → ℤ �
     abbrev after_at : Class × Bool → Option (List (Cell I))
     after_at cl = store l n flow.model flow.bases.items (touched_at cl).rest cl.0 cl.1 y row
 
-    abbrev GoodAt : Class × Bool → Reply Standing → Type 0
+    abbrev GoodAt : Class × Bool → Reply ProgramState → Type 0
     GoodAt cl reply = IsStoodFor l n gamma flow (moved_behind l n flow kept (after_at cl)) (touched_at cl).violations reply
 
     abbrev pair : Class × Bool
@@ -141,7 +141,7 @@ module _ {I : Type 0} {l : LatticeOf I} {n : IntegersOf I} {gamma : I → ℤ �
           let sv = r.stands_for.temps value v e in
           let long : p.laid.behind ≤ length row = subst (λ z. p.laid.behind ≤ z) (sym r.long) p.laid.long in
           let g = row_behind long u w rest sv (r.stands_for.held.within value v e) h (same_class (class_in kind) Char) refl in
-          let now : Standing = record s { world = u } in
+          let now : ProgramState = record s { world = u } in
           let lengths = lengths_behind u w h (same_class (class_in kind) Char) refl in
           let reached : IsReached l n gamma flow naming g.value now = record {
             long = store_keeps l n flow.model flow.bases.items (touched_at pair).rest (class_in kind) (signed_in kind) y row g.value g.is ∙ r.long;

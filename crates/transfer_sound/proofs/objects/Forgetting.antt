@@ -29,7 +29,7 @@ use Rattle.memory_model.specs.Memory.Instances.{Memory, bytes_at, byte_at}
 use Rattle.memory_model.specs.Effects.ObjectEffects.{all_of, forgotten}
 use Rattle.memory_model.specs.Effects.Touches.{set_bytes}
 use Rattle.memory_model.specs.Effects.Worlds.{World}
-use Rattle.semantics.specs.CfgMachine.FlowStates.{Standing}
+use Rattle.semantics.specs.CfgMachine.FlowStates.{ProgramState}
 use Rattle.store_sound.specs.Concretization.FirstZeroBytes.{first_zero}
 use Rattle.store_sound.specs.Concretization.Matching.{number_in}
 use Rattle.store_sound.specs.Concretization.ValueMeaning.{Naming, InGammaContent, InGammaZero}
@@ -60,7 +60,7 @@ pub part_blank : (size : Option ℕ) (offset : ℕ) (bytes : List Byte) → AreB
 part_blank None offset bytes h o b e = h (offset + o) b (sym (get_drop offset bytes o (offset + o) refl) ∙ e)
 part_blank (Some n) offset bytes h o b e = let x = get_take n (drop offset bytes) o b e in h (offset + o) b (sym (get_drop offset bytes o (offset + o) refl) ∙ x.1)
 
-module _ {I : Type 0} {l : LatticeOf I} {n : IntegersOf I} {gamma : I → ℤ → Type 0} (q : BoundLaws l n gamma) (flow : Flow) (p : HasPremises flow) (naming : Naming) (row : List (Cell I)) (s : Standing) (r : IsReached l n gamma flow naming row s)
+module _ {I : Type 0} {l : LatticeOf I} {n : IntegersOf I} {gamma : I → ℤ → Type 0} (q : BoundLaws l n gamma) (flow : Flow) (p : HasPremises flow) (naming : Naming) (row : List (Cell I)) (s : ProgramState) (r : IsReached l n gamma flow naming row s)
     (b i : ℕ) (info : BaseInfo) (at : slice_get flow.bases.items b ≡ Some info) (entered : s.bases b ≡ Some i) (declared : info.shape.heap ≡ false) (kind : info.kind ≡ Older → ⊥) where
   abbrev new : Memory
   new = set_bytes s.world.memory i (all_of indeterminate (bytes_at s.world.memory i))
@@ -113,7 +113,7 @@ module _ {I : Type 0} {l : LatticeOf I} {n : IntegersOf I} {gamma : I → ℤ �
       (rewrite_sane flow.model flow.bases.items naming (is_set q flow p naming row s r b i info at entered declared kind indeterminate).rewrite r.stands_for.sane (λ o x e. let z = blank_at o x e in rw z (tt, tt)))
       after outside own_leaves own_zeros
 
-module _ {I : Type 0} {l : LatticeOf I} {n : IntegersOf I} {gamma : I → ℤ → Type 0} (q : BoundLaws l n gamma) (flow : Flow) (p : HasPremises flow) (naming : Naming) (row : List (Cell I)) (s : Standing) (r : IsReached l n gamma flow naming row s) where
+module _ {I : Type 0} {l : LatticeOf I} {n : IntegersOf I} {gamma : I → ℤ → Type 0} (q : BoundLaws l n gamma) (flow : Flow) (p : HasPremises flow) (naming : Naming) (row : List (Cell I)) (s : ProgramState) (r : IsReached l n gamma flow naming row s) where
   pub forget_sound : (b : ℕ) → fits_operation (names_of flow) (op.Forget b) ≡ true → StepIsSound l n gamma flow row (op.Forget b) s
   unfolding operate forget operation_violations
   forget_sound b fits =
@@ -123,7 +123,7 @@ module _ {I : Type 0} {l : LatticeOf I} {n : IntegersOf I} {gamma : I → ℤ �
       if_some_good l n gamma flow _ no_violations s r.begun (s.bases b) _ (λ i e. record {
         goes_on = λ t u f.
             let w : World = forgotten i s.world in
-            let now : Standing = record s { at = suc s.at; world = w } in
+            let now : ProgramState = record s { at = suc s.at; world = w } in
             let a : now ≡ t = cc in
             let c : w ≡ u = cc in
             let here : InGammaAfter l n gamma flow (Some (at_base (blank_object l n) (slice_get flow.bases.items b) row)) (record now { world = w }) = record {

@@ -18,7 +18,7 @@ use Rattle.memory_model.specs.Memory.Bytes.{Content, Byte}
 use Rattle.memory_model.specs.Memory.Instances.{Memory, Instance, bytes_of, bytes_at, byte_at, live, life_at}
 use Rattle.memory_model.specs.Effects.ObjectEffects.{holding, all_of}
 use Rattle.memory_model.specs.Effects.Touches.{set_bytes}
-use Rattle.semantics.specs.CfgMachine.FlowStates.{Standing}
+use Rattle.semantics.specs.CfgMachine.FlowStates.{ProgramState}
 use Rattle.store_sound.specs.Concretization.ValueMeaning.{Naming}
 use Rattle.store_sound.specs.Concretization.RowMeaning.{IsLiveOf}
 use Rattle.store_sound.specs.Concretization.Coverage.{state_of}
@@ -62,7 +62,7 @@ some_kind [] b h = cc
 some_kind (x ∷ xs) zero h = (x, refl, h)
 some_kind (x ∷ xs) (suc b) h = some_kind xs b h
 
-module _ {I : Type 0} {l : LatticeOf I} {n : IntegersOf I} {gamma : I → ℤ → Type 0} (q : BoundLaws l n gamma) (flow : Flow) (p : HasPremises flow) (naming : Naming) (row : List (Cell I)) (s : Standing) (r : IsReached l n gamma flow naming row s)
+module _ {I : Type 0} {l : LatticeOf I} {n : IntegersOf I} {gamma : I → ℤ → Type 0} (q : BoundLaws l n gamma) (flow : Flow) (p : HasPremises flow) (naming : Naming) (row : List (Cell I)) (s : ProgramState) (r : IsReached l n gamma flow naming row s)
     (b i : ℕ) (info : BaseInfo) (at : slice_get flow.bases.items b ≡ Some info) (entered : s.bases b ≡ Some i) (declared : info.shape.heap ≡ false) (kind : info.kind ≡ Older → ⊥) (content : Content) where
   pub named : naming i ≡ Some b
   named = r.stands_for.lives.named b i entered

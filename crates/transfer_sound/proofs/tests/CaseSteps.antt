@@ -34,7 +34,7 @@ use Rattle.memory_model.specs.Effects.ScalarBytes.{contents}
 use Rattle.memory_model.specs.Effects.Accesses.{class_in}
 use Rattle.memory_model.specs.Effects.Tests.{object, object_bytes, side_scalar, object_relabelled, is_number, passing, pass_case}
 use Rattle.memory_model.specs.Effects.Worlds.{World, Stuck, with_memory}
-use Rattle.semantics.specs.CfgMachine.FlowStates.{Standing, with_instance}
+use Rattle.semantics.specs.CfgMachine.FlowStates.{ProgramState, with_instance}
 use Rattle.semantics.specs.CfgMachine.FlowEdges.{in_world, first_signed, integer_in, matching}
 use Rattle.lower_templates.specs.Views.ProgramViews.{flow_view}
 use Rattle.store_sound.specs.Concretization.ValueMeaning.{Naming}
@@ -58,7 +58,7 @@ case_scalar value None h = absurd (true≢false (sym h))
 case_scalar value (Some (integer z la)) h = let e : z ≡ value = (Decides-int_eq z value).0 h in (la, ap (λ x. Some (integer x la)) e)
 case_scalar value (Some (pointer p)) h = absurd (true≢false (sym h))
 
-module _ {I : Type 0} {l : LatticeOf I} {n : IntegersOf I} {gamma : I → ℤ → Type 0} (o : OrderLaws l) (q : BoundLaws l n gamma) (flow : Flow) (p : HasPremises flow) (naming : Naming) (row : List (Cell I)) (s : Standing) (r : IsReached l n gamma flow naming row s)
+module _ {I : Type 0} {l : LatticeOf I} {n : IntegersOf I} {gamma : I → ℤ → Type 0} (o : OrderLaws l) (q : BoundLaws l n gamma) (flow : Flow) (p : HasPremises flow) (naming : Naming) (row : List (Cell I)) (s : ProgramState) (r : IsReached l n gamma flow naming row s)
     (b i : ℕ) (kind : IntType) (t : IsScalarObject flow b (of.Int kind)) (en : s.bases b ≡ Some i) (value : ℤ) where
   abbrev memory : Memory
   memory = s.world.memory
@@ -129,7 +129,7 @@ module _ {I : Type 0} {l : LatticeOf I} {n : IntegersOf I} {gamma : I → ℤ �
           record {
             goes_on = λ y u f.
                 let new : World = with_memory s.world after in
-                let now : Standing = record s { world = new } in
+                let now : ProgramState = record s { world = new } in
                 let a : now ≡ y = cc in
                 let d : new ≡ u = cc in
                 let there : InGammaAfter l n gamma flow (refine_case l n flow b value row) (record now { world = new }) = record {
@@ -144,7 +144,7 @@ module _ {I : Type 0} {l : LatticeOf I} {n : IntegersOf I} {gamma : I → ℤ �
             admits = same_admitted no_violations s.world.violated [] r.begun (none_admitted no_violations);
           }
 
-module _ {I : Type 0} {l : LatticeOf I} {n : IntegersOf I} {gamma : I → ℤ → Type 0} (o : OrderLaws l) (q : BoundLaws l n gamma) (flow : Flow) (p : HasPremises flow) (naming : Naming) (row : List (Cell I)) (s : Standing) (r : IsReached l n gamma flow naming row s) where
+module _ {I : Type 0} {l : LatticeOf I} {n : IntegersOf I} {gamma : I → ℤ → Type 0} (o : OrderLaws l) (q : BoundLaws l n gamma) (flow : Flow) (p : HasPremises flow) (naming : Naming) (row : List (Cell I)) (s : ProgramState) (r : IsReached l n gamma flow naming row s) where
   -- a case looks at the size and the sign of the type alone
   same_case : (i : ℕ) (value : ℤ) (w : World) (a k : IntType) → a.bytes ≡ k.bytes → a.signed ≡ k.signed → pass_case flow.model i a value w ≡ pass_case flow.model i k value w
   same_case i value w a k e f =

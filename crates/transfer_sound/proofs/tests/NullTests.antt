@@ -36,7 +36,7 @@ use Rattle.memory_model.specs.Effects.Accesses.{same_place, is_part, are_parts, 
 use Rattle.memory_model.specs.Effects.Tests as machine
 use Rattle.memory_model.specs.Effects.Tests.{TestedSide, SideTest, object, nothing, scalar_size, object_bytes, side_scalar, pointers_hold, sides_hold, test_holds, passing}
 use Rattle.memory_model.specs.Effects.Worlds.{World, Stuck, with_memory}
-use Rattle.semantics.specs.CfgMachine.FlowStates.{Standing}
+use Rattle.semantics.specs.CfgMachine.FlowStates.{ProgramState}
 use Rattle.semantics.specs.CfgMachine.FlowEdges.{with_side, in_world, testing}
 use Rattle.lower_templates.specs.Views.ProgramViews.{flow_view}
 use Rattle.store_sound.specs.Concretization.ValueMeaning.{Naming, InGammaByLife, InGammaPointer, InGammaContent, InGammaZero}
@@ -140,7 +140,7 @@ module _ {I : Type 0} (l : LatticeOf I) (n : IntegersOf I) (gamma : I → ℤ �
 
 -- ---- the object
 
-module _ {I : Type 0} {l : LatticeOf I} {n : IntegersOf I} {gamma : I → ℤ → Type 0} (q : BoundLaws l n gamma) (flow : Flow) (p : HasPremises flow) (naming : Naming) (row : List (Cell I)) (s : Standing) (r : IsReached l n gamma flow naming row s)
+module _ {I : Type 0} {l : LatticeOf I} {n : IntegersOf I} {gamma : I → ℤ → Type 0} (q : BoundLaws l n gamma) (flow : Flow) (p : HasPremises flow) (naming : Naming) (row : List (Cell I)) (s : ProgramState) (r : IsReached l n gamma flow naming row s)
     (b i : ℕ) (t : IsScalarObject flow b of.Pointer) (en : s.bases b ≡ Some i) (rel : Rel) where
   abbrev memory : Memory
   memory = s.world.memory
@@ -265,7 +265,7 @@ module _ {I : Type 0} {l : LatticeOf I} {n : IntegersOf I} {gamma : I → ℤ �
       record {
         goes_on = λ y u f.
             let new : World = with_memory s.world memory in
-            let now : Standing = record s { world = new } in
+            let now : ProgramState = record s { world = new } in
             let a : now ≡ y = cc in
             let d : new ≡ u = cc in
             let there : InGammaAfter l n gamma flow goal (record now { world = new }) = record { row = after; is = is; long = length-set row place (Value (tested_value l v rel)) ∙ r.long; naming = naming; stands_for = refined_row k.at k.is k.hold; short = r.short } in
@@ -273,7 +273,7 @@ module _ {I : Type 0} {l : LatticeOf I} {n : IntegersOf I} {gamma : I → ℤ �
         admits = same_admitted no_violations s.world.violated [] r.begun (none_admitted no_violations);
       }
 
-module _ {I : Type 0} {l : LatticeOf I} {n : IntegersOf I} {gamma : I → ℤ → Type 0} (q : BoundLaws l n gamma) (flow : Flow) (p : HasPremises flow) (naming : Naming) (row : List (Cell I)) (s : Standing) (r : IsReached l n gamma flow naming row s) where
+module _ {I : Type 0} {l : LatticeOf I} {n : IntegersOf I} {gamma : I → ℤ → Type 0} (q : BoundLaws l n gamma) (flow : Flow) (p : HasPremises flow) (naming : Naming) (row : List (Cell I)) (s : ProgramState) (r : IsReached l n gamma flow naming row s) where
   pub null_test_sound : (test : Test) → IsNullTest flow test → IsStoodFor l n gamma flow (refine l n flow test row) no_violations (testing (flow_view flow) s (Some test))
   unfolding refine refine_named refine_pointer
   null_test_sound test t =

@@ -13,7 +13,7 @@ use Rattle.transfer_checks.specs.ViolationSets.{no_violations}
 use Rattle.memory_model.specs.Effects.Tests as machine
 use Rattle.memory_model.specs.Effects.Tests.{TestedSide, SideTest, object, constant, nothing, test_holds, passing}
 use Rattle.memory_model.specs.Effects.Worlds.{World, Reply, Stuck, with_memory}
-use Rattle.semantics.specs.CfgMachine.FlowStates.{Standing}
+use Rattle.semantics.specs.CfgMachine.FlowStates.{ProgramState}
 use Rattle.semantics.specs.CfgMachine.FlowEdges.{with_side, in_world, testing}
 use Rattle.lower_templates.specs.Views.ProgramViews.{flow_view}
 use Rattle.store_sound.specs.Concretization.ValueMeaning.{Naming}
@@ -22,8 +22,8 @@ use Rattle.transfer_sound.proofs.values.Admitted.{none_admitted, same_admitted}
 use Rattle.transfer_sound.proofs.values.Replies.{clean_stop_good, if_some_good}
 use Rattle.transfer_sound.specs.Tests.ScalarObjects.{IsPointerTest}
 
-module _ {I : Type 0} {l : LatticeOf I} {n : IntegersOf I} {gamma : I → ℤ → Type 0} (flow : Flow) (naming : Naming) (row : List (Cell I)) (s : Standing) (r : IsReached l n gamma flow naming row s) where
-  any_side_good : (after : Option (List (Cell I))) (x : Side) (use_it : TestedSide → Reply Standing) → ((ts : TestedSide) → IsStoodFor l n gamma flow after no_violations (use_it ts)) → IsStoodFor l n gamma flow after no_violations (with_side s x use_it)
+module _ {I : Type 0} {l : LatticeOf I} {n : IntegersOf I} {gamma : I → ℤ → Type 0} (flow : Flow) (naming : Naming) (row : List (Cell I)) (s : ProgramState) (r : IsReached l n gamma flow naming row s) where
+  any_side_good : (after : Option (List (Cell I))) (x : Side) (use_it : TestedSide → Reply ProgramState) → ((ts : TestedSide) → IsStoodFor l n gamma flow after no_violations (use_it ts)) → IsStoodFor l n gamma flow after no_violations (with_side s x use_it)
   any_side_good after (side.Object b kind) use_it h = if_some_good l n gamma flow after no_violations s r.begun (s.bases b) (λ i. use_it (object i kind)) (λ i e. h (object i kind))
   any_side_good after (side.Number z) use_it h = h (constant z)
   any_side_good after side.Null use_it h = h nothing
@@ -33,7 +33,7 @@ module _ {I : Type 0} {l : LatticeOf I} {n : IntegersOf I} {gamma : I → ℤ �
   stays_good after is true = record {
     goes_on = λ t u f.
         let new : World = with_memory s.world s.world.memory in
-        let now : Standing = record s { world = new } in
+        let now : ProgramState = record s { world = new } in
         let a : now ≡ t = cc in
         let d : new ≡ u = cc in
         let there : InGammaAfter l n gamma flow after (record now { world = new }) = record { row = row; is = is; long = r.long; naming = naming; stands_for = r.stands_for; short = r.short } in

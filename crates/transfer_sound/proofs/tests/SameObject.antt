@@ -38,7 +38,7 @@ use Rattle.memory_model.specs.Effects.ScalarBytes.{contents}
 use Rattle.memory_model.specs.Effects.Tests as machine
 use Rattle.memory_model.specs.Effects.Tests.{TestedSide, SideTest, object, scalar_size, object_bytes, side_scalar, test_holds, side_labels, bounded, after_test, passing}
 use Rattle.memory_model.specs.Effects.Worlds.{World, Reply, Stuck, with_memory}
-use Rattle.semantics.specs.CfgMachine.FlowStates.{Standing}
+use Rattle.semantics.specs.CfgMachine.FlowStates.{ProgramState}
 use Rattle.semantics.specs.CfgMachine.FlowEdges.{with_side, in_world}
 use Rattle.store_sound.specs.Concretization.Coverage.{state_of}
 use Rattle.store_sound.specs.Concretization.ValueMeaning.{Naming}
@@ -70,7 +70,7 @@ common_above s x y h k = both_below s.lo s.hi s.mutated x.lo x.hi x.mutated y.lo
 first_is : (a b : Leaf) → (a ∷ []) ≡ (b ∷ []) → a ≡ b
 first_is a b e = cc
 
-module _ {I : Type 0} {l : LatticeOf I} {n : IntegersOf I} {gamma : I → ℤ → Type 0} (o : OrderLaws l) (q : BoundLaws l n gamma) (c : SoundLaws l n gamma) (flow : Flow) (p : HasPremises flow) (naming : Naming) (row : List (Cell I)) (s : Standing) (r : IsReached l n gamma flow naming row s)
+module _ {I : Type 0} {l : LatticeOf I} {n : IntegersOf I} {gamma : I → ℤ → Type 0} (o : OrderLaws l) (q : BoundLaws l n gamma) (c : SoundLaws l n gamma) (flow : Flow) (p : HasPremises flow) (naming : Naming) (row : List (Cell I)) (s : ProgramState) (r : IsReached l n gamma flow naming row s)
     (rel : Rel) (k : IntType) (size : is_size k.bytes ≡ true) (b i : ℕ) (kl kr : declared.Scalar) (left : IsScalarObject flow b kl) (right : IsScalarObject flow b kr) (en : s.bases b ≡ Some i) where
   abbrev memory : Memory
   memory = s.world.memory
@@ -223,12 +223,12 @@ module _ {I : Type 0} {l : LatticeOf I} {n : IntegersOf I} {gamma : I → ℤ �
 
 -- ---- the test
 
-module _ {I : Type 0} {l : LatticeOf I} {n : IntegersOf I} {gamma : I → ℤ → Type 0} (o : OrderLaws l) (q : BoundLaws l n gamma) (c : SoundLaws l n gamma) (flow : Flow) (p : HasPremises flow) (naming : Naming) (row : List (Cell I)) (s : Standing) (r : IsReached l n gamma flow naming row s)
+module _ {I : Type 0} {l : LatticeOf I} {n : IntegersOf I} {gamma : I → ℤ → Type 0} (o : OrderLaws l) (q : BoundLaws l n gamma) (c : SoundLaws l n gamma) (flow : Flow) (p : HasPremises flow) (naming : Naming) (row : List (Cell I)) (s : ProgramState) (r : IsReached l n gamma flow naming row s)
     (test : Test) (k : IntType) (size : is_size k.bytes ≡ true) where
   abbrev with_sides : Side → Side → Test
   with_sides x y = record test { left = x; right = y }
 
-  abbrev behind_test : TestedSide → TestedSide → Reply Standing
+  abbrev behind_test : TestedSide → TestedSide → Reply ProgramState
   behind_test x y = in_world s (machine.pass_test flow.model (record { left = x; rel = test.rel; right = y; common = Some k }) s.world)
 
   abbrev refined_row : Side → Side → Option (List (Cell I))
@@ -262,7 +262,7 @@ module _ {I : Type 0} {l : LatticeOf I} {n : IntegersOf I} {gamma : I → ℤ �
     by_truth true e = record {
       goes_on = λ t u f.
           let new : World = with_memory s.world after_same in
-          let now : Standing = record s { world = new } in
+          let now : ProgramState = record s { world = new } in
           let a : now ≡ t = cc in
           let d : new ≡ u = cc in
           let here : InGammaAfter l n gamma flow (refined_row (side.Object b kl) (side.Object b kr)) (record now { world = new }) = record {

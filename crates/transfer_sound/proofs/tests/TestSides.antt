@@ -29,7 +29,7 @@ use Rattle.memory_model.specs.Effects.ScalarBytes.{contents}
 use Rattle.memory_model.specs.Effects.Accesses.{scalar_in}
 use Rattle.memory_model.specs.Effects.Tests.{TestedSide, SideTest, object, constant, nothing, scalar_size, side_scalar, test_holds, side_labels, bounded, after_test, passing}
 use Rattle.memory_model.specs.Effects.Worlds.{World, Reply, Stuck, with_memory}
-use Rattle.semantics.specs.CfgMachine.FlowStates.{Standing}
+use Rattle.semantics.specs.CfgMachine.FlowStates.{ProgramState}
 use Rattle.semantics.specs.CfgMachine.FlowEdges.{with_side, in_world}
 use Rattle.store_sound.specs.Concretization.ValueMeaning.{Naming}
 use Rattle.store_sound.specs.Concretization.RowMeaning.{InGamma}
@@ -117,7 +117,7 @@ module _ {I : Type 0} {l : LatticeOf I} {n : IntegersOf I} {gamma : I → ℤ �
 
 -- ---- both sides
 
-module _ {I : Type 0} {l : LatticeOf I} {n : IntegersOf I} {gamma : I → ℤ → Type 0} (o : OrderLaws l) (q : BoundLaws l n gamma) (c : SoundLaws l n gamma) (flow : Flow) (p : HasPremises flow) (naming : Naming) (row : List (Cell I)) (s : Standing) (r : IsReached l n gamma flow naming row s)
+module _ {I : Type 0} {l : LatticeOf I} {n : IntegersOf I} {gamma : I → ℤ → Type 0} (o : OrderLaws l) (q : BoundLaws l n gamma) (c : SoundLaws l n gamma) (flow : Flow) (p : HasPremises flow) (naming : Naming) (row : List (Cell I)) (s : ProgramState) (r : IsReached l n gamma flow naming row s)
     (test : Test) (k : IntType) (size : is_size k.bytes ≡ true) (apart : is_same_object test.left test.right ≡ false) where
   abbrev memory : Memory
   memory = s.world.memory
@@ -193,7 +193,7 @@ module _ {I : Type 0} {l : LatticeOf I} {n : IntegersOf I} {gamma : I → ℤ �
             record {
               goes_on = λ t u f.
                   let new : World = with_memory s.world after in
-                  let now : Standing = record s { world = new } in
+                  let now : ProgramState = record s { world = new } in
                   let a : now ≡ t = cc in
                   let d : new ≡ u = cc in
                   let here : InGammaAfter l n gamma flow (refine_in l n flow test (Some k) row) (record now { world = new }) = record {
@@ -210,8 +210,8 @@ module _ {I : Type 0} {l : LatticeOf I} {n : IntegersOf I} {gamma : I → ℤ �
 
 -- ---- the machine's sides
 
-module _ {I : Type 0} {l : LatticeOf I} {n : IntegersOf I} {gamma : I → ℤ → Type 0} (flow : Flow) (s : Standing) (clean : s.world.violated ≡ []) (after : Option (List (Cell I))) where
-  pub side_good : (x : Side) → NamesScalar flow x → (use_it : TestedSide → Reply Standing) → ((i : ℕ) → IsSeen flow s.bases x i → IsStoodFor l n gamma flow after no_violations (use_it (tested x i))) → IsStoodFor l n gamma flow after no_violations (with_side s x use_it)
+module _ {I : Type 0} {l : LatticeOf I} {n : IntegersOf I} {gamma : I → ℤ → Type 0} (flow : Flow) (s : ProgramState) (clean : s.world.violated ≡ []) (after : Option (List (Cell I))) where
+  pub side_good : (x : Side) → NamesScalar flow x → (use_it : TestedSide → Reply ProgramState) → ((i : ℕ) → IsSeen flow s.bases x i → IsStoodFor l n gamma flow after no_violations (use_it (tested x i))) → IsStoodFor l n gamma flow after no_violations (with_side s x use_it)
   side_good (side.Object b kind) t use_it h = if_some_good l n gamma flow after no_violations s clean (s.bases b) (λ i. use_it (object i kind)) (λ i e. h i (t, e))
   side_good (side.Number z) t use_it h = h 0 t
   side_good side.Null t use_it h = h 0 tt

@@ -54,7 +54,7 @@ use Rattle.memory_model.specs.Effects.IntegerEffects.{truth}
 use Rattle.memory_model.specs.Effects.PointerEffects as effect
 use Rattle.memory_model.specs.Effects.PointerEffects.{is_ended_life, is_ended, offset_of, is_into, share_instance, compared, elements_between, pointer_difference, are_equal, pointers_compared}
 use Rattle.memory_model.specs.Effects.Worlds.{Reply, goes, unless}
-use Rattle.semantics.specs.CfgMachine.FlowStates.{Standing}
+use Rattle.semantics.specs.CfgMachine.FlowStates.{ProgramState}
 use Rattle.semantics.specs.CfgMachine.FlowActs.{giving}
 use Rattle.store_sound.specs.Concretization.ValueMeaning.{Naming, InGammaInto, InGammaByLife, InGammaPointer, InGammaScalar}
 use Rattle.store_sound.specs.Concretization.SoundMemory.{IsWithin, IsPointerIn}
@@ -126,7 +126,7 @@ distance_type m z top w h =
     let b = w.to in
     and_from _ _ (le_told (least_of (kind_of m class.Pointer true)) z (omega (arith, ints, a, h))) (le_told z (greatest_of (kind_of m class.Pointer true)) (omega (arith, ints, b, h)))
 
-module _ {I : Type 0} {l : LatticeOf I} {n : IntegersOf I} {gamma : I → ℤ → Type 0} (o : OrderLaws l) (q : BoundLaws l n gamma) (c : SoundLaws l n gamma) (flow : Flow) (p : HasPremises flow) (naming : Naming) (row : List (Cell I)) (s : Standing) (r : IsReached l n gamma flow naming row s) where
+module _ {I : Type 0} {l : LatticeOf I} {n : IntegersOf I} {gamma : I → ℤ → Type 0} (o : OrderLaws l) (q : BoundLaws l n gamma) (c : SoundLaws l n gamma) (flow : Flow) (p : HasPremises flow) (naming : Naming) (row : List (Cell I)) (s : ProgramState) (r : IsReached l n gamma flow naming row s) where
   abbrev single : Bases
   single = single_bases flow.bases.items
 

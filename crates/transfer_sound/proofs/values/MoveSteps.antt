@@ -43,7 +43,7 @@ use Rattle.memory_model.specs.Effects.PointerEffects.{is_ended_life, distance_of
 use Rattle.memory_model.specs.Effects.IntegerEffects.{plain_one}
 use Rattle.memory_model.specs.Effects.Operands.{as_pointer}
 use Rattle.memory_model.specs.Effects.Worlds.{World, Reply, noted, unless}
-use Rattle.semantics.specs.CfgMachine.FlowStates.{Standing}
+use Rattle.semantics.specs.CfgMachine.FlowStates.{ProgramState}
 use Rattle.semantics.specs.CfgMachine.FlowActs.{giving, with_amount}
 use Rattle.store_sound.specs.Concretization.SeenLabels.{as_set}
 use Rattle.store_sound.specs.Concretization.ValueMeaning.{Naming, InGammaInto, InGammaByLife, InGammaPointer, InGammaScalar}
@@ -107,14 +107,14 @@ module _ {I : Type 0} {l : LatticeOf I} {n : IntegersOf I} {gamma : I → ℤ �
       by_bounds None h e = absurd h
       by_bounds (Some p) h e = let a = h.0 in let b = h.1 in let c = e.0 in let d = e.1 in record { from = omega (arith, ints, a, c); to = omega (arith, ints, b, d) }
 
-module _ {I : Type 0} {l : LatticeOf I} {n : IntegersOf I} {gamma : I → ℤ → Type 0} (o : OrderLaws l) (q : BoundLaws l n gamma) (flow : Flow) (p : HasPremises flow) (naming : Naming) (row : List (Cell I)) (s : Standing) (r : IsReached l n gamma flow naming row s) where
+module _ {I : Type 0} {l : LatticeOf I} {n : IntegersOf I} {gamma : I → ℤ → Type 0} (o : OrderLaws l) (q : BoundLaws l n gamma) (flow : Flow) (p : HasPremises flow) (naming : Naming) (row : List (Cell I)) (s : ProgramState) (r : IsReached l n gamma flow naming row s) where
   -- ---- amounts
 
   near_temp : (t : ℕ) (z : ℤ) → gamma (temp_value l n flow row t).num z → IsNearNumber z
   unfolding value_at
   near_temp t z h = near_has q _ z h
 
-  pub amount_good : (after : Option (List (Cell I))) (v : Violations) (by : Amount) (use_it : Scalar → Reply Standing) → ((w : Scalar) → InGammaScalar gamma naming s.world.memory (amount_value l n flow row by) w → ((z : ℤ) (la : Labels) → w ≡ integer z la → IsNearNumber z) → IsStoodFor l n gamma flow after v (use_it w)) → IsStoodFor l n gamma flow after v (with_amount s by use_it)
+  pub amount_good : (after : Option (List (Cell I))) (v : Violations) (by : Amount) (use_it : Scalar → Reply ProgramState) → ((w : Scalar) → InGammaScalar gamma naming s.world.memory (amount_value l n flow row by) w → ((z : ℤ) (la : Labels) → w ≡ integer z la → IsNearNumber z) → IsStoodFor l n gamma flow after v (use_it w)) → IsStoodFor l n gamma flow after v (with_amount s by use_it)
   amount_good after v (amount.Temp t) use_it h = if_some_good l n gamma flow after v s r.begun (s.temps t) use_it (λ w e.
       let st = r.stands_for.temps t w e in h w st (λ z la g. near_temp t z (subst (InGammaScalar gamma naming s.world.memory (temp_value l n flow row t)) g st).0))
   amount_good after v amount.One use_it h =

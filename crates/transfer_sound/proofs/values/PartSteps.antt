@@ -37,7 +37,7 @@ use Rattle.memory_model.specs.Effects.Touches.{is_allocated, touched_live, touch
 use Rattle.memory_model.specs.Effects.PointerEffects.{narrowed_by, narrow_pointer}
 use Rattle.memory_model.specs.Effects.Operands.{as_pointer}
 use Rattle.memory_model.specs.Effects.Worlds.{behind, goes}
-use Rattle.semantics.specs.CfgMachine.FlowStates.{Standing, size_in}
+use Rattle.semantics.specs.CfgMachine.FlowStates.{ProgramState, size_in}
 use Rattle.semantics.specs.CfgMachine.FlowActs.{giving}
 use Rattle.store_sound.specs.Concretization.ValueMeaning.{Naming, InGammaInto, InGammaByLife, InGammaPointer, InGammaScalar}
 use Rattle.store_sound.specs.Concretization.SoundMemory.{IsWithin, IsPointerIn, storage_for}
@@ -83,7 +83,7 @@ part_whole : {I : Type 0} (l : LatticeOf I) (n : IntegersOf I) (p : Pointers I) 
 part_whole l n p size b None h e = true≢false (sym h ∙ none_has b)
 part_whole l n p size b (Some r) h e = true≢false e
 
-module _ {I : Type 0} {l : LatticeOf I} {n : IntegersOf I} {gamma : I → ℤ → Type 0} (o : OrderLaws l) (q : BoundLaws l n gamma) (flow : Flow) (p : HasPremises flow) (naming : Naming) (row : List (Cell I)) (s : Standing) (r : IsReached l n gamma flow naming row s) where
+module _ {I : Type 0} {l : LatticeOf I} {n : IntegersOf I} {gamma : I → ℤ → Type 0} (o : OrderLaws l) (q : BoundLaws l n gamma) (flow : Flow) (p : HasPremises flow) (naming : Naming) (row : List (Cell I)) (s : ProgramState) (r : IsReached l n gamma flow naming row s) where
   clean : (v : Violations) → AreAdmitted v s.world.violated
   clean v = same_admitted v s.world.violated [] r.begun (none_admitted v)
 

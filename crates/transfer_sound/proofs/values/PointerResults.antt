@@ -16,7 +16,7 @@ use Rattle.memory_model.specs.Memory.Bytes.{MachinePointer}
 use Rattle.memory_model.specs.Memory.Instances.{Memory, Life, live, ended, freed}
 use Rattle.memory_model.specs.Memory.Scalars.{pointer}
 use Rattle.memory_model.specs.Effects.Worlds.{World, goes, violating, stopped_by}
-use Rattle.semantics.specs.CfgMachine.FlowStates.{Standing}
+use Rattle.semantics.specs.CfgMachine.FlowStates.{ProgramState}
 use Rattle.semantics.specs.CfgMachine.FlowActs.{giving}
 use Rattle.store_sound.specs.Concretization.ValueMeaning.{Naming, InGammaInto, InGammaByLife, InGammaPointer}
 use Rattle.store_sound.specs.Concretization.SoundMemory.{IsPointerIn}
@@ -41,7 +41,7 @@ module _ {I : Type 0} (gamma : I → ℤ → Type 0) (naming : Naming) (memory :
   pub as_into : (v : Pointers I) (i offset lo hi : ℕ) (s : InGammaInto gamma naming memory v i offset lo hi) → IsInto gamma v s.base (pos lo) (pos offset) (pos hi)
   as_into v i offset lo hi s = record { among = s.among; lower = s.lower; relative = s.relative; room = s.room }
 
-module _ {I : Type 0} {l : LatticeOf I} {n : IntegersOf I} {gamma : I → ℤ → Type 0} (q : BoundLaws l n gamma) (flow : Flow) (p : HasPremises flow) (naming : Naming) (row : List (Cell I)) (s : Standing) (r : IsReached l n gamma flow naming row s) (to : ℕ) (few : to < flow.temps) where
+module _ {I : Type 0} {l : LatticeOf I} {n : IntegersOf I} {gamma : I → ℤ → Type 0} (q : BoundLaws l n gamma) (flow : Flow) (p : HasPremises flow) (naming : Naming) (row : List (Cell I)) (s : ProgramState) (r : IsReached l n gamma flow naming row s) (to : ℕ) (few : to < flow.temps) where
   -- a pointer in a temporary, in a world with the memory of the step's
   pub pointer_given : (x : Pointers I) (at : MachinePointer) (w : World) (v : Violations) (after : Option (List (Cell I))) → InGammaPointer gamma naming s.world.memory x at → IsPointerIn s.world.memory at → w.memory ≡ s.world.memory → after ≡ put_pointer l flow row to x → AreAdmitted v w.violated → IsStoodFor l n gamma flow after v (giving s to (goes (pointer at) w))
   pointer_given x at w v after h within same is told =

@@ -14,7 +14,7 @@ use Rattle.memory_model.specs.Memory.Scalars.{Scalar, integer, pointer}
 use Rattle.memory_model.specs.Effects.NumberedTables.{put_at}
 use Rattle.memory_model.specs.Effects.Worlds.{World, Why, Reply, goes, stops}
 use Rattle.memory_model.specs.Effects.Operands.{with_number, with_pointer}
-use Rattle.semantics.specs.CfgMachine.FlowStates.{Standing, if_some}
+use Rattle.semantics.specs.CfgMachine.FlowStates.{ProgramState, if_some}
 use Rattle.semantics.specs.CfgMachine.FlowActs.{giving}
 use Rattle.store_sound.specs.Concretization.ValueMeaning.{Naming}
 use Rattle.store_sound.specs.Concretization.RowMeaning.{InGamma}
@@ -25,7 +25,7 @@ use Rattle.transfer_sound.proofs.values.Admitted.{AreAdmitted, none_admitted, sa
 use Rattle.transfer_sound.proofs.values.PutTemps.{IsResult, put_stands, put_long}
 
 module _ {I : Type 0} (l : LatticeOf I) (n : IntegersOf I) (gamma : I → ℤ → Type 0) (flow : Flow) (after : Option (List (Cell I))) (admitted : Violations) where
-  abbrev Good : Reply Standing → Type 0
+  abbrev Good : Reply ProgramState → Type 0
   Good reply = IsStoodFor l n gamma flow after admitted reply
 
   -- where the run stops there is nothing to stand for
@@ -35,27 +35,27 @@ module _ {I : Type 0} (l : LatticeOf I) (n : IntegersOf I) (gamma : I → ℤ �
   pub clean_stop_good : (why : Why) (w : World) → w.violated ≡ [] → Good (stops why w)
   clean_stop_good why w h = stop_good why w (same_admitted admitted w.violated [] h (none_admitted admitted))
 
-  pub if_some_good : {A : Type 0} (s : Standing) → s.world.violated ≡ [] → (o : Option A) (use_it : A → Reply Standing) → ((x : A) → o ≡ Some x → Good (use_it x)) → Good (if_some s o use_it)
+  pub if_some_good : {A : Type 0} (s : ProgramState) → s.world.violated ≡ [] → (o : Option A) (use_it : A → Reply ProgramState) → ((x : A) → o ≡ Some x → Good (use_it x)) → Good (if_some s o use_it)
   if_some_good s clean None use_it h = clean_stop_good _ s.world clean
   if_some_good s clean (Some x) use_it h = h x refl
 
   -- ---- operands
 
-  pub number_good : (s : Standing) (to : ℕ) (v : Scalar) (w : World) (use_it : ℤ → Labels → World → Reply Scalar) → w.violated ≡ [] → ((z : ℤ) (labels : Labels) → v ≡ integer z labels → Good (giving s to (use_it z labels w))) → Good (giving s to (with_number v w use_it))
+  pub number_good : (s : ProgramState) (to : ℕ) (v : Scalar) (w : World) (use_it : ℤ → Labels → World → Reply Scalar) → w.violated ≡ [] → ((z : ℤ) (labels : Labels) → v ≡ integer z labels → Good (giving s to (use_it z labels w))) → Good (giving s to (with_number v w use_it))
   number_good s to (integer z labels) w use_it clean h = h z labels refl
   number_good s to (pointer p) w use_it clean h = clean_stop_good _ w clean
 
-  pub pointer_good : (s : Standing) (to : ℕ) (v : Scalar) (w : World) (use_it : MachinePointer → World → Reply Scalar) → w.violated ≡ [] → ((p : MachinePointer) → v ≡ pointer p → Good (giving s to (use_it p w))) → Good (giving s to (with_pointer v w use_it))
+  pub pointer_good : (s : ProgramState) (to : ℕ) (v : Scalar) (w : World) (use_it : MachinePointer → World → Reply Scalar) → w.violated ≡ [] → ((p : MachinePointer) → v ≡ pointer p → Good (giving s to (use_it p w))) → Good (giving s to (with_pointer v w use_it))
   pointer_good s to (integer z labels) w use_it clean h = clean_stop_good _ w clean
   pointer_good s to (pointer p) w use_it clean h = h p refl
 
-  pub cond_good : (s : Standing) (to : ℕ) (b : Bool) (x y : Reply Scalar) → (b ≡ true → Good (giving s to x)) → (b ≡ false → Good (giving s to y)) → Good (giving s to (cond b x y))
+  pub cond_good : (s : ProgramState) (to : ℕ) (b : Bool) (x y : Reply Scalar) → (b ≡ true → Good (giving s to x)) → (b ≡ false → Good (giving s to y)) → Good (giving s to (cond b x y))
   cond_good s to true x y h k = h refl
   cond_good s to false x y h k = k refl
 
-module _ {I : Type 0} {l : LatticeOf I} {n : IntegersOf I} {gamma : I → ℤ → Type 0} (q : BoundLaws l n gamma) (flow : Flow) (p : HasPremises flow) (naming : Naming) (row : List (Cell I)) (s : Standing) (r : IsReached l n gamma flow naming row s) where
+module _ {I : Type 0} {l : LatticeOf I} {n : IntegersOf I} {gamma : I → ℤ → Type 0} (q : BoundLaws l n gamma) (flow : Flow) (p : HasPremises flow) (naming : Naming) (row : List (Cell I)) (s : ProgramState) (r : IsReached l n gamma flow naming row s) where
   -- the standing behind an instruction that gives something
-  abbrev standing_behind : ℕ → Scalar → World → Standing
+  abbrev standing_behind : ℕ → Scalar → World → ProgramState
   standing_behind to v w = record s { at = suc s.at; temps = put_at s.temps to v; world = w }
 
   module _ (to : ℕ) (few : to < flow.temps) (x : Value I) (v : Scalar) (w : World) (result : IsResult q flow p naming s.world.memory x v) (same : w.memory ≡ s.world.memory) where

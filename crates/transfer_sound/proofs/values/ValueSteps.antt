@@ -51,7 +51,7 @@ use Rattle.memory_model.specs.Memory.Bytes.{MachinePointer, null}
 use Rattle.memory_model.specs.Memory.Scalars.{Scalar, integer, pointer, is_false}
 use Rattle.memory_model.specs.Effects.Worlds.{Stuck, Reply, goes, stops, violating}
 use Rattle.memory_model.specs.Effects.IntegerEffects.{truth, plain_one, is_outside, binary_faults, why_none, computed, binary_numbers, unary_math, overflow_faults, unary_number, pointer_from, convert, fault_if}
-use Rattle.semantics.specs.CfgMachine.FlowStates.{Standing}
+use Rattle.semantics.specs.CfgMachine.FlowStates.{ProgramState}
 use Rattle.semantics.specs.CfgMachine.FlowActs.{giving, with_amount}
 use Rattle.store_sound.specs.Concretization.SeenLabels.{as_set}
 use Rattle.store_sound.specs.Concretization.ValueMeaning.{Naming, InGammaScalar, InGammaPointer}
@@ -99,7 +99,7 @@ is_near z h =
 size_of : (f : Flow) (k : IntType) → is_int_type f.model k ≡ true → is_size k.bytes ≡ true
 size_of f k h = (and_parts (is_size k.bytes) _ h).0
 
-module _ {I : Type 0} {l : LatticeOf I} {n : IntegersOf I} {gamma : I → ℤ → Type 0} (q : BoundLaws l n gamma) (c : SoundLaws l n gamma) (ranges : RangeLaws l n) (flow : Flow) (p : HasPremises flow) (naming : Naming) (row : List (Cell I)) (s : Standing) (r : IsReached l n gamma flow naming row s) where
+module _ {I : Type 0} {l : LatticeOf I} {n : IntegersOf I} {gamma : I → ℤ → Type 0} (q : BoundLaws l n gamma) (c : SoundLaws l n gamma) (ranges : RangeLaws l n) (flow : Flow) (p : HasPremises flow) (naming : Naming) (row : List (Cell I)) (s : ProgramState) (r : IsReached l n gamma flow naming row s) where
   abbrev Sound : Operation → Type 0
   Sound o = StepIsSound l n gamma flow row o s
 
@@ -171,7 +171,7 @@ module _ {I : Type 0} {l : LatticeOf I} {n : IntegersOf I} {gamma : I → ℤ �
 
   -- ---- operators on two integers
 
-  amount_good : (after : Option (List (Cell I))) (v : Violations) (by : Amount) (use_it : Scalar → Reply Standing) → ((w : Scalar) → InGammaScalar gamma naming s.world.memory (amount_value l n flow row by) w → IsStoodFor l n gamma flow after v (use_it w)) → IsStoodFor l n gamma flow after v (with_amount s by use_it)
+  amount_good : (after : Option (List (Cell I))) (v : Violations) (by : Amount) (use_it : Scalar → Reply ProgramState) → ((w : Scalar) → InGammaScalar gamma naming s.world.memory (amount_value l n flow row by) w → IsStoodFor l n gamma flow after v (use_it w)) → IsStoodFor l n gamma flow after v (with_amount s by use_it)
   amount_good after v (amount.Temp t) use_it h = if_some_good l n gamma flow after v s r.begun (s.temps t) use_it (λ w e. h w (temp_stands t w e))
   amount_good after v amount.One use_it h = h plain_one (near_number_stands q (n.one (pos 1)) (pos 1) (record { from = omega (arith, ints); to = omega (arith, ints) }) (q.one_stands (pos 1)), refl)
 

@@ -14,7 +14,7 @@ use Rattle.value_domain.specs.declared.values.row_cells.Cell.{Cell}
 use Rattle.transfer_system.specs.Refinements.{refine, refine_case}
 use Rattle.transfer_checks.specs.ViolationSets.{no_violations}
 use Rattle.lower_templates.specs.Views.ProgramViews.{flow_view}
-use Rattle.semantics.specs.CfgMachine.FlowStates.{Standing}
+use Rattle.semantics.specs.CfgMachine.FlowStates.{ProgramState}
 use Rattle.semantics.specs.CfgMachine.FlowEdges.{testing, matching}
 use Rattle.store_sound.specs.Concretization.ValueMeaning.{Naming}
 use Rattle.store_sound.specs.Programs.Premises.{HasPremises}
@@ -33,12 +33,12 @@ module _ {I : Type 0} (l : LatticeOf I) (n : IntegersOf I) (gamma : I → ℤ �
   -- where a test agrees with memory, what it makes of the row stands for what it makes of memory
   abbrev pub TestIsSound : Option Test → Type 0
   TestIsSound None = Unit {0}
-  TestIsSound (Some test) = (naming : Naming) (row : List (Cell I)) (s : Standing) → IsReached l n gamma flow naming row s → IsStoodFor l n gamma flow (refine l n flow test row) no_violations (testing (flow_view flow) s (Some test))
+  TestIsSound (Some test) = (naming : Naming) (row : List (Cell I)) (s : ProgramState) → IsReached l n gamma flow naming row s → IsStoodFor l n gamma flow (refine l n flow test row) no_violations (testing (flow_view flow) s (Some test))
 
   -- where the object that is switched on has a label's value
   abbrev pub CaseIsSound : ℤ → Option ℕ → Type 0
   CaseIsSound value None = Unit {0}
-  CaseIsSound value (Some base) = (naming : Naming) (row : List (Cell I)) (s : Standing) → IsReached l n gamma flow naming row s → IsStoodFor l n gamma flow (refine_case l n flow base value row) no_violations (matching (flow_view flow) s value (Some base))
+  CaseIsSound value (Some base) = (naming : Naming) (row : List (Cell I)) (s : ProgramState) → IsReached l n gamma flow naming row s → IsStoodFor l n gamma flow (refine_case l n flow base value row) no_violations (matching (flow_view flow) s value (Some base))
 
   abbrev pub KindIsSound : EdgeKind → Type 0
   KindIsSound (kind.When truth test kept) = TestIsSound test

@@ -17,7 +17,7 @@ use Rattle.transfer_system.specs.Edges.{edge}
 use Rattle.row_bounds.specs.AdmittedRules.{instructions_of, row_behind, map_pairs}
 use Rattle.memory_model.specs.Effects.Worlds.{Violation}
 use Rattle.lower_templates.specs.Views.ProgramViews.{flow_view}
-use Rattle.semantics.specs.CfgMachine.FlowStates.{Standing, running}
+use Rattle.semantics.specs.CfgMachine.FlowStates.{ProgramState, running}
 use Rattle.semantics.specs.CfgMachine.FlowSteps.{flow_steps}
 use Rattle.semantics.specs.CfgMachine.FlowStarts.{flow_begin}
 use Rattle.store_sound.specs.Concretization.Coverage.{state_of, EachRunIsCovered}
@@ -43,16 +43,16 @@ module _ {I : Type 0} (l : LatticeOf I) (n : IntegersOf I) (flow : Flow) where
 
 -- in each run operands are such as their instructions suppose
 abbrev pub HasTypedRuns : Flow → UnitView → Type 0
-HasTypedRuns flow u = (draws : List ℤ) (steps : ℕ) (s : Standing) (found : List Violation) (i : Instruction) → flow_steps (flow_view flow) steps (flow_begin u (flow_view flow) draws) ≡ running s found → slice_get (instructions_of flow s.block) s.at ≡ Some i → HasOperands i.operation s.temps
+HasTypedRuns flow u = (draws : List ℤ) (steps : ℕ) (s : ProgramState) (found : List Violation) (i : Instruction) → flow_steps (flow_view flow) steps (flow_begin u (flow_view flow) draws) ≡ running s found → slice_get (instructions_of flow s.block) s.at ≡ Some i → HasOperands i.operation s.temps
 
 module _ {I : Type 0} (l : LatticeOf I) (n : IntegersOf I) (gamma : I → ℤ → Type 0) (flow : Flow) where
   -- the row of the entry stands for the state in which a run begins
   abbrev pub Begins : UnitView → List (Option (List (Cell I))) → Type 0
-  Begins u rows = (draws : List ℤ) (s : Standing) → flow_begin u (flow_view flow) draws ≡ running s [] → InGammaAfter l n gamma flow (row_at rows 0) s
+  Begins u rows = (draws : List ℤ) (s : ProgramState) → flow_begin u (flow_view flow) draws ≡ running s [] → InGammaAfter l n gamma flow (row_at rows 0) s
 
   -- where the row that comes along an edge stands for a state, so does the row of the block that the edge enters
   abbrev pub Carries : List (Option (List (Cell I))) → Type 0
-  Carries rows = (number : ℕ) (e : Edge) (row : List (Cell I)) (s : Standing) → slice_get flow.edges.items number ≡ Some e → row_before l n flow rows e.from (length (instructions_of flow e.from)) ≡ Some row → InGammaAfter l n gamma flow (edge l n flow row number) s → InGammaAfter l n gamma flow (row_at rows e.to) s
+  Carries rows = (number : ℕ) (e : Edge) (row : List (Cell I)) (s : ProgramState) → slice_get flow.edges.items number ≡ Some e → row_before l n flow rows e.from (length (instructions_of flow e.from)) ≡ Some row → InGammaAfter l n gamma flow (edge l n flow row number) s → InGammaAfter l n gamma flow (row_at rows e.to) s
 
   -- where each instruction is sound, each run is covered by a map that begins with it and carries it on
   abbrev pub IsCoveredByLaws : Type 0
@@ -61,7 +61,7 @@ module _ {I : Type 0} (l : LatticeOf I) (n : IntegersOf I) (gamma : I → ℤ �
 
   -- where the row before an instruction stands for a state, the operands there are such as the instruction supposes
   abbrev pub TypesOperands : List (Option (List (Cell I))) → Type 0
-  TypesOperands rows = (naming : Naming) (row : List (Cell I)) (s : Standing) (i : Instruction) → slice_get (instructions_of flow s.block) s.at ≡ Some i → row_before l n flow rows s.block s.at ≡ Some row → InGamma l n gamma flow naming row (state_of s) → HasOperands i.operation s.temps
+  TypesOperands rows = (naming : Naming) (row : List (Cell I)) (s : ProgramState) (i : Instruction) → slice_get (instructions_of flow s.block) s.at ≡ Some i → row_before l n flow rows s.block s.at ≡ Some row → InGamma l n gamma flow naming row (state_of s) → HasOperands i.operation s.temps
 
   -- where such a map begins with a run and carries it on, it covers the run, whose operands are of their types
   abbrev pub IsTypedByRows : Type 0

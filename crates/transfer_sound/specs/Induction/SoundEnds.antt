@@ -20,7 +20,7 @@ use Rattle.row_bounds.specs.AdmittedRules.{instructions_of}
 use Rattle.memory_model.specs.Effects.Worlds.{World, goes, world_of}
 use Rattle.lower_templates.specs.Worklist.Acts.{act}
 use Rattle.lower_templates.specs.Views.ProgramViews.{flow_view}
-use Rattle.semantics.specs.CfgMachine.FlowStates.{Standing}
+use Rattle.semantics.specs.CfgMachine.FlowStates.{ProgramState}
 use Rattle.semantics.specs.CfgMachine.FlowSteps.{act_step}
 use Rattle.store_sound.specs.Concretization.ValueMeaning.{Naming}
 use Rattle.transfer_sound.specs.Values.SoundSteps.{IsReached, InGammaAfter, AreSound}
@@ -43,7 +43,7 @@ EndsBlock o = leads o ≡ On → ⊥
 module _ {I : Type 0} (l : LatticeOf I) (n : IntegersOf I) (gamma : I → ℤ → Type 0) (flow : Flow) where
   -- along an edge from the block that is left, to the start of the block that is entered; the row at the end of the block is
   -- that before the instruction
-  pub record EdgeBehind (row : List (Cell I)) (o : Operation) (from : ℕ) (s : Standing) : Type 0 where
+  pub record EdgeBehind (row : List (Cell I)) (o : Operation) (from : ℕ) (s : ProgramState) : Type 0 where
     pub stays : operate l n flow row o ≡ Some row
     pub number : ℕ
     pub taken : Edge
@@ -53,13 +53,13 @@ module _ {I : Type 0} (l : LatticeOf I) (n : IntegersOf I) (gamma : I → ℤ �
     pub starts : s.at ≡ 0
     pub behind : InGammaAfter l n gamma flow (edge l n flow row number) s
 
-  pub record EndIsSound (row : List (Cell I)) (o : Operation) (s : Standing) : Type 0 where
-    pub goes_on : (t : Standing) (w : World) → act_step (flow_view flow) (act o) s ≡ goes t w → EdgeBehind row o s.block (record t { world = w })
+  pub record EndIsSound (row : List (Cell I)) (o : Operation) (s : ProgramState) : Type 0 where
+    pub goes_on : (t : ProgramState) (w : World) → act_step (flow_view flow) (act o) s ≡ goes t w → EdgeBehind row o s.block (record t { world = w })
     pub admits : (r : Rule) → Contains (world_of (act_step (flow_view flow) (act o) s)).violated r → violates (operation_violations l n flow row o) r ≡ true
 
   -- instructions that end the blocks of a well-formed program
   abbrev pub EndsAreSound : Limits → (Operation → Type 0) → Type 0
-  EndsAreSound limits Is = is_well_formed limits flow ≡ true → (naming : Naming) (row : List (Cell I)) (s : Standing) (i : Instruction) → last_instruction flow s.block ≡ Some i → Is i.operation → IsReached l n gamma flow naming row s → EndIsSound row i.operation s
+  EndsAreSound limits Is = is_well_formed limits flow ≡ true → (naming : Naming) (row : List (Cell I)) (s : ProgramState) (i : Instruction) → last_instruction flow s.block ≡ Some i → Is i.operation → IsReached l n gamma flow naming row s → EndIsSound row i.operation s
 
   abbrev pub StepsGoOnSoundly : Type 0
   StepsGoOnSoundly = AreSound l n gamma flow (λ o. GoesOn o × IsDoneIn flow o)

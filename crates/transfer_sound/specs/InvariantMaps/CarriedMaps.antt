@@ -7,7 +7,7 @@ use Rattle.cc_base.specs.Rows.{row_leq}
 use Rattle.c_layout.specs.CheckedUnits.{UnitView}
 use Rattle.cfg.specs.declared.programs.Flow.{Flow}
 use Rattle.lower_templates.specs.Views.ProgramViews.{flow_view}
-use Rattle.semantics.specs.CfgMachine.FlowStates.{Standing, running}
+use Rattle.semantics.specs.CfgMachine.FlowStates.{ProgramState, running}
 use Rattle.semantics.specs.CfgMachine.FlowStarts.{flow_begin}
 use Rattle.value_domain.specs.declared.values.row_cells.Cell.{Cell}
 use Rattle.value_domain.specs.declared.values.row_cells.Cell.TheVariants.{Nothing, Value, First, State, Mixed}
@@ -47,7 +47,7 @@ module _ {I : Type 0} (l : LatticeOf I) (n : IntegersOf I) (gamma : I → ℤ �
 
   -- the row of the system's entry stands for the states in which runs of a unit begin
   abbrev pub EntryInGamma : List ℤ → UnitView → Type 0
-  EntryInGamma list u = (draws : List ℤ) (s : Standing) → flow_begin u (flow_view flow) draws ≡ running s [] → InGammaAfter l n gamma flow (Some (start_of l n flow list)) s
+  EntryInGamma list u = (draws : List ℤ) (s : ProgramState) → flow_begin u (flow_view flow) draws ≡ running s [] → InGammaAfter l n gamma flow (Some (start_of l n flow list)) s
 
   abbrev pub InductiveMapsBegin : List ℤ → Type 0
   InductiveMapsBegin list = IsNearList l n list → ReachesTypes list → IsLaidOut (program_bases (length flow.bases.items)) flow → IsNamed flow → AreRising l n (program_bases (length flow.bases.items)) flow

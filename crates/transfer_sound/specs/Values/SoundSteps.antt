@@ -22,7 +22,7 @@ use Rattle.memory_model.specs.Memory.Instances.{Memory, bytes_at}
 use Rattle.memory_model.specs.Effects.Worlds.{World, Reply, goes, world_of}
 use Rattle.lower_templates.specs.Worklist.Acts.{act}
 use Rattle.lower_templates.specs.Views.ProgramViews.{flow_view}
-use Rattle.semantics.specs.CfgMachine.FlowStates.{Standing}
+use Rattle.semantics.specs.CfgMachine.FlowStates.{ProgramState}
 use Rattle.semantics.specs.CfgMachine.FlowSteps.{act_step}
 use Rattle.store_sound.specs.Concretization.ValueMeaning.{Naming}
 use Rattle.store_sound.specs.Concretization.RowMeaning.{InGamma}
@@ -36,14 +36,14 @@ AreShort m memory = (i : ℕ) → pos (length (bytes_at memory i)) ≤ℤ greate
 
 module _ {I : Type 0} (l : LatticeOf I) (n : IntegersOf I) (gamma : I → ℤ → Type 0) (flow : Flow) where
   -- a step begins: the row before it stands for the state, and it has violated nothing yet
-  pub record IsReached (naming : Naming) (row : List (Cell I)) (s : Standing) : Type 0 where
+  pub record IsReached (naming : Naming) (row : List (Cell I)) (s : ProgramState) : Type 0 where
     pub long : length row ≡ flow.width
     pub stands_for : InGamma l n gamma flow naming row (state_of s)
     pub short : AreShort flow.model s.world.memory
     pub begun : s.world.violated ≡ []
 
   -- there is a row behind, and by some names it stands for the state there
-  pub record InGammaAfter (after : Option (List (Cell I))) (s : Standing) : Type 0 where
+  pub record InGammaAfter (after : Option (List (Cell I))) (s : ProgramState) : Type 0 where
     pub row : List (Cell I)
     pub is : after ≡ Some row
     pub long : length row ≡ flow.width
@@ -52,16 +52,16 @@ module _ {I : Type 0} (l : LatticeOf I) (n : IntegersOf I) (gamma : I → ℤ �
     pub short : AreShort flow.model s.world.memory
 
   -- the row behind stands for the state where the run goes on, and what is violated is admitted
-  pub record IsStoodFor (after : Option (List (Cell I))) (admitted : Violations) (reply : Reply Standing) : Type 0 where
-    pub goes_on : (s : Standing) (w : World) → reply ≡ goes s w → InGammaAfter after (record s { world = w })
+  pub record IsStoodFor (after : Option (List (Cell I))) (admitted : Violations) (reply : Reply ProgramState) : Type 0 where
+    pub goes_on : (s : ProgramState) (w : World) → reply ≡ goes s w → InGammaAfter after (record s { world = w })
     pub admits : (r : Rule) → Contains (world_of reply).violated r → violates admitted r ≡ true
 
-  abbrev pub StepIsSound : List (Cell I) → Operation → Standing → Type 0
+  abbrev pub StepIsSound : List (Cell I) → Operation → ProgramState → Type 0
   StepIsSound row o s = IsStoodFor (operate l n flow row o) (operation_violations l n flow row o) (act_step (flow_view flow) (act o) s)
 
   -- instructions that fit a program with the premises, where the operands are such as they suppose
   abbrev pub AreSound : (Operation → Type 0) → Type 0
-  AreSound Is = (naming : Naming) (row : List (Cell I)) (s : Standing) (o : Operation) → Is o → fits_operation (names_of flow) o ≡ true → HasOperands o s.temps → IsReached naming row s → StepIsSound row o s
+  AreSound Is = (naming : Naming) (row : List (Cell I)) (s : ProgramState) (o : Operation) → Is o → fits_operation (names_of flow) o ≡ true → HasOperands o s.temps → IsReached naming row s → StepIsSound row o s
 
   abbrev pub ValueStepsAreSound : Type 0
   ValueStepsAreSound = HasPremises flow → AreSound (λ o. is_on_values o ≡ true)

@@ -5,7 +5,7 @@ use Rattle.std.proofs.lemmas.Bool.{eqb-true}
 use Rattle.std.proofs.lemmas.List.{length-map}
 use Rattle.c_layout.specs.CheckedUnits.{StaticView, LiteralView, UnitView}
 use Rattle.c_layout.specs.Types.{Ty}
-use Rattle.lower.specs.Inlining.Openings.{program}
+use Rattle.lower.specs.Inlining.Inlinings.{program}
 use Rattle.lower_tables.specs.Bases.BaseTables.{TableView}
 use Rattle.lower_tables.specs.Bases.InitialBytes.{initial_object, initial_literal, objects_from, literals_from, initial_objects}
 use Rattle.lower_tables.proofs.counts.Tables.{seen_at}

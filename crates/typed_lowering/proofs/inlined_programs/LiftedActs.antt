@@ -4,7 +4,7 @@ use Rattle.c_layout.specs.CheckedUnits.{UnitView}
 use Rattle.c_layout.specs.StructViews.{StructView}
 use Rattle.c_layout.specs.Types.{Ty}
 use Rattle.lower.specs.Inlining.MovedActs.{temp, kept_moved, own_base, moved}
-use Rattle.lower.specs.Inlining.Openings.{Placed, way_moved}
+use Rattle.lower.specs.Inlining.Inlinings.{Placed, way_moved}
 use Rattle.lower_templates.specs.Worklist.Acts.{Act}
 use Rattle.lower_templates.specs.Worklist.Pieces.{Way, Always, When, Case, Other, NoLine, Line}
 use Rattle.typed_programs.specs.Types.PointedTypes.{Known, IsStorable}

@@ -52,7 +52,7 @@ edges_append P [] x all one = (one, tt)
 edges_append P (y ∷ xs) x (first, all) one = (first, edges_append P xs x all one)
 
 -- a label is that of a block so far, before which no more is known
-pub record IsSettled (at : ℕ → Temporaries) (count : ℕ) (first : ℕ → Temporaries) (labels : List ℕ) (l : ℕ) : Type 0 where
+pub record IsNormalized (at : ℕ → Temporaries) (count : ℕ) (first : ℕ → Temporaries) (labels : List ℕ) (l : ℕ) : Type 0 where
   pub there : get_or labels l 0 ≤ count
   pub kept : IsKept (at l) (first (get_or labels l 0))
 
@@ -62,8 +62,8 @@ pub record IsTypedEdge (at : ℕ → Temporaries) (bound : ℕ) (last : ℕ → 
   pub way : IsTypedWay e.taken (last e.from) (at e.to)
 
 -- a label at the first block
-pub settled_first : (at : ℕ → Temporaries) (count : ℕ) (first : ℕ → Temporaries) (labels : List ℕ) (l : ℕ) → ((t : ℕ) → first 0 t ≡ None) → get_or labels l 0 ≡ 0 → IsSettled at count first labels l
-settled_first at count first labels l none is = record { there = subst (λ n. n ≤ count) (sym is) (from_zero count); kept = subst (λ n. IsKept (at l) (first n)) (sym is) (λ t k there. absurd (no k (sym (none t) ∙ there))) }
+pub normalized_first : (at : ℕ → Temporaries) (count : ℕ) (first : ℕ → Temporaries) (labels : List ℕ) (l : ℕ) → ((t : ℕ) → first 0 t ≡ None) → get_or labels l 0 ≡ 0 → IsNormalized at count first labels l
+normalized_first at count first labels l none is = record { there = subst (λ n. n ≤ count) (sym is) (from_zero count); kept = subst (λ n. IsKept (at l) (first n)) (sym is) (λ t k there. absurd (no k (sym (none t) ∙ there))) }
   where
     from_zero : (n : ℕ) → 0 ≤ n
     from_zero n = omega arith
@@ -111,7 +111,7 @@ module _ (u : UnitView) where
     pub done : (n : ℕ) (b : BlockView) → slice_get blocks n ≡ Some b → AreTypedSteps types (first n) b.steps (last n)
     pub current : AreTypedSteps types (first count) ready now
     pub leading : AllEdges (IsTypedEdge at bound last labels) edges
-    pub settled : (l : ℕ) → IsSettled at count first labels l
+    pub normalized : (l : ℕ) → IsNormalized at count first labels l
     pub begins : (t : ℕ) → first 0 t ≡ None
 
   module _ (at : ℕ → Temporaries) (count bound : ℕ) (first last : ℕ → Temporaries) (blocks : List BlockView) (edges : List EdgeView) (labels : List ℕ) where
@@ -121,18 +121,18 @@ module _ (u : UnitView) where
       done = λ n b is. steps_more types more grows (first n) (last n) b.steps (m.done n b is);
       current = steps_more types more grows (first count) now ready m.current;
       leading = m.leading;
-      settled = m.settled;
+      normalized = m.normalized;
       begins = m.begins;
     }
 
     pub made_weaker : (types : List Ty) (now less : Temporaries) (ready : List Step) → IsKept now less → IsTypedMade types at count bound first last now blocks edges labels ready → IsTypedMade types at count bound first last less blocks edges labels ready
-    made_weaker types now less ready kept m = record { counted = m.counted; done = m.done; current = steps_weaker types (first count) now less ready kept m.current; leading = m.leading; settled = m.settled; begins = m.begins }
+    made_weaker types now less ready kept m = record { counted = m.counted; done = m.done; current = steps_weaker types (first count) now less ready kept m.current; leading = m.leading; normalized = m.normalized; begins = m.begins }
 
     pub made_step : (types : List Ty) (now after : Temporaries) (ready : List Step) (s : Step) → StepKeeps types now after s.does → IsTypedMade types at count bound first last now blocks edges labels ready → IsTypedMade types at count bound first last after blocks edges labels (ready ++ s ∷ [])
-    made_step types now after ready s one m = record { counted = m.counted; done = m.done; current = step_added types (first count) now after ready s m.current one; leading = m.leading; settled = m.settled; begins = m.begins }
+    made_step types now after ready s one m = record { counted = m.counted; done = m.done; current = step_added types (first count) now after ready s m.current one; leading = m.leading; normalized = m.normalized; begins = m.begins }
 
     pub made_edge : (types : List Ty) (now : Temporaries) (ready : List Step) (e : EdgeView) → IsTypedEdge at bound last labels e → IsTypedMade types at count bound first last now blocks edges labels ready → IsTypedMade types at count bound first last now blocks (edges ++ e ∷ []) labels ready
-    made_edge types now ready e one m = record { counted = m.counted; done = m.done; current = m.current; leading = edges_append (IsTypedEdge at bound last labels) edges e m.leading one; settled = m.settled; begins = m.begins }
+    made_edge types now ready e one m = record { counted = m.counted; done = m.done; current = m.current; leading = edges_append (IsTypedEdge at bound last labels) edges e m.leading one; normalized = m.normalized; begins = m.begins }
 
     -- more labels, of which the old ones are known as before
     pub made_labels : (at_ : ℕ → Temporaries) → ((l : ℕ) → l < length labels → at_ l ≡ at l) → (more : ℕ) (types : List Ty) (now : Temporaries) (ready : List Step) → IsTypedMade types at count bound first last now blocks edges labels ready → IsTypedMade types at_ count bound first last now blocks edges (labels ++ replicate more 0) ready
@@ -141,7 +141,7 @@ module _ (u : UnitView) where
       done = m.done;
       current = m.current;
       leading = edges_more (IsTypedEdge at bound last labels) (IsTypedEdge at_ bound last (labels ++ zeros)) by edges m.leading;
-      settled = λ l. settled l (cases_lt l (length labels));
+      normalized = λ l. normalized l (cases_lt l (length labels));
       begins = m.begins;
     }
       where
@@ -151,11 +151,11 @@ module _ (u : UnitView) where
         longer : (l a b c : ℕ) → c ≡ a + b → l < a → l < c
         longer l a b c is less = omega (arith, is, less)
 
-        settled : (l : ℕ) → (l < length labels) ⊎ (length labels ≤ l) → IsSettled at_ count first (labels ++ zeros) l
-        settled l (inr beyond) = settled_first at_ count first (labels ++ zeros) l m.begins (zero_behind labels more l beyond)
-        settled l (inl room) =
+        normalized : (l : ℕ) → (l < length labels) ⊎ (length labels ≤ l) → IsNormalized at_ count first (labels ++ zeros) l
+        normalized l (inr beyond) = normalized_first at_ count first (labels ++ zeros) l m.begins (zero_behind labels more l beyond)
+        normalized l (inl room) =
             let block = get_or_append_left labels zeros 0 l room in
-            record { there = subst (λ n. n ≤ count) (sym block) (m.settled l).there; kept = subst (λ n. IsKept (at_ l) (first n)) (sym block) (subst (λ k. IsKept k (first (get_or labels l 0))) (sym (same l room)) (m.settled l).kept) }
+            record { there = subst (λ n. n ≤ count) (sym block) (m.normalized l).there; kept = subst (λ n. IsKept (at_ l) (first n)) (sym block) (subst (λ k. IsKept k (first (get_or labels l 0))) (sym (same l room)) (m.normalized l).kept) }
 
         by : (e : EdgeView) → IsTypedEdge at bound last labels e → IsTypedEdge at_ bound last (labels ++ zeros) e
         by e x = record { there = x.there; room = longer e.to (length labels) (length zeros) (length (labels ++ zeros)) (length-append labels zeros) x.room; way = subst (IsTypedWay e.taken (last e.from)) (sym (same e.to x.room)) x.way }
@@ -176,7 +176,7 @@ module _ (u : UnitView) where
       done = λ n b is. subst (AreTypedSteps types (first n) b.steps) (sym (changed_else last count now n (apart n count (subst (λ k. n < k) m.counted (slice_get_within blocks n b is))))) (m.done n b is);
       current = m.current;
       leading = edges_more (IsTypedEdge at count last labels) (IsTypedEdge at (suc count) (changed last count now) labels) by edges m.leading;
-      settled = m.settled;
+      normalized = m.normalized;
       begins = m.begins;
     }
       where
@@ -190,7 +190,7 @@ module _ (u : UnitView) where
       done = done;
       current = subst (λ x. IsKept x k) (sym (changed_here first (suc count) k (suc count) refl)) (kept_same k);
       leading = m.leading;
-      settled = λ l. settled l (m.settled l);
+      normalized = λ l. normalized l (m.normalized l);
       begins = λ t. ap (λ x. x t) (changed_else first (suc count) k 0 (no_zero count)) ∙ m.begins t;
     }
       where
@@ -212,8 +212,8 @@ module _ (u : UnitView) where
         same_no_more : (n m : ℕ) → n ≡ m → n ≤ m
         same_no_more n m is = omega (arith, is)
 
-        settled : (l : ℕ) → IsSettled at count first labels l → IsSettled at (suc count) (changed first (suc count) k) labels l
-        settled l is = record { there = further (get_or labels l 0) count is.there; kept = subst (IsKept (at l)) (sym (before (get_or labels l 0) is.there)) is.kept }
+        normalized : (l : ℕ) → IsNormalized at count first labels l → IsNormalized at (suc count) (changed first (suc count) k) labels l
+        normalized l is = record { there = further (get_or labels l 0) count is.there; kept = subst (IsKept (at l)) (sym (before (get_or labels l 0) is.there)) is.kept }
           where
             further : (n m : ℕ) → n ≤ m → n ≤ suc m
             further n m less = omega (arith, less)
@@ -242,7 +242,7 @@ module _ (u : UnitView) where
       done = λ n b is. subst (λ x. AreTypedSteps types x b.steps (last n)) (sym (changed_else first count now n (apart n count (subst (λ k. n < k) m.counted (slice_get_within blocks n b is))))) (m.done n b is);
       current = subst (λ ss. AreTypedSteps types (changed first count now count) ss now) (sym none) (subst (λ x. IsKept x now) (sym here) (kept_same now));
       leading = edges_more (IsTypedEdge at count last labels) (IsTypedEdge at count last (slice_set labels label count)) (λ e x. record { there = x.there; room = subst (λ n. e.to < n) (sym (length-set labels label count)) x.room; way = x.way }) edges m.leading;
-      settled = λ l. settled l (cases_eq l label) (m.settled l);
+      normalized = λ l. normalized l (cases_eq l label) (m.normalized l);
       begins = begins;
     }
       where
@@ -275,11 +275,11 @@ module _ (u : UnitView) where
         all_there : (n m : ℕ) → n ≡ m → n ≤ m
         all_there n m is = omega (arith, is)
 
-        settled : (l : ℕ) → (l ≡ label) ⊎ (l ≡ label → ⊥) → IsSettled at count first labels l → IsSettled at count (changed first count now) (slice_set labels label count) l
-        settled l (inl same) is = record {
+        normalized : (l : ℕ) → (l ≡ label) ⊎ (l ≡ label → ⊥) → IsNormalized at count first labels l → IsNormalized at count (changed first count now) (slice_set labels label count) l
+        normalized l (inl same) is = record {
           there = all_there (get_or (slice_set labels label count) l 0) count (is_here l same);
           kept = subst (λ n. IsKept (at l) (changed first count now n)) (sym (is_here l same)) (subst (IsKept (at l)) (sym here) (subst (λ k. IsKept k now) (sym (ap at same ∙ known)) (kept_same now)));
         }
-        settled l (inr other) is =
+        normalized l (inr other) is =
             let block = get_or-set_other labels label l count 0 other in
             record { there = subst (λ n. n ≤ count) (sym block) is.there; kept = subst (λ n. IsKept (at l) (changed first count now n)) (sym block) (kept_trans (at l) (first (get_or labels l 0)) (changed first count now (get_or labels l 0)) is.kept (less_first (get_or labels l 0))) }

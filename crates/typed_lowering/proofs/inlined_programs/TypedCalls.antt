@@ -3,8 +3,8 @@ use Rattle.std.proofs.Common.{◌≡◌, ◌≤◌, ◌<◌, ℕ, zero, suc, ◌
 use Rattle.std.proofs.lemmas.Bool.{lt-ltb, le-ltb}
 use Rattle.c_layout.specs.CheckedUnits.{FunctionView, UnitView}
 use Rattle.c_layout.specs.Types.{Ty}
-use Rattle.lower.specs.Inlining.Openings as o
-use Rattle.lower.specs.Inlining.Openings.{Made, CopyView}
+use Rattle.lower.specs.Inlining.Inlinings as o
+use Rattle.lower.specs.Inlining.Inlinings.{Made, CopyView}
 use Rattle.lower_tables.specs.Bases.BaseTables.{known}
 use Rattle.lower_templates.specs.Worklist.Pieces.{TemplateView}
 use Rattle.lower_templates.specs.declared.worklist.template_pieces.OwnCall.{OwnCall}
@@ -50,7 +50,7 @@ joined_new old first new l = ap (λ b. cond b (old (l + first)) (new ((l + first
 
 module _ (u : UnitView) (ts : List (Option TemplateView)) where
   pub opens_entered : (call : OwnCall) (stack : List CopyView) (m : Made) (f : FunctionView) (t : TemplateView) (types : List Ty) (at : ℕ → Temporaries) (outer now : Temporaries) → IsTypedFunction u ts f t → HasTypes u types m.bases → Holds u ts types at now m
-      → IsKept now (lifted call.depth outer (parameters_known f)) → AreStanding u ts types at (length m.labels) (Some (lifted call.depth outer (result_known call.used f))) stack → Opens u ts (o.opened (o.copied call (length m.labels) f t ∷ stack) (o.with_labels t.labels m))
+      → IsKept now (lifted call.depth outer (parameters_known f)) → AreStanding u ts types at (length m.labels) (Some (lifted call.depth outer (result_known call.used f))) stack → Opens u ts (o.inlined (o.copied call (length m.labels) f t ∷ stack) (o.with_labels t.labels m))
   opens_entered call stack m f t types at outer now is bases h kept standing = record {
     types = types;
     at = all;

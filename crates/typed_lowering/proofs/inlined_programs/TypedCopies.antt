@@ -6,8 +6,8 @@ use Rattle.c_layout.specs.Types.{Ty}
 use Rattle.cfg.specs.declared.flow_edges.Side.{Side}
 use Rattle.cfg.specs.declared.flow_edges.Side.TheVariants as side
 use Rattle.cfg.specs.declared.flow_edges.Test.{Test}
-use Rattle.lower.specs.Inlining.Openings as o
-use Rattle.lower.specs.Inlining.Openings.{Made, CopyView, Placed, Opened, placed}
+use Rattle.lower.specs.Inlining.Inlinings as o
+use Rattle.lower.specs.Inlining.Inlinings.{Made, CopyView, Placed, Inlined, placed}
 use Rattle.lower_tables.specs.Bases.BaseTables.{TableView}
 use Rattle.typed_lowering.specs.LoopedUnits.CalmTemplates.{IsMarkedIn, IsCalm}
 use Rattle.typed_programs.specs.PlainWorklists.LeadingPieces.{is_of_object, AreOfObjects, AllTo, Marked, IsLeading, LeadOn, NoLabel}
@@ -156,7 +156,7 @@ module _ (u : UnitView) (ts : List (Option TemplateView)) where
   enter types at (Some now) m k h leads = record { count = h.count; first = h.first; last = h.last; made = made_weaker u at h.count h.count h.first h.last m.blocks m.edges m.labels types now k m.ready leads h.made }
 
   -- what every turn leaves
-  pub record Opens (x : Opened) : Type 0 where
+  pub record Opens (x : Inlined) : Type 0 where
     pub types : List Ty
     pub at : ℕ → Temporaries
     pub now : State

@@ -5,8 +5,8 @@ use Rattle.std.proofs.lemmas.List.{length-set}
 use Rattle.cc_base.specs.declared.diagnostics.Place.{Place}
 use Rattle.c_layout.specs.CheckedUnits.{UnitView}
 use Rattle.c_layout.specs.Types.{Ty}
-use Rattle.lower.specs.Inlining.Openings as o
-use Rattle.lower.specs.Inlining.Openings.{Made, CopyView, placed, is_none}
+use Rattle.lower.specs.Inlining.Inlinings as o
+use Rattle.lower.specs.Inlining.Inlinings.{Made, CopyView, placed, is_none}
 use Rattle.lower_templates.specs.Worklist.Acts as acts
 use Rattle.lower_templates.specs.Worklist.Acts.{Step}
 use Rattle.lower_templates.specs.Worklist.Pieces.{PieceView, Always, TemplateView}
@@ -72,7 +72,7 @@ module _ (u : UnitView) (ts : List (Option TemplateView)) where
         → ((n : ℕ) → AreStanding u ts types at (length (slice_set m.labels target n)) (Some known_there) (o.with_rest qs c ∷ stack)) → Opens u ts (o.back_in stack (o.with_mark label (placed m (o.with_rest qs c))))
     opens_marked bases room known h standing = by (is_none m.ready) refl
       where
-        by : (b : Bool) → is_none m.ready ≡ b → Opens u ts (o.opened (o.with_rest qs c ∷ stack) (o.labelled target (cond b m (o.jumped c.at target m))))
+        by : (b : Bool) → is_none m.ready ≡ b → Opens u ts (o.inlined (o.with_rest qs c ∷ stack) (o.labelled target (cond b m (o.jumped c.at target m))))
         by true is = record {
           types = types;
           at = at;

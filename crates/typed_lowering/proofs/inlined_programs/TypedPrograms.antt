@@ -4,19 +4,19 @@ use Rattle.std.specs.List.{Contains}
 use Rattle.std.proofs.lemmas.Option.{same_Some, slice_get-get_or}
 use Rattle.c_layout.specs.CheckedUnits.{UnitView}
 use Rattle.c_layout.specs.Types.{Ty}
-use Rattle.lower.specs.Inlining.Openings as o
-use Rattle.lower.specs.Inlining.Openings.{Made, Opened}
+use Rattle.lower.specs.Inlining.Inlinings as o
+use Rattle.lower.specs.Inlining.Inlinings.{Made, Inlined}
 use Rattle.lower_templates.specs.Worklist.Acts.{Step}
 use Rattle.lower_templates.specs.Worklist.Pieces.{TemplateView}
 use Rattle.typed_programs.specs.Types.TypedPrograms.{IsKept, IsTypedWay}
 use Rattle.typed_programs.specs.Types.TypedStates.{Temporaries}
 use Rattle.lower_templates.specs.Views.ProgramViews.{BlockView, EdgeView}
 use Rattle.typed_lowering.specs.Conversions.KnownValues.{nothing}
-use Rattle.typed_lowering.specs.Conversions.ProgramLaws.{steps_of, steps_in, HasLowSteps, IsTypedOpening}
+use Rattle.typed_lowering.specs.Conversions.ProgramLaws.{steps_of, steps_in, HasLowSteps, IsTypedInlining}
 use Rattle.typed_lowering.specs.Conversions.TypedActs.{IsTypedAct}
 use Rattle.typed_lowering.specs.Conversions.TypedPieces.{State}
 use Rattle.typed_lowering.proofs.conversions.KeptKnowledge.{way_between}
-use Rattle.typed_lowering.specs.InlinedPrograms.TypedOpenings.{TypedNamesMakeTypedOpenings}
+use Rattle.typed_lowering.specs.InlinedPrograms.TypedInlinings.{TypedNamesMakeTypedInlinings}
 use Rattle.typed_lowering.proofs.inlined_programs.TypedBlocks.{AllEdges, grows_same, IsTypedEdge, StepKeeps, AreTypedSteps}
 use Rattle.typed_lowering.proofs.inlined_programs.TypedCopies.{Holds, HoldsIn, Opens}
 use Rattle.typed_lowering.proofs.inlined_programs.TypedRuns.{opens_whole}
@@ -124,7 +124,7 @@ module _ (u : UnitView) (types : List Ty) where
 -- ---- the law
 
 module _ (u : UnitView) (ts : List (Option TemplateView)) where
-  module _ (x : Opened) (k : Opens u ts x) (now : Temporaries) (h : Holds u ts k.types k.at now x.program) where
+  module _ (x : Inlined) (k : Opens u ts x) (now : Temporaries) (h : Holds u ts k.types k.at now x.program) where
     abbrev m : Made
     m = x.program
 
@@ -140,19 +140,19 @@ module _ (u : UnitView) (ts : List (Option TemplateView)) where
     abbrev IsResolved : EdgeView → Type 0
     IsResolved e = IsTypedWay e.taken (all e.from (length (steps e.from))) (all e.to 0)
 
-    settled : (l : ℕ) → IsKept (k.at l) (all (get_or m.labels l 0) 0)
-    settled l = subst (IsKept (k.at l)) (sym (known_first u k.types h.first h.last m.blocks h.made.done (get_or m.labels l 0))) (h.made.settled l).kept
+    normalized : (l : ℕ) → IsKept (k.at l) (all (get_or m.labels l 0) 0)
+    normalized l = subst (IsKept (k.at l)) (sym (known_first u k.types h.first h.last m.blocks h.made.done (get_or m.labels l 0))) (h.made.normalized l).kept
 
     edge_typed : (e : EdgeView) → IsTypedEdge k.at h.count h.last m.labels e → IsResolved (o.resolved_edge m.labels e)
     edge_typed e is =
         let less = subst (λ n. e.from < n) (sym h.made.counted) is.there in
         let before = subst (λ ss. IsKept (all e.from (length ss)) (h.last e.from)) (sym (same_steps e.from)) (known_last u k.types h.first h.last m.blocks h.made.done e.from less) in
-        way_between e.taken (all e.from (length (steps e.from))) (h.last e.from) (k.at e.to) (all (get_or m.labels e.to 0) 0) before (settled e.to) is.way
+        way_between e.taken (all e.from (length (steps e.from))) (h.last e.from) (k.at e.to) (all (get_or m.labels e.to 0) 0) before (normalized e.to) is.way
 
     step_typed : HasLowSteps (o.finished m) → (n at : ℕ) (s : Step) → slice_get (steps n) at ≡ Some s → IsTypedAct u.structs u.model.pointer (slice_get k.types) (all n at) (all n (suc at)) s.does
     step_typed low n at s there = known_step u k.types h.first h.last m.blocks h.made.done n at s (subst (λ ss. slice_get ss at ≡ Some s) (same_steps n) there) (slice_get k.types) (grows_same (slice_get k.types)) (low n at s there)
 
-    typed_finished : HasLowSteps (o.finished m) → IsTypedOpening u (o.finished m)
+    typed_finished : HasLowSteps (o.finished m) → IsTypedInlining u (o.finished m)
     typed_finished low = record {
       types = k.types;
       bases = k.bases;
@@ -162,12 +162,12 @@ module _ (u : UnitView) (ts : List (Option TemplateView)) where
       edges = each_edge IsResolved (o.resolved m.labels m.edges) (resolved_edges (IsTypedEdge k.at h.count h.last m.labels) IsResolved m.labels edge_typed m.edges h.made.leading);
     }
 
-  typed_opening : (x : Opened) → Opens u ts x → HasLowSteps (o.finished x.program) → IsTypedOpening u (o.finished x.program)
-  typed_opening x k low = by k.now k.holds
+  typed_inlining : (x : Inlined) → Opens u ts x → HasLowSteps (o.finished x.program) → IsTypedInlining u (o.finished x.program)
+  typed_inlining x k low = by k.now k.holds
     where
-      by : (now : State) → HoldsIn u ts k.types k.at now x.program → IsTypedOpening u (o.finished x.program)
+      by : (now : State) → HoldsIn u ts k.types k.at now x.program → IsTypedInlining u (o.finished x.program)
       by None h = typed_finished x k nothing (h nothing) low
       by (Some now) h = typed_finished x k now h low
 
-pub typed_openings : TypedNamesMakeTypedOpenings
-typed_openings laws u ts at own functions f is none low = typed_opening u ts (o.whole u ts at) (opens_whole u ts laws own functions at f is none) low
+pub typed_inlinings : TypedNamesMakeTypedInlinings
+typed_inlinings laws u ts at own functions f is none low = typed_inlining u ts (o.whole u ts at) (opens_whole u ts laws own functions at f is none) low

@@ -4,8 +4,8 @@ use Rattle.std.proofs.lemmas.Bool.{le-ltb}
 use Rattle.cc_base.specs.declared.diagnostics.Place.{Place}
 use Rattle.c_layout.specs.CheckedUnits.{FunctionView, UnitView}
 use Rattle.c_layout.specs.Types.{Ty}
-use Rattle.lower.specs.Inlining.Openings as o
-use Rattle.lower.specs.Inlining.Openings.{Made, CopyView, Opened, placed}
+use Rattle.lower.specs.Inlining.Inlinings as o
+use Rattle.lower.specs.Inlining.Inlinings.{Made, CopyView, Inlined, placed}
 use Rattle.typed_programs.specs.PlainWorklists.LeadingPieces.{AllTo}
 use Rattle.lower_functions.specs.Functions.Functions.{local_type}
 use Rattle.lower_templates.specs.Worklist.Acts.{Step}
@@ -18,19 +18,19 @@ use Rattle.typed_lowering.specs.Conversions.TypedBases.{HasTypes, HasOwnTypes, N
 use Rattle.typed_lowering.specs.Conversions.TypedPieces.{State, parameters_known, result_known, IsTypedCall, IsTypedPiece, AreTypedPieces}
 use Rattle.typed_lowering.proofs.conversions.KeptKnowledge.{kept_same}
 use Rattle.typed_lowering.proofs.inlined_programs.LiftedKnowledge.{lifted, kept_entry, passed_lifted, returned_lifted}
-use Rattle.typed_lowering.proofs.inlined_programs.TypedBlocks.{settled_first}
+use Rattle.typed_lowering.proofs.inlined_programs.TypedBlocks.{normalized_first}
 use Rattle.typed_lowering.proofs.inlined_programs.TypedCalls.{none_known, replicate_long, opens_entered}
 use Rattle.typed_lowering.proofs.inlined_programs.TypedCopies.{lead_lifted, behind_copy, HasNames, IsOwnLabel, IsTypedCopy, IsStanding, AreStanding, Holds, enter, Opens}
 use Rattle.typed_lowering.proofs.inlined_programs.TypedLabels.{standing_marked, opens_marked}
 use Rattle.typed_lowering.proofs.inlined_programs.TypedTurns.{IsNext, entered_from, opens_done, opens_if_used, opens_closed}
 
 module _ (u : UnitView) (ts : List (Option TemplateView)) (laws : NamesAreTyped) (own : HasOwnTypes u) where
-  abbrev Open : Opened → Type 0
+  abbrev Open : Inlined → Type 0
   Open = Opens u ts
 
   -- a copy whose next piece is no label goes on behind it
   module _ (q : PieceView) (qs : List PieceView) (c : CopyView) (stack : List CopyView) (m : Made) (there : AreThere u ts (q ∷ qs) → AreThere u ts qs) where
-    next_of : (k : Open (o.opened (o.with_rest (q ∷ qs) c ∷ stack) m)) → IsNext u ts laws own stack k.types k.at k.standing.0.outer k.standing.0.labels k.now k.standing.0.state k.standing.0.copy.pieces.0 (placed m (o.with_rest qs c))
+    next_of : (k : Open (o.inlined (o.with_rest (q ∷ qs) c ∷ stack) m)) → IsNext u ts laws own stack k.types k.at k.standing.0.outer k.standing.0.labels k.now k.standing.0.state k.standing.0.copy.pieces.0 (placed m (o.with_rest qs c))
     next_of k =
         let x = k.standing.0 in
         record {
@@ -42,7 +42,7 @@ module _ (u : UnitView) (ts : List (Option TemplateView)) (laws : NamesAreTyped)
         }
 
   -- a copy is finished
-  opens_finished : (c : CopyView) (stack : List CopyView) (m : Made) → Open (o.opened (o.with_rest [] c ∷ stack) m) → Open (o.opened stack m)
+  opens_finished : (c : CopyView) (stack : List CopyView) (m : Made) → Open (o.inlined (o.with_rest [] c ∷ stack) m) → Open (o.inlined stack m)
   opens_finished c stack m k =
       let x = k.standing.0 in
       let result = result_known c.used c.function in
@@ -92,7 +92,7 @@ module _ (u : UnitView) (ts : List (Option TemplateView)) (laws : NamesAreTyped)
       turn_called call None k is there = absurd is
       turn_called call (Some after) k is there = call_made call after k is there
 
-    turn_marked : (label : ℕ) (qs : List PieceView) (c : CopyView) (stack : List CopyView) (m : Made) → Open (o.opened (o.with_rest (Mark label ∷ qs) c ∷ stack) m) → Open (o.turn u ts (Mark label) (o.with_rest qs c) stack m)
+    turn_marked : (label : ℕ) (qs : List PieceView) (c : CopyView) (stack : List CopyView) (m : Made) → Open (o.inlined (o.with_rest (Mark label ∷ qs) c ∷ stack) m) → Open (o.turn u ts (Mark label) (o.with_rest qs c) stack m)
     turn_marked label qs c stack m k = by x.copy.pieces.0 x.copy.pieces.1 x.copy.pieces.2
       where
         x : IsStanding u ts k.types k.at (length m.labels) k.now (o.with_rest (Mark label ∷ qs) c)
@@ -109,7 +109,7 @@ module _ (u : UnitView) (ts : List (Option TemplateView)) (laws : NamesAreTyped)
             let h = enter u ts k.types k.at k.now m there k.holds (lead_lifted k.now x.state c.depth x.outer (x.labels label) x.weaker is.0) in
             opens_marked u ts label qs c stack m k.types k.at x.outer x.labels after k.bases own_label.0 own_label.1 h standing
 
-    opens_turn : (q : PieceView) (qs : List PieceView) (c : CopyView) (stack : List CopyView) (m : Made) → Open (o.opened (o.with_rest (q ∷ qs) c ∷ stack) m) → Open (o.turn u ts q (o.with_rest qs c) stack m)
+    opens_turn : (q : PieceView) (qs : List PieceView) (c : CopyView) (stack : List CopyView) (m : Made) → Open (o.inlined (o.with_rest (q ∷ qs) c ∷ stack) m) → Open (o.turn u ts q (o.with_rest qs c) stack m)
     opens_turn (Do x) qs c stack m k =
         let y = k.standing.0 in
         turn_done qs c stack m k.types k.at y.outer y.labels k.now y.state x y.copy.pieces.0 (next_of (Do x) qs c stack m (λ a. a) k) y.copy.pieces.1
@@ -124,11 +124,11 @@ module _ (u : UnitView) (ts : List (Option TemplateView)) (laws : NamesAreTyped)
         let y = k.standing.0 in
         turn_called qs c stack m k.types k.at y.outer y.labels k.now y.state call y.copy.pieces.0 (next_of (Call call) qs c stack m (λ a. a.1) k) y.copy.pieces.1 y.copy.there
 
-    opens_next : (qs : List PieceView) (c : CopyView) (stack : List CopyView) (m : Made) → Open (o.opened (o.with_rest qs c ∷ stack) m) → Open (o.next_piece u ts qs c stack m)
+    opens_next : (qs : List PieceView) (c : CopyView) (stack : List CopyView) (m : Made) → Open (o.inlined (o.with_rest qs c ∷ stack) m) → Open (o.next_piece u ts qs c stack m)
     opens_next [] c stack m k = opens_finished c stack m k
     opens_next (q ∷ qs) c stack m k = opens_turn q qs c stack m k
 
-    opens_run : (n : ℕ) (stack : List CopyView) (m : Made) → Open (o.opened stack m) → Open (o.run u ts n stack m)
+    opens_run : (n : ℕ) (stack : List CopyView) (m : Made) → Open (o.inlined stack m) → Open (o.run u ts n stack m)
     opens_run zero stack m k = k
     opens_run (suc n) [] m k = k
     opens_run (suc n) (c ∷ stack) m k = opens_run n (o.next u ts c stack m).stack (o.next u ts c stack m).program (opens_next c.rest c stack m k)
@@ -149,7 +149,7 @@ module _ (u : UnitView) (ts : List (Option TemplateView)) (laws : NamesAreTyped)
         no_some x e = cc
 
     first_holds : Holds u ts [] (λ l. nothing) nothing (o.nothing_made u)
-    first_holds = record { count = 0; first = λ n. nothing; last = λ n. nothing; made = record { counted = refl; done = λ n b is. absurd (no b is); current = kept_same nothing; leading = tt; settled = λ l. settled_first (λ k. nothing) 0 (λ n. nothing) [] l (λ t. refl) refl; begins = λ t. refl } }
+    first_holds = record { count = 0; first = λ n. nothing; last = λ n. nothing; made = record { counted = refl; done = λ n b is. absurd (no b is); current = kept_same nothing; leading = tt; normalized = λ l. normalized_first (λ k. nothing) 0 (λ n. nothing) [] l (λ t. refl) refl; begins = λ t. refl } }
       where
         no : {A : Type 0} (x : A) → None ≡ Some x → ⊥
         no x e = cc
@@ -160,10 +160,10 @@ module _ (u : UnitView) (ts : List (Option TemplateView)) (laws : NamesAreTyped)
         at_least : (t : ℕ) → 0 ≤ t
         at_least t = omega arith
 
-    entry_entered : (at : Place) (f : FunctionView) (t : TemplateView) → slice_get u.functions u.entry ≡ Some f → f.parameters ≡ 0 → o.template_at ts u.entry ≡ Some t → Open (o.opened (o.copied (o.entry_call at u.entry) 0 f t ∷ []) (o.with_labels t.labels (o.nothing_made u)))
+    entry_entered : (at : Place) (f : FunctionView) (t : TemplateView) → slice_get u.functions u.entry ≡ Some f → f.parameters ≡ 0 → o.template_at ts u.entry ≡ Some t → Open (o.inlined (o.copied (o.entry_call at u.entry) 0 f t ∷ []) (o.with_labels t.labels (o.nothing_made u)))
     entry_entered at f t is none has = opens_entered u ts (o.entry_call at u.entry) [] (o.nothing_made u) f t [] (λ l. nothing) nothing nothing (functions u.entry f t is has) first_types first_holds (kept_entry (parameters_known f) (no_parameters f none)) tt
 
-    run_entered : (f : FunctionView) (c : CopyView) (m : Made) → c.function ≡ f → f.parameters ≡ 0 → Open (o.opened (c ∷ []) m) → Open (o.entry_run u ts (c ∷ []) m)
+    run_entered : (f : FunctionView) (c : CopyView) (m : Made) → c.function ≡ f → f.parameters ≡ 0 → Open (o.inlined (c ∷ []) m) → Open (o.entry_run u ts (c ∷ []) m)
     run_entered f c m same none k = subst (λ n. Open (o.all_run u ts [] (o.with_parameters u n (placed m c)))) (sym (ap (λ (g : FunctionView). g.parameters) same ∙ none)) (opens_run (2 ^ 64 - 1) (c ∷ []) m k)
 
     pub opens_whole : (at : Place) (f : FunctionView) → slice_get u.functions u.entry ≡ Some f → f.parameters ≡ 0 → Open (o.whole u ts at)

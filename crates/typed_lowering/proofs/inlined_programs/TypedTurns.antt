@@ -4,8 +4,8 @@ use Rattle.cc_base.specs.declared.diagnostics.Place.{Place}
 use Rattle.c_layout.specs.CheckedUnits.{UnitView}
 use Rattle.c_layout.specs.Types.{Ty}
 use Rattle.lower.specs.Inlining.MovedActs.{own_base, moved}
-use Rattle.lower.specs.Inlining.Openings as o
-use Rattle.lower.specs.Inlining.Openings.{CopyView, Placed, placed}
+use Rattle.lower.specs.Inlining.Inlinings as o
+use Rattle.lower.specs.Inlining.Inlinings.{CopyView, Placed, placed}
 use Rattle.lower_tables.specs.Bases.BaseTables.{TableView}
 use Rattle.typed_programs.specs.PlainWorklists.LeadingPieces.{AllTo}
 use Rattle.lower_templates.specs.Worklist.Acts.{Act, Step}

@@ -3,10 +3,10 @@ use Rattle.std.proofs.Common.{◌≡◌, ◌<◌, ◌⊎◌, inl, inr, ℕ, Bool
 use Rattle.std.proofs.lemmas.Bool.{leb-true}
 use Rattle.c_layout.specs.CheckedUnits.{UnitView}
 use Rattle.lower_templates.specs.Views.ProgramViews.{BlockView, EdgeView}
-use Rattle.lower.specs.Inlining.Openings as o
-use Rattle.lower.specs.Inlining.Openings.{Opened}
+use Rattle.lower.specs.Inlining.Inlinings as o
+use Rattle.lower.specs.Inlining.Inlinings.{Inlined}
 use Rattle.typed_lowering.specs.PlainPrograms.PlainBases.{ArePlainBases}
-use Rattle.typed_lowering.proofs.plain_programs.LeadingOpenings.{AllEdges, Awaited, IsAhead, ArePlainBlocks, Leads}
+use Rattle.typed_lowering.proofs.plain_programs.LeadingInlinings.{AllEdges, Awaited, IsAhead, ArePlainBlocks, Leads}
 
 -- an edge leads to a later block
 abbrev pub IsForward : EdgeView → Type 0
@@ -40,7 +40,7 @@ pub record LeadsAhead (p : o.ProgramView) : Type 0 where
   pub blocks : ArePlainBlocks p.blocks
   pub bases : ArePlainBases p.bases.bases
 
-pub leads_ahead : (u : UnitView) (x : Opened) → Leads u x → x.stack ≡ [] → LeadsAhead (o.finished x.program)
+pub leads_ahead : (u : UnitView) (x : Inlined) → Leads u x → x.stack ≡ [] → LeadsAhead (o.finished x.program)
 leads_ahead u x k ends =
     let m = x.program in
     let forward = all_forward _ m.labels x.stack m.edges ends k.edges in

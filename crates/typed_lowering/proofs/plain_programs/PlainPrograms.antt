@@ -28,7 +28,7 @@ use Rattle.lower_preconditions.specs.Units.RegularUnits.{is_regular_function}
 use Rattle.simulation_layout.specs.FunctionChecks.LabelsOnce.{FunctionsAreLabelled}
 use Rattle.simulation_layout.specs.FunctionChecks.UnitParts.{FunctionsAreRegular}
 use Rattle.lower.specs.Inlining.Lowerings.{inputs}
-use Rattle.lower.specs.Inlining.Openings.{joined, whole, program}
+use Rattle.lower.specs.Inlining.Inlinings.{joined, whole, program}
 use Rattle.typed_programs.specs.PlainUnits.PlainTerms.{is_plain_library}
 use Rattle.typed_programs.specs.PlainUnits.ShortArrays.{has_short_arrays, is_short_local, has_short_objects}
 use Rattle.typed_programs.specs.PlainUnits.PlainStatements.{are_plain_statements}
@@ -43,8 +43,8 @@ use Rattle.simulation_units.specs.Preconditions.RegularFunctions.{RegularFunctio
 use Rattle.simulation_units.specs.Units.UnitRuns.{IsProgramOf}
 use Rattle.typed_lowering.specs.PlainPrograms.PlainBases.{AreAlone, ArePlainBases}
 use Rattle.typed_lowering.specs.PlainPrograms.PlainPrograms.{IsPlainFlow}
-use Rattle.typed_lowering.proofs.plain_programs.SettledLeads.{settled_leads, settled_below}
-use Rattle.typed_lowering.proofs.plain_programs.LeadingOpenings.{ArePlainSteps, ArePlainBlocks, AllEdges, IsPlainTemplate, ArePlainTemplates, lead_whole}
+use Rattle.typed_lowering.proofs.plain_programs.NormalizedLeads.{normalized_leads, normalized_below}
+use Rattle.typed_lowering.proofs.plain_programs.LeadingInlinings.{ArePlainSteps, ArePlainBlocks, AllEdges, IsPlainTemplate, ArePlainTemplates, lead_whole}
 use Rattle.typed_lowering.proofs.plain_programs.LeadingPrograms.{IsForward, LeadsAhead, leads_ahead}
 use Rattle.typed_lowering.proofs.plain_programs.StandingLabels.{function_labels_stand}
 
@@ -141,7 +141,7 @@ numbered u f e = (and_parts (is_numbered f) (has_own_objects f && are_regular_st
 
 are_templates : Laws → (u : UnitView) (limits : Limits) (flow : Flow) → IsProgramOf u limits flow → (ts : List (Option TemplateView)) (table : List (Option FunctionCounts)) → IsPrepared u ts table → ArePlainTemplates u ts
 are_templates laws u limits flow o ts table prepared g depth f t is_f is_t plain =
-    let k = prepared.are_settled g t (joined_there (slice_get ts g) t is_t) in
+    let k = prepared.are_normalized g t (joined_there (slice_get ts g) t is_t) in
     let same = same_function k.function f (sym k.is_template.stands ∙ is_f) in
     let regular = laws.regular u g k.function o.regular k.is_template.stands in
     let labelled = laws.labelled k.function (numbered u k.function regular) in
@@ -149,7 +149,7 @@ are_templates laws u limits flow o ts table prepared g depth f t is_f is_t plain
     let stand = function_labels_stand u k.function (g == u.entry) k.template k.is_template.is_template k.few labelled (laws.suit u k.function regular) in
     let own : is_plain_function u (is_plain_from u depth) k.function ≡ true = subst (λ f. is_plain_function u (is_plain_from u depth) f ≡ true) (sym same) plain in
     let leads = laws.lead (is_plain_from u depth) u.structs u.model.pointer u.model.int k.function (g == u.entry) k.template k.is_template.is_template labelled k.few stand (statements k.function own) in
-    subst (IsPlainTemplate u depth) (sym k.settles) (record { leads = settled_leads k.table k.template once (is_plain_from u depth) leads; room = settled_below k.table k.template once })
+    subst (IsPlainTemplate u depth) (sym k.settles) (record { leads = normalized_leads k.table k.template once (is_plain_from u depth) leads; room = normalized_below k.table k.template once })
   where
     statements : (f : FunctionView) → is_plain_function u (is_plain_from u depth) f ≡ true → are_plain_statements (is_plain_from u depth) no_label false (statement_trees f.body) ≡ true
     statements f e = (and_parts (list_all (is_short_local u.structs) f.locals && has_short_arrays u.structs f.returns) (are_plain_statements (is_plain_from u depth) no_label false (statement_trees f.body)) e).1

@@ -9,7 +9,7 @@ use Rattle.lower_templates.specs.declared.worklist.template_pieces.OwnCall.{OwnC
 use Rattle.lower_objects.specs.declared.counts.function_counts.BlockExtent.{BlockExtent}
 use Rattle.lower_objects.specs.declared.counts.function_counts.FunctionCounts.{FunctionCounts}
 use Rattle.lower_objects.specs.Counts.PieceCounts.{counts_of, counted, extent}
-use Rattle.lower_tables.specs.Counts.SettledTemplates.{is_silent, settled}
+use Rattle.lower_tables.specs.Counts.NormalizedTemplates.{is_silent, normalized}
 use Rattle.lower_tables.specs.Counts.Preparations.{Counts, counts, AreCounts}
 use Rattle.typed_programs.specs.Types.PointedTypes.{Known}
 use Rattle.typed_programs.specs.Types.TypedPrograms.{IsKept}
@@ -36,7 +36,7 @@ void_known (Struct i) is = cc
 -- a function that adds nothing has no result
 silent_count : (u : UnitView) (n : ℕ) (c : FunctionCounts) → Counts u n c → c.is_silent ≡ true → (g : FunctionView) → slice_get u.functions n ≡ Some g → type_known g.returns ≡ None
 silent_count u n c (counts _ f t table is all each) silent g stands =
-    let at : BlockExtent = extent table (settled table t).pieces true in
+    let at : BlockExtent = extent table (normalized table t).pieces true in
     let parts = and_parts (f.parameters == 0) (is_void f.returns) (and_parts (at.instructions == 0) (f.parameters == 0 && is_void f.returns) silent).1 in
     ap (λ (h : FunctionView). type_known h.returns) (same g f (sym stands ∙ is.stands)) ∙ void_known f.returns parts.1
   where

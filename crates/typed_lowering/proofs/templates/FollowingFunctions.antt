@@ -27,7 +27,7 @@ use Rattle.typed_lowering.specs.Conversions.TypedPieces.{State, base_type, param
 use Rattle.typed_lowering.specs.Conversions.TypedTerms.{is_scalar, local_types}
 use Rattle.typed_lowering.proofs.conversions.KeptKnowledge.{less_same, IsLessIf, less_if_same, kept_same, kept_if, set_kept}
 use Rattle.typed_lowering.proofs.templates.StoredValues.{never, IsScalarOf, scalar_of_type, scalar_local, type_of_object}
-use Rattle.typed_lowering.proofs.templates.FollowingWorks.{Asks, Asked, Looks, IsAround, Flowing, flowing_none, flowing_weaker, flowing_settled, flowing_work, flowing_name, flowing_labels, flowing_do, flowing_mark, flowing_or}
+use Rattle.typed_lowering.proofs.templates.FollowingWorks.{Asks, Asked, Looks, IsAround, Flowing, flowing_none, flowing_weaker, flowing_normalized, flowing_work, flowing_name, flowing_labels, flowing_do, flowing_mark, flowing_or}
 use Rattle.typed_lowering.proofs.templates.FollowingParts.{base_here, addressed, flowing_entered, flowing_left, flowing_stopped}
 use Rattle.typed_lowering.proofs.templates.FollowingSelections.{flowing_statements}
 
@@ -216,7 +216,7 @@ module _ (u : UnitView) (f : FunctionView) (calls : ℕ → Bool) (s : SettingVi
       let within : (last : ℕ) → n + 2 ≤ last → IsAround f s ds (Asked (called_asks f) (n + 1) last) top 0 false s.end s.end 0 = λ last le. body_within f s ds (Asked (called_asks f) (n + 1) last) top (λ l less. inl (inl (less_le l f.labels less, refl))) (inl (inl (same_le s.end f.labels end_is, refl))) in
       let start : Flowing u f calls s ds used (called_asks f) (n + 1) top (n + 2) (Some (parameters_known f)) (Some (parameters_known f)) (with_labels 2 p) = flowing_labels 2 p (flowing_none (Some (parameters_known f)) p refl) in
       let marked = flowing_work (Some (parameters_known f)) (jobs.Ready (Mark n)) (with_labels 2 p) (λ names last extends le labels meets. by labels (meets n (parameters_known f) (inl (inr (refl, refl))))) start in
-      let entered = flowing_settled _ (flowing_parameters u f few scalars _ all marked) in
+      let entered = flowing_normalized _ (flowing_parameters u f few scalars _ all marked) in
       let inside = flowing_body _ looks within (flowing_mark (n + 1) _ (λ last le. inr (second_from n, second_below n last le, refl)) entered) in
       let back = flowing_mark s.end _ (λ last le. (within last le).end) (flowing_left s.at s.parameters _ inside) in
       flowing_outcome used s.at _ result back

@@ -22,7 +22,7 @@ use Rattle.typed_lowering.specs.Conversions.TypedPieces.{State}
 use Rattle.typed_lowering.specs.Conversions.TypedStatements.{is_typed_clause, is_typed_statement, are_typed_statements}
 use Rattle.typed_lowering.specs.Conversions.TypedTerms.{is_typed_term}
 use Rattle.typed_lowering.specs.Conversions.WorkLaws.{IsLookedAt}
-use Rattle.typed_lowering.proofs.templates.FollowingWorks.{Asks, Asked, Looks, IsAround, around_more, Goes, Flowing, flowing_settled, flowing_labels, flowing_scope, flowing_mark, flowing_unused, flowing_condition, flowing_statement}
+use Rattle.typed_lowering.proofs.templates.FollowingWorks.{Asks, Asked, Looks, IsAround, around_more, Goes, Flowing, flowing_normalized, flowing_labels, flowing_scope, flowing_mark, flowing_unused, flowing_condition, flowing_statement}
 use Rattle.typed_lowering.proofs.templates.FollowingParts.{flowing_entered, flowing_left, flowing_jump}
 use Rattle.typed_lowering.proofs.templates.FollowingSelections.{new_label, this_label, none_three, one_three, two_three, flowing_statements, part_within, labels_from}
 
@@ -74,7 +74,7 @@ module _ {u : UnitView} {f : FunctionView} {calls : ℕ → Bool} {s : SettingVi
 
   flowing_clause : {low : ℕ} {from : State} (e : Option TermTree) (p : Plan) → IsClause u f calls false e → Flowing u f calls s ds used K first top low from (Some nothing) p → Flowing u f calls s ds used K first top low from (Some nothing) (unused e p)
   flowing_clause None p is k = k
-  flowing_clause (Some e) p is k = flowing_settled _ (flowing_unused e 0 p (is.typed, is.plain, is.regular) k)
+  flowing_clause (Some e) p is k = flowing_normalized _ (flowing_unused e 0 p (is.typed, is.plain, is.regular) k)
 
   flowing_step : {low : ℕ} {from : State} (at : Place) (label : ℕ) (e : Option TermTree) (back : ℕ) (p : Plan) → IsClause u f calls false e → ((last : ℕ) → low ≤ last → Asked K first last label nothing) → ((last : ℕ) → low ≤ last → Asked K first last back nothing)
       → Flowing u f calls s ds used K first top low from (Some nothing) p → Flowing u f calls s ds used K first top low from (Some nothing) (step at label e back p)

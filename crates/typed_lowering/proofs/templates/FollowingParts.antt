@@ -42,7 +42,7 @@ use Rattle.typed_lowering.specs.Conversions.WorkLaws.{Extends, IsLookedAt}
 use Rattle.typed_lowering.proofs.conversions.KeptKnowledge.{kept_same, kept_nothing}
 use Rattle.typed_lowering.proofs.templates.ShallowTerms.{shallow_term}
 use Rattle.typed_lowering.proofs.templates.StoredValues.{IsStoredIn, stored_in, IsCopiedTo, copied_to, copied_place, type_of_own}
-use Rattle.typed_lowering.proofs.templates.FollowingWorks.{Asks, Asked, Flowing, named_here, flowing_settled, flowing_name, flowing_do, flowing_end, flowing_value, flowing_address, flowing_or}
+use Rattle.typed_lowering.proofs.templates.FollowingWorks.{Asks, Asked, Flowing, named_here, flowing_normalized, flowing_name, flowing_do, flowing_end, flowing_value, flowing_address, flowing_or}
 
 -- ---- what acts do to the first two temporaries
 
@@ -86,7 +86,7 @@ module _ {u : UnitView} {f : FunctionView} {calls : ℕ → Bool} {s : SettingVi
 
   pub flowing_jump : {low : ℕ} {from : State} (at : Place) (to : ℕ) (p : Plan) → ((last : ℕ) → low ≤ last → Asked K first last to nothing) → Flowing u f calls s ds used K first top low from (Some nothing) p
       → Flowing u f calls s ds used K first top low from (Some nothing) (jump at to p)
-  flowing_jump at to p asked k = flowing_settled (jump at to p) (flowing_end _ _ p (λ names. typed.jumps (kept_same nothing)) (λ last few. (asked last few, tt)) k)
+  flowing_jump at to p asked k = flowing_normalized (jump at to p) (flowing_end _ _ p (λ names. typed.jumps (kept_same nothing)) (λ last few. (asked last few, tt)) k)
 
   pub flowing_leap : {low : ℕ} {from : State} (scope : ℕ) (to : Landing) (p : Plan) → ((last : ℕ) → low ≤ last → Asked K first last to.label nothing) → Flowing u f calls s ds used K first top low from (Some nothing) p
       → Flowing u f calls s ds used K first top low from (Some nothing) (leap s scope to p)
@@ -168,13 +168,13 @@ module _ {u : UnitView} {f : FunctionView} {calls : ℕ → Bool} {s : SettingVi
   flowing_given at None p is plain regular k = k
   flowing_given at (Some e) p is plain regular k =
       let x = both_true (is_typed_term u f e) (is_stored_as f.returns e) is in
-      let alone = flowing_settled (with_work (jobs.Value e 0) p) (flowing_value e 0 p (x.0, plain, shallow_term u f true 0 e regular) k) in
+      let alone = flowing_normalized (with_work (jobs.Value e 0) p) (flowing_value e 0 p (x.0, plain, shallow_term u f true 0 e regular) k) in
       let pointed = flowing_do (addressed (Element f.returns)) _ _ (λ names extends. typed.gives_address 0 (length p.names) f.returns (base_here u f names Outcome p f.returns extends refl) (kept_same (addressed (Element f.returns)))) (flowing_name Outcome p k) in
       flowing_or s.is_entry (with_work (jobs.Value e 0) p) (outcome at e p) alone (flowing_stores at (Element f.returns) f.returns e _ refl (stored_in f.returns e x.1) (x.0, plain, regular) pointed)
 
   flowing_end_behind : {low : ℕ} {from : State} (at : Place) (p : Plan) → ((last : ℕ) → low ≤ last → Asked K first last s.end nothing) → Flowing u f calls s ds used K first top low from (Some nothing) p
       → Flowing u f calls s ds used K first top low from (Some nothing) (end_behind s at p)
-  flowing_end_behind at p asked k = flowing_or s.is_entry (stopped at p) (exit s p) (flowing_settled (stopped at p) (flowing_stopped at p k)) (flowing_jump s.at s.end (all_left s.at s.parameters p) asked (flowing_left s.at s.parameters p k))
+  flowing_end_behind at p asked k = flowing_or s.is_entry (stopped at p) (exit s p) (flowing_normalized (stopped at p) (flowing_stopped at p k)) (flowing_jump s.at s.end (all_left s.at s.parameters p) asked (flowing_left s.at s.parameters p k))
 
   pub flowing_giving : {low : ℕ} {from : State} (at : Place) (e : Option TermTree) (around : Surroundings) (p : Plan) → is_typed_result u f e ≡ true → is_plain_option calls e ≡ true → is_regular_result u f e ≡ true → ((last : ℕ) → low ≤ last → Asked K first last s.end nothing)
       → Flowing u f calls s ds used K first top low from (Some nothing) p → Flowing u f calls s ds used K first top low from (Some nothing) (giving s at e around p)

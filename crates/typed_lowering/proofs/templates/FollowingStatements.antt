@@ -28,7 +28,7 @@ use Rattle.typed_lowering.specs.Conversions.KnownValues.{nothing}
 use Rattle.typed_lowering.specs.Conversions.ProgramLaws.{TypesStandWhereTheyBegin}
 use Rattle.typed_lowering.specs.Conversions.TypedTerms.{is_stored_as, is_typed_term}
 use Rattle.typed_lowering.proofs.templates.StoredValues.{copied_place}
-use Rattle.typed_lowering.proofs.templates.FollowingWorks.{Asks, Looks, IsAround, Goes, Flowing, flowing_none, flowing_settled, flowing_unused}
+use Rattle.typed_lowering.proofs.templates.FollowingWorks.{Asks, Looks, IsAround, Goes, Flowing, flowing_none, flowing_normalized, flowing_unused}
 use Rattle.typed_lowering.proofs.templates.FollowingParts.{flowing_leap, flowing_forget, flowing_start, flowing_copied, flowing_list, flowing_giving}
 use Rattle.typed_lowering.proofs.templates.FollowingSwitches.{flowing_switch}
 use Rattle.typed_lowering.proofs.templates.FollowingSelections.{comes_block, comes_labelled, comes_if, comes_else}
@@ -77,7 +77,7 @@ module _ (u : UnitView) (f : FunctionView) (calls : ℕ → Bool) (s : SettingVi
 
       by : (i : StatementTree) → (statement s i around p).labels ≤ 2 ^ 32 - 1 → Within ds (statement s i around p) → length (statement s i around p).dispatches ≤ top → length p.dispatches ≤ length (statement s i around p).dispatches → Within ds p → Looks u f calls g.count g.chosen i
           → IsAround f s ds K b g.count g.chosen around.on_break.label around.on_continue.label around.choice → Flowing u f calls s ds used K p.labels top p.labels (Some nothing) (Some nothing) (statement s i around p)
-      by (tree.Value e) few known high grown before x w = flowing_settled _ (flowing_unused e 0 p (x.typed, x.looped, x.regular) start)
+      by (tree.Value e) few known high grown before x w = flowing_normalized _ (flowing_unused e 0 p (x.typed, x.looped, x.regular) start)
       by tree.Nothing few known high grown before x w = start
       by (tree.Forget at object) few known high grown before x w = flowing_forget at object p start
       by (tree.Start at object e) few known high grown before x w =

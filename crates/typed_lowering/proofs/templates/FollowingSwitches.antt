@@ -34,7 +34,7 @@ use Rattle.typed_lowering.specs.Conversions.TypedStatements.{is_typed_statement}
 use Rattle.typed_lowering.specs.Conversions.TypedTerms.{is_typed_term}
 use Rattle.typed_lowering.specs.Conversions.WorkLaws.{IsLookedAt}
 use Rattle.typed_lowering.proofs.conversions.KeptKnowledge.{kept_same}
-use Rattle.typed_lowering.proofs.templates.FollowingWorks.{Asks, Asked, Looks, Goes, Flowing, flowing_none, flowing_raised, flowing_settled, flowing_name, flowing_labels, flowing_end, flowing_mark, flowing_value, flowing_statement, flowing_or}
+use Rattle.typed_lowering.proofs.templates.FollowingWorks.{Asks, Asked, Looks, Goes, Flowing, flowing_none, flowing_raised, flowing_normalized, flowing_name, flowing_labels, flowing_end, flowing_mark, flowing_value, flowing_statement, flowing_or}
 use Rattle.typed_lowering.proofs.templates.FollowingParts.{flowing_leap}
 
 -- ---- the edges of cases
@@ -256,8 +256,8 @@ module _ (u : UnitView) (f : FunctionView) (calls : ℕ → Bool) (s : SettingVi
       } in
       let start : Flowing u f calls s ds used K p.labels top d.after.labels (Some nothing) (Some nothing) d.after = flowing_none (Some nothing) d.after (begins_jobs n around.scope p ∙ none) in
       let sent : Flowing u f calls s ds used K p.labels top low (Some nothing) (Some nothing) other.after = flowing_raised low other.after (same_le low) (flowing_target around.scope landing a.after (flowing_arms around.scope d.begun.dispatch.cases number cases d.after start)) in
-      let valued = flowing_settled _ (flowing_value e 0 found.after g_looks.0 (flowing_mention (named e) other.after sent)) in
-      let led = flowing_settled _ (flowing_end _ (dispatch_exits a.arms cases found.base other.to) _ (λ names. typed.switches 0 _ (kept_same nothing)) exits valued) in
+      let valued = flowing_normalized _ (flowing_value e 0 found.after g_looks.0 (flowing_mention (named e) other.after sent)) in
+      let led = flowing_normalized _ (flowing_end _ (dispatch_exits a.arms cases found.base other.to) _ (λ names. typed.switches 0 _ (kept_same nothing)) exits valued) in
       let blocks = flowing_block around.scope other.to landing _ to_other lands (flowing_blocks around.scope a.arms _ arms led) in
       let done = flowing_mark d.begun.after.label _ end_there (flowing_statement body (in_switch around d.begun) _ inside blocks) in
       flowing_raised p.labels _ (through p.labels low _ (through p.labels d.after.labels low first_from (through d.after.labels a.after.labels low grown grown_other)) done.room) done

@@ -189,8 +189,8 @@ module _ {u : UnitView} {f : FunctionView} {calls : ℕ → Bool} {s : SettingVi
   pub flowing_weaker : {low : ℕ} {from to : State} (r : State) (p : Plan) → IsWeaker to r → Flowing u f calls s ds used K first top low from to p → Flowing u f calls s ds used K first top low from r p
   flowing_weaker {from = from} {to = to} r p weaker k = record { room = k.room; works = λ names last extends few. flow_weaker u f calls s ds (Asked K first last) top used names from to r p.jobs (k.works names last extends few) weaker }
 
-  pub flowing_settled : {low : ℕ} {from to : State} (p : Plan) → Flowing u f calls s ds used K first top low from to p → Flowing u f calls s ds used K first top low from (Some nothing) p
-  flowing_settled {to = to} p k = flowing_weaker (Some nothing) p (leads_nothing to) k
+  pub flowing_normalized : {low : ℕ} {from to : State} (p : Plan) → Flowing u f calls s ds used K first top low from to p → Flowing u f calls s ds used K first top low from (Some nothing) p
+  flowing_normalized {to = to} p k = flowing_weaker (Some nothing) p (leads_nothing to) k
 
   pub flowing_work : {low : ℕ} {from to : State} (r : State) (j : Job) (p : Plan) → ((names : List NameView) (last : ℕ) → Extends p.names names → low ≤ last → Follows u f calls s ds (Asked K first last) top used names to j r) → Flowing u f calls s ds used K first top low from to p → Flowing u f calls s ds used K first top low from r (with_work j p)
   unfolding with_work
@@ -242,7 +242,7 @@ module _ {u : UnitView} {f : FunctionView} {calls : ℕ → Bool} {s : SettingVi
 
   pub flowing_condition : {low : ℕ} {from : State} (e : TermTree) (d : Decision) (p : Plan) → IsLookedAt u f calls (jobs.Condition e d) → ((last : ℕ) → low ≤ last → Asked K first last d.targets.yes nothing) → ((last : ℕ) → low ≤ last → Asked K first last d.targets.no nothing)
       → Flowing u f calls s ds used K first top low from (Some nothing) p → Flowing u f calls s ds used K first top low from (Some nothing) (with_work (jobs.Condition e d) p)
-  flowing_condition e d p is asked_yes asked_no k = flowing_settled (with_work (jobs.Condition e d) p) (flowing_work None (jobs.Condition e d) p (λ names last extends few. (is, asked_yes last few, asked_no last few, refl)) k)
+  flowing_condition e d p is asked_yes asked_no k = flowing_normalized (with_work (jobs.Condition e d) p) (flowing_work None (jobs.Condition e d) p (λ names last extends few. (is, asked_yes last few, asked_no last few, refl)) k)
 
   pub flowing_statement : {low : ℕ} {from : State} (i : StatementTree) (around : Surroundings) (p : Plan) → ((last : ℕ) → low ≤ last → Goes u f calls s ds (Asked K first last) top i around) → Flowing u f calls s ds used K first top low from (Some nothing) p
       → Flowing u f calls s ds used K first top low from (Some nothing) (with_work (jobs.Statement i around) p)

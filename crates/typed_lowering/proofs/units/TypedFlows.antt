@@ -12,7 +12,7 @@ use Rattle.cfg.specs.declared.basic_blocks.BasicBlock.{BasicBlock}
 use Rattle.cfg.specs.declared.flow_edges.Edge.{Edge}
 use Rattle.cfg.specs.declared.machine_instructions.Instruction.{Instruction}
 use Rattle.cfg.specs.declared.programs.Flow.{Flow}
-use Rattle.lower.specs.Inlining.Openings.{ProgramView}
+use Rattle.lower.specs.Inlining.Inlinings.{ProgramView}
 use Rattle.lower_templates.specs.Worklist.Acts.{Act, act, step}
 use Rattle.semantics.specs.CfgMachine.FlowEdges.{edges_of}
 use Rattle.semantics.specs.CfgMachine.FlowSteps.{block_or, block_of}
@@ -24,7 +24,7 @@ use Rattle.store_sound.proofs.operations.Slices.{get_take, get_drop, get_map}
 use Rattle.store_sound.proofs.programs.ShapedBases.{all_at}
 use Rattle.typed_programs.proofs.Blocks.{block_facts, last_is}
 use Rattle.typed_lowering.specs.Conversions.TypedActs.{IsTypedAct}
-use Rattle.typed_lowering.specs.Conversions.ProgramLaws.{steps_of, steps_in, IsTypedOpening}
+use Rattle.typed_lowering.specs.Conversions.ProgramLaws.{steps_of, steps_in, IsTypedInlining}
 use Rattle.typed_lowering.proofs.units.TypedOperations.{typed_operation}
 
 -- ---- lists
@@ -90,7 +90,7 @@ module _ (flow : Flow) (p : ProgramView) (blocks : map block flow.blocks.items �
 
   -- ---- what instructions and edges do
 
-  module _ (u : UnitView) (structures : u.structs ≡ structs_of flow) (model : u.model ≡ flow.model) (o : IsTypedOpening u p) where
+  module _ (u : UnitView) (structures : u.structs ≡ structs_of flow) (model : u.model ≡ flow.model) (o : IsTypedInlining u p) where
     same_act : (before after : Temporaries) (a : Act) → IsTypedAct u.structs u.model.pointer (slice_get o.types) before after a → IsTypedAct (structs_of flow) flow.model.pointer (slice_get o.types) before after a
     same_act before after a is = subst (λ (m : Model). IsTypedAct (structs_of flow) m.pointer (slice_get o.types) before after a) model (subst (λ (structs : List StructView). IsTypedAct structs u.model.pointer (slice_get o.types) before after a) structures is)
 

@@ -17,7 +17,7 @@ use Rattle.typed_lowering.proofs.looped_units.PlainIsLooped.{plain_function_loop
 use Rattle.typed_programs.specs.PlainUnits.PlainTerms.{is_plain_library}
 use Rattle.typed_lowering.specs.PlainPrograms.PlainBases.{AreAlone}
 use Rattle.typed_lowering.proofs.plain_programs.SmallLeaves.{alone_leaves}
-use Rattle.lower_tables.specs.Counts.SettledTemplates.{settled}
+use Rattle.lower_tables.specs.Counts.NormalizedTemplates.{normalized}
 use Rattle.typed_programs.specs.Types.TypedStates.{Temporaries}
 use Rattle.typed_programs.specs.Types.TypedPrograms as program
 use Rattle.typed_programs.specs.SingleLaws.{IsPlainFunction}
@@ -32,14 +32,14 @@ use Rattle.c_layout.specs.declared.shapes.BaseInfo.{BaseInfo}
 use Rattle.c_layout.specs.declared.shapes.Shape.{Shape}
 use Rattle.cfg.specs.declared.programs.Flow.{Flow}
 use Rattle.lower_templates.specs.Views.ProgramViews.{BlockView, FlowView, flow_view}
-use Rattle.lower.specs.Inlining.Openings.{ProgramView, joined, template_at, program}
-use Rattle.lower_tables.specs.Counts.Preparations.{IsTemplateOf, called, Reaches, begun, further, IsSettled, IsPrepared}
+use Rattle.lower.specs.Inlining.Inlinings.{ProgramView, joined, template_at, program}
+use Rattle.lower_tables.specs.Counts.Preparations.{IsTemplateOf, called, Reaches, begun, further, IsNormalized, IsPrepared}
 use Rattle.lower_functions.specs.Functions.Functions.{setting_of, function, no_plan}
 use Rattle.lower_functions.proofs.functions.OneTemplate.{one_finish}
 use Rattle.lower_template_theorems.specs.LabelDefinitions.MarkedLabels.{LabelsAreMarkedBelow}
 use Rattle.typed_programs.specs.PlainUnits.PlainUnits.{is_plain_function, is_plain_if_there, is_plain_from, takes_nothing, is_plain_unit}
 use Rattle.typed_programs.specs.PlainUnits.ShortArrays.{has_short_arrays, is_short_local, has_short_objects}
-use Rattle.typed_lowering.proofs.plain_programs.SettledLeads.{settled_below}
+use Rattle.typed_lowering.proofs.plain_programs.NormalizedLeads.{normalized_below}
 use Rattle.typed_programs.specs.PlainWorklists.LeadingPieces.{LeadOn}
 use Rattle.lower_objects.specs.Shapes.FirstZeros.{object_shape}
 use Rattle.lower_templates.specs.Worklist.Pieces.{PieceView, Do, DoIfUsed, End, Mark, Call, TemplateView}
@@ -53,7 +53,7 @@ use Rattle.semantics.specs.CfgMachine.FlowStarts.{start_names}
 use Rattle.store_structs.specs.LaidApart.{has_class_bytes}
 use Rattle.simulation_layout.specs.Copies.LowTemporaries.{IsActLow}
 use Rattle.simulation_layout.specs.Temporaries.LowPrograms.{WellFormedProgramsAreLow}
-use Rattle.simulation_layout.specs.Normalized.SettledRuns.{LabelsStandOnce}
+use Rattle.simulation_layout.specs.Normalized.NormalizedRuns.{LabelsStandOnce}
 use Rattle.simulation_units.specs.Units.UnitRuns.{IsProgramOf}
 use Rattle.typed_programs.specs.SingleRuns.{HasTypedAccesses}
 use Rattle.store_sound.proofs.operations.Slices.{get_there}
@@ -65,7 +65,7 @@ use Rattle.typed_lowering.specs.Conversions.TypedObjects.{is_typed_object, is_ow
 use Rattle.typed_lowering.specs.Conversions.TypedStatements.{is_typed_function}
 use Rattle.typed_lowering.specs.Conversions.TypedUnits.{is_typed_and_calls, is_typed_if_there, is_typed_from, has_own_types, is_typed_unit}
 use Rattle.typed_lowering.specs.Conversions.WorkLaws.{TemplatesAreTyped}
-use Rattle.typed_lowering.specs.Conversions.ProgramLaws.{TypedObjectsAreTyped, ShortTypesAreOwn, LoopedLocalsAreOwn, SettledTemplatesAreTyped, SettledTemplatesAreCalm, HasLowSteps, steps_of, IsTypedOpening, AreThere, IsTypedFunction, AreTypedFunctions, OpenedProgramsAreTyped}
+use Rattle.typed_lowering.specs.Conversions.ProgramLaws.{TypedObjectsAreTyped, ShortTypesAreOwn, LoopedLocalsAreOwn, NormalizedTemplatesAreTyped, NormalizedTemplatesAreCalm, HasLowSteps, steps_of, IsTypedInlining, AreThere, IsTypedFunction, AreTypedFunctions, InlinedProgramsAreTyped}
 use Rattle.typed_lowering.specs.Bases.FirstObjects.{FirstObjectsAreTyped}
 use Rattle.typed_lowering.specs.Units.TypedUnitLaws.{TypedUnitsHaveTypedAccesses, IsLoopedFlow, LoopedUnitsHaveTypedPrograms}
 use Rattle.typed_lowering.proofs.units.TypedFlows.{type_at, type_is, typed_steps, typed_edges}
@@ -78,12 +78,12 @@ pub record Laws : Type 0 where
   pub calm : LoopedTemplatesAreCalm
   pub low : WellFormedProgramsAreLow
   pub typed : TemplatesAreTyped
-  pub settled : SettledTemplatesAreTyped
-  pub settled_calm : SettledTemplatesAreCalm
+  pub normalized : NormalizedTemplatesAreTyped
+  pub normalized_calm : NormalizedTemplatesAreCalm
   pub own_types : ShortTypesAreOwn
   pub own_locals : LoopedLocalsAreOwn
   pub objects : TypedObjectsAreTyped
-  pub opened : OpenedProgramsAreTyped
+  pub inlined : InlinedProgramsAreTyped
   pub first : FirstObjectsAreTyped
   pub programs : TypedProgramsHaveTypedAccesses
 
@@ -269,7 +269,7 @@ module _ (laws : Laws) (u : UnitView) (limits : Limits) (flow : Flow) (o : IsPro
   few_labels : (n : ℕ) (f : FunctionView) (t : TemplateView) → Reaches u n → IsTemplateOf u n f t → t.labels ≤ 2 ^ 32 - 1
   few_labels n f t reached is =
       let (s, c, there, counted) = prepared.all n reached in
-      let k = prepared.are_settled n s there in
+      let k = prepared.are_normalized n s there in
       let same : k.function ≡ f = same_function k.function f (sym k.is_template.stands ∙ is.stands) in
       let one = one_finish (setting_of u.structs u.model.pointer u.model.int f (n == u.entry)) (function (setting_of u.structs u.model.pointer u.model.int f (n == u.entry)) f (no_plan f.labels)) k.template t (subst (λ (g : FunctionView). IsTemplateOf u n g k.template) same k.is_template).is_template is.is_template in
       subst (λ (x : TemplateView). x.labels ≤ 2 ^ 32 - 1) one k.few
@@ -300,12 +300,12 @@ module _ (laws : Laws) (u : UnitView) (limits : Limits) (flow : Flow) (o : IsPro
   pieces_there L (Mark l ∷ ps) (one, rest) = pieces_there L ps rest
   pieces_there L (Call c ∷ ps) (one, rest) =
       let (t, there) = template_there ts c.function one in
-      let k = prepared.are_settled c.function t (joined_there (slice_get ts c.function) t there) in
+      let k = prepared.are_normalized c.function t (joined_there (slice_get ts c.function) t there) in
       ((k.function, t, k.is_template.stands, there), pieces_there L ps rest)
 
   -- of a function that is settled
-  settled_typed : (n : ℕ) (t : TemplateView) → IsSettled u n t → (f : FunctionView) → slice_get u.functions n ≡ Some f → IsTypedFunction u ts f t
-  settled_typed n t k f there =
+  normalized_typed : (n : ℕ) (t : TemplateView) → IsNormalized u n t → (f : FunctionView) → slice_get u.functions n ≡ Some f → IsTypedFunction u ts f t
+  normalized_typed n t k f there =
       let same : k.function ≡ f = same_function k.function f (sym k.is_template.stands ∙ there) in
       let is : IsTemplateOf u n f k.template = subst (λ (g : FunctionView). IsTemplateOf u n g k.template) same k.is_template in
       let (depth, own) = reached_looped n k.reached in
@@ -314,16 +314,16 @@ module _ (laws : Laws) (u : UnitView) (limits : Limits) (flow : Flow) (o : IsPro
       let regular = laws.regular u n f o.regular there in
       let (inner, passes) = reached_typed n k.reached in
       let both = and_parts (is_typed_function u f) (is_own_function u f) (and_parts (is_typed_function u f && is_own_function u f) _ (passes f there)).0 in
-      let pieces = λ (used : Bool). laws.settled u f calls used k.template k.table k.are_counts k.all_counted known.calm known.once
+      let pieces = λ (used : Bool). laws.normalized u f calls used k.template k.table k.are_counts k.all_counted known.calm known.once
       (laws.typed u f calls (n == u.entry) k.template laid is.is_template k.few both.0 regular (statements_looped calls f (own f there)) used) in
       let all_there = λ (m at : ℕ) (p : PieceView) (is_at : slice_get k.template.pieces at ≡ Some p) (call : called p ≡ Some m). reached_there m (further n m f k.template k.reached is (at, p, is_at, call)) in
       let calm_there : IsCalm (has_template ts) k.template = record { pieces = lead_more calls (has_template ts) (IsMarkedIn k.template) k.template.pieces all_there known.calm.pieces; names = known.calm.names } in
       subst (IsTypedFunction u ts f) (sym k.settles) (record {
         calls = calls;
         pieces = pieces;
-        calm = laws.settled_calm calls k.template k.table known.once known.calm;
-        room = settled_below k.table k.template known.once;
-        there = pieces_there (IsMarkedIn (settled k.table k.template)) (settled k.table k.template).pieces (laws.settled_calm (has_template ts) k.template k.table known.once calm_there).pieces;
+        calm = laws.normalized_calm calls k.template k.table known.once known.calm;
+        room = normalized_below k.table k.template known.once;
+        there = pieces_there (IsMarkedIn (normalized k.table k.template)) (normalized k.table k.template).pieces (laws.normalized_calm (has_template ts) k.template k.table known.once calm_there).pieces;
         locals = laws.own_locals u calls f (own f there) both.1;
       })
     where
@@ -331,7 +331,7 @@ module _ (laws : Laws) (u : UnitView) (limits : Limits) (flow : Flow) (o : IsPro
       reached_there m reached = let (s, c, is, counted) = prepared.all m reached in there_template ts m s is
 
   functions_are_typed : AreTypedFunctions u ts
-  functions_are_typed n f t there is = settled_typed n t (prepared.are_settled n t (joined_there (slice_get ts n) t is)) f there
+  functions_are_typed n f t there is = normalized_typed n t (prepared.are_normalized n t (joined_there (slice_get ts n) t is)) f there
 
   -- ---- the program
 
@@ -347,8 +347,8 @@ module _ (laws : Laws) (u : UnitView) (limits : Limits) (flow : Flow) (o : IsPro
       by None e is low = absurd (cc)
       by (Some w) e is low = low w e is
 
-  opening : IsTypedOpening u p
-  opening = laws.opened u ts o.is.entry.at (laws.own_types u reached_by.short own_types) functions_are_typed o.is.entry o.is.is_counted.is_entry
+  inlining : IsTypedInlining u p
+  inlining = laws.inlined u ts o.is.entry.at (laws.own_types u reached_by.short own_types) functions_are_typed o.is.entry o.is.is_counted.is_entry
       (takes_none (slice_get u.functions u.entry) o.is.entry o.is.is_counted.is_entry reached_by.takes) low_steps
 
   structures : u.structs ≡ structs_of flow
@@ -360,18 +360,18 @@ module _ (laws : Laws) (u : UnitView) (limits : Limits) (flow : Flow) (o : IsPro
   parameters : flow.parameters.items ≡ []
   parameters = ap (λ (w : FlowView). w.parameters) o.is.opens ∙ ap (inputs o.is.entry) (takes_none (slice_get u.functions u.entry) o.is.entry o.is.is_counted.is_entry reached_by.takes)
 
-  base_typed : (b : ℕ) (base : BaseInfo) → slice_get flow.bases.items b ≡ Some base → IsObjectOf flow (type_at opening.types b) base
+  base_typed : (b : ℕ) (base : BaseInfo) → slice_get flow.bases.items b ≡ Some base → IsObjectOf flow (type_at inlining.types b) base
   base_typed b base there =
       let here : slice_get p.bases.bases b ≡ Some base = ap (λ (bs : List BaseInfo). slice_get bs b) (sym (ap (λ (w : FlowView). w.bases) o.is.opens)) ∙ there in
-      let (t, is) = get_there opening.types b (subst (λ n. b < n) (sym opening.bases.numbered) (get_less p.bases.bases b base here)) in
-      subst (λ s. IsObjectOf flow s base) (type_is opening.types b t is) (object_of flow u structures model t base (opening.bases.made b t base is here))
+      let (t, is) = get_there inlining.types b (subst (λ n. b < n) (sym inlining.bases.numbered) (get_less p.bases.bases b base here)) in
+      subst (λ s. IsObjectOf flow s base) (type_is inlining.types b t is) (object_of flow u structures model t base (inlining.bases.made b t base is here))
 
-  named : (b i : ℕ) → start_names u (flow_view flow) b ≡ Some i → first_types u i ≡ Some (type_at opening.types b)
+  named : (b i : ℕ) → start_names u (flow_view flow) b ≡ Some i → first_types u i ≡ Some (type_at inlining.types b)
   named b i is =
-      let (t, there, first) = laws.first u limits flow o parameters opening.types opening.bases b i is in
-      first ∙ ap Some (type_is opening.types b t there)
+      let (t, there, first) = laws.first u limits flow o parameters inlining.types inlining.bases b i is in
+      first ∙ ap Some (type_is inlining.types b t there)
 
-  typed_program : IsTypedProgram flow u (record { objects = type_at opening.types; known = opening.known })
+  typed_program : IsTypedProgram flow u (record { objects = type_at inlining.types; known = inlining.known })
   typed_program = record {
     laid = subst (λ (m : Model). AreLaidOut m (structs_of flow)) model (subst (AreLaidOut u.model) structures laid);
     structures = structures;
@@ -380,9 +380,9 @@ module _ (laws : Laws) (u : UnitView) (limits : Limits) (flow : Flow) (o : IsPro
     first = laws.objects u laid objects_typed;
     named = named;
     parameters = parameters;
-    begins = opening.begins;
-    steps = typed_steps flow p (ap (λ (w : FlowView). w.blocks) o.is.opens) u structures model opening;
-    edges = typed_edges flow p (ap (λ (w : FlowView). w.blocks) o.is.opens) u structures model opening limits o.good (ap (λ (w : FlowView). w.edges) o.is.opens);
+    begins = inlining.begins;
+    steps = typed_steps flow p (ap (λ (w : FlowView). w.blocks) o.is.opens) u structures model inlining;
+    edges = typed_edges flow p (ap (λ (w : FlowView). w.blocks) o.is.opens) u structures model inlining limits o.good (ap (λ (w : FlowView). w.edges) o.is.opens);
   }
 
   pub typed_accesses : HasTypedAccesses flow u
@@ -402,8 +402,8 @@ module _ (laws : Laws) (u : UnitView) (limits : Limits) (flow : Flow) (o : IsPro
   base_made : (b : ℕ) (base : BaseInfo) → slice_get flow.bases.items b ≡ Some base → (t : Ty) × IsMadeOf u t base
   base_made b base there =
       let here : slice_get p.bases.bases b ≡ Some base = ap (λ (bs : List BaseInfo). slice_get bs b) (sym (ap (λ (w : FlowView). w.bases) o.is.opens)) ∙ there in
-      let (t, is) = get_there opening.types b (subst (λ n. b < n) (sym opening.bases.numbered) (get_less p.bases.bases b base here)) in
-      (t, opening.bases.made b t base is here)
+      let (t, is) = get_there inlining.types b (subst (λ n. b < n) (sym inlining.bases.numbered) (get_less p.bases.bases b base here)) in
+      (t, inlining.bases.made b t base is here)
 
   leaf_alone : (b j : ℕ) (base : BaseInfo) (leaf : Leaf) → slice_get flow.bases.items b ≡ Some base → slice_get base.shape.cells j ≡ Some leaf → leaf.count ≡ 1
   leaf_alone b j base leaf there at =
@@ -413,7 +413,7 @@ module _ (laws : Laws) (u : UnitView) (limits : Limits) (flow : Flow) (o : IsPro
   no_heap : (b : ℕ) (base : BaseInfo) → slice_get flow.bases.items b ≡ Some base → base.shape.heap ≡ false
   no_heap b base there = let (t, made) = base_made b base there in ap (λ (x : Shape). x.heap) made.shape
 
-  plain_call : (before after : Temporaries) (x : Operation) → IsTypedOperation flow (type_at opening.types) before after x → IsPlainOperation x
+  plain_call : (before after : Temporaries) (x : Operation) → IsTypedOperation flow (type_at inlining.types) before after x → IsPlainOperation x
   plain_call before after (op.Library to name arguments newest size) (program.calls _ _ _ _ _ plain g) = plain_function name plain
   plain_call before after (op.ReadLine to text count stream) is = elim is [ ]
   plain_call before after x is = tt
@@ -422,7 +422,7 @@ module _ (laws : Laws) (u : UnitView) (limits : Limits) (flow : Flow) (o : IsPro
   looped_flow = record {
     plain = record { apart = leaf_alone; no_heap = no_heap };
     parameters = parameters;
-    calls = λ x done. subst IsPlainOperation done.does (plain_call (opening.known done.block done.at) (opening.known done.block (suc done.at)) done.instruction.operation (typed_program.steps done.block done.at done.instruction done.is));
+    calls = λ x done. subst IsPlainOperation done.does (plain_call (inlining.known done.block done.at) (inlining.known done.block (suc done.at)) done.instruction.operation (typed_program.steps done.block done.at done.instruction done.is));
     steps = typed_accesses;
   }
 

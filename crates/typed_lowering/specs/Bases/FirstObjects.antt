@@ -3,7 +3,7 @@ use Rattle.std.specs.Prelude.{◌≡◌, ℕ, List, [], Some, slice_get}
 use Rattle.cc_base.specs.declared.limit_table.Limits.{Limits}
 use Rattle.c_layout.specs.CheckedUnits.{UnitView}
 use Rattle.c_layout.specs.Types.{Ty}
-use Rattle.lower.specs.Inlining.Openings.{program}
+use Rattle.lower.specs.Inlining.Inlinings.{program}
 use Rattle.cfg.specs.declared.programs.Flow.{Flow}
 use Rattle.semantics.specs.CfgMachine.FlowStarts.{start_names}
 use Rattle.typed_programs.specs.Types.TypedPrograms.{first_types}

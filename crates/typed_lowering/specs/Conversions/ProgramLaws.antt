@@ -4,9 +4,9 @@ use Rattle.std.specs.List.{Contains, list_all}
 use Rattle.cc_base.specs.declared.diagnostics.Place.{Place}
 use Rattle.c_layout.specs.CheckedUnits.{FunctionView, UnitView}
 use Rattle.c_layout.specs.Types.{Ty}
-use Rattle.lower.specs.Inlining.Openings.{ProgramView, template_at, program}
+use Rattle.lower.specs.Inlining.Inlinings.{ProgramView, template_at, program}
 use Rattle.lower_tables.specs.Counts.Preparations.{are_counted, AreCounts}
-use Rattle.lower_tables.specs.Counts.SettledTemplates.{settled}
+use Rattle.lower_tables.specs.Counts.NormalizedTemplates.{normalized}
 use Rattle.lower_objects.specs.declared.counts.function_counts.FunctionCounts.{FunctionCounts}
 use Rattle.typed_programs.specs.PlainUnits.ShortArrays.{has_short_objects}
 use Rattle.typed_lowering.specs.LoopedUnits.CalmTemplates.{IsCalm}
@@ -45,13 +45,13 @@ LoopedLocalsAreOwn = (u : UnitView) (calls : ℕ → Bool) (f : FunctionView) �
 -- ---- settled templates
 
 -- each of a template's labels is marked once at most, and all are numbers below their count
-abbrev pub SettledTemplatesAreTyped : Type 0
-SettledTemplatesAreTyped = (u : UnitView) (f : FunctionView) (calls : ℕ → Bool) (used : Bool) (t : TemplateView) (table : List (Option FunctionCounts)) → AreCounts u table → are_counted table t.pieces ≡ true → IsCalm calls t → ((l : ℕ) → all_marked l t.pieces ≤ label_is_below l t.labels)
-    → IsTypedTemplate u f used t → IsTypedTemplate u f used (settled table t)
+abbrev pub NormalizedTemplatesAreTyped : Type 0
+NormalizedTemplatesAreTyped = (u : UnitView) (f : FunctionView) (calls : ℕ → Bool) (used : Bool) (t : TemplateView) (table : List (Option FunctionCounts)) → AreCounts u table → are_counted table t.pieces ≡ true → IsCalm calls t → ((l : ℕ) → all_marked l t.pieces ≤ label_is_below l t.labels)
+    → IsTypedTemplate u f used t → IsTypedTemplate u f used (normalized table t)
 
 -- and stay calm
-abbrev pub SettledTemplatesAreCalm : Type 0
-SettledTemplatesAreCalm = (calls : ℕ → Bool) (t : TemplateView) (table : List (Option FunctionCounts)) → ((l : ℕ) → all_marked l t.pieces ≤ label_is_below l t.labels) → IsCalm calls t → IsCalm calls (settled table t)
+abbrev pub NormalizedTemplatesAreCalm : Type 0
+NormalizedTemplatesAreCalm = (calls : ℕ → Bool) (t : TemplateView) (table : List (Option FunctionCounts)) → ((l : ℕ) → all_marked l t.pieces ≤ label_is_below l t.labels) → IsCalm calls t → IsCalm calls (normalized table t)
 
 -- ---- programs
 
@@ -67,7 +67,7 @@ abbrev pub HasLowSteps : ProgramView → Type 0
 HasLowSteps p = (block at : ℕ) (x : Step) → slice_get (steps_in p block) at ≡ Some x → IsActLow x.does
 
 -- the types of bases, and what is known before each step of each block; each step and each edge keeps to them
-pub record IsTypedOpening (u : UnitView) (p : ProgramView) : Type 0 where
+pub record IsTypedInlining (u : UnitView) (p : ProgramView) : Type 0 where
   pub types : List Ty
   pub bases : HasTypes u types p.bases
   pub known : ℕ → ℕ → Temporaries
@@ -94,6 +94,6 @@ abbrev pub AreTypedFunctions : UnitView → List (Option TemplateView) → Type 
 AreTypedFunctions u ts = (n : ℕ) (f : FunctionView) (t : TemplateView) → slice_get u.functions n ≡ Some f → template_at ts n ≡ Some t → IsTypedFunction u ts f t
 
 -- the entry, which takes nothing, is opened to a program whose pointers have types
-abbrev pub OpenedProgramsAreTyped : Type 0
-OpenedProgramsAreTyped = (u : UnitView) (ts : List (Option TemplateView)) (at : Place) → HasOwnTypes u → AreTypedFunctions u ts → (f : FunctionView) → slice_get u.functions u.entry ≡ Some f → f.parameters ≡ 0
-    → HasLowSteps (program u ts at) → IsTypedOpening u (program u ts at)
+abbrev pub InlinedProgramsAreTyped : Type 0
+InlinedProgramsAreTyped = (u : UnitView) (ts : List (Option TemplateView)) (at : Place) → HasOwnTypes u → AreTypedFunctions u ts → (f : FunctionView) → slice_get u.functions u.entry ≡ Some f → f.parameters ≡ 0
+    → HasLowSteps (program u ts at) → IsTypedInlining u (program u ts at)

@@ -1,6 +1,6 @@
 //! The looks at types and at first bytes say what they look for, and what settling leaves of a template keeps to what is
 //! known.
-ghost use Rattle.typed_lowering.specs.Conversions.ProgramLaws.{TypesStandWhereTheyBegin, TypedObjectsAreTyped, SettledTemplatesAreTyped, SettledTemplatesAreCalm};
+ghost use Rattle.typed_lowering.specs.Conversions.ProgramLaws.{TypesStandWhereTheyBegin, TypedObjectsAreTyped, NormalizedTemplatesAreTyped, NormalizedTemplatesAreCalm};
 
 /// A type stands in another one where the first bytes of its scalars and of its structures do, where members stand
 /// apart, in no circle.
@@ -15,11 +15,11 @@ pub fn typed_objects_are_typed()
 
 /// A template that keeps to what is known does so without the calls that add nothing, and with one label where several
 /// stand together.
-pub fn settled_templates_are_typed()
-    ensures { SettledTemplatesAreTyped }
+pub fn normalized_templates_are_typed()
+    ensures { NormalizedTemplatesAreTyped }
 {}
 
 /// Each edge of a settled template leads to a label that it marks, as each of the template does.
-pub fn settled_templates_are_calm()
-    ensures { SettledTemplatesAreCalm }
+pub fn normalized_templates_are_calm()
+    ensures { NormalizedTemplatesAreCalm }
 {}

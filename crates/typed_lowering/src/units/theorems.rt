@@ -4,10 +4,10 @@ ghost use Rattle.typed_lowering.specs.Units.TypedUnitLaws.{TypedUnitsHaveTypedAc
 use crate::bases::{
     first_objects_are_typed, looped_locals_are_own, names_are_typed, short_types_are_own,
 };
-use crate::inlined_programs::typed_names_make_typed_openings;
+use crate::inlined_programs::typed_names_make_typed_inlinings;
 use crate::looped_templates::looped_templates_are_calm;
 use crate::starts::{
-    settled_templates_are_calm, settled_templates_are_typed, typed_objects_are_typed,
+    normalized_templates_are_calm, normalized_templates_are_typed, typed_objects_are_typed,
     types_stand_where_they_begin,
 };
 use crate::templates::typed_works_make_typed_templates;
@@ -32,13 +32,13 @@ pub fn typed_units_have_typed_accesses()
     works_are_typed();
     types_stand_where_they_begin();
     typed_works_make_typed_templates();
-    settled_templates_are_typed();
-    settled_templates_are_calm();
+    normalized_templates_are_typed();
+    normalized_templates_are_calm();
     short_types_are_own();
     looped_locals_are_own();
     typed_objects_are_typed();
     names_are_typed();
-    typed_names_make_typed_openings();
+    typed_names_make_typed_inlinings();
     first_objects_are_typed();
     typed_programs_have_typed_accesses();
 }

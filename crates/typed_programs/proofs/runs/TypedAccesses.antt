@@ -18,7 +18,7 @@ use Rattle.memory_model.specs.Memory.Bytes.{MachinePointer, null, into}
 use Rattle.memory_model.specs.Memory.ScalarSizes.{class_bytes}
 use Rattle.memory_model.specs.Memory.Scalars.{Scalar, pointer}
 use Rattle.memory_model.specs.Effects.Accesses.{class_in}
-use Rattle.semantics.specs.CfgMachine.FlowStates.{Standing}
+use Rattle.semantics.specs.CfgMachine.FlowStates.{ProgramState}
 use Rattle.store_sound.specs.Operations.Scalars.{signed_in}
 use Rattle.run_exact.specs.TypedAccesses.{IsAtLeaf, PointsToKind}
 use Rattle.run_exact.specs.TypedCopies.{PointsToStruct, AreOneOrApart}
@@ -76,7 +76,7 @@ module _ (laws : TypeLaws) (flow : Flow) (laid : AreLaidOut flow.model (structs_
       let some = pointer_wide m laid.model in
       record { some = some; first = ap (λ b. cond b (Some (record { ctype = Pointer t; at = 0 })) None) (lt-ltb 0 m.pointer some); same = refl }
 
-  module _ (types : Types) (before after : Temporaries) (s : Standing) (h : IsTypedBy structs m.pointer objects types before s) where
+  module _ (types : Types) (before after : Temporaries) (s : ProgramState) (h : IsTypedBy structs m.pointer objects types before s) where
     -- what stands where a pointer to a type points, in the object of a base
     stands_there : (target : Target) (i offset lo hi size : ℕ) → Points structs m.pointer types target (into i offset lo hi) → 0 < size → offset + size ≤ hi → (b : ℕ) → s.bases b ≡ Some i → Stands structs m.pointer (objects b) (target_type target) offset
     stands_there target i offset lo hi size points some within b named =

@@ -18,7 +18,7 @@ use Rattle.memory_model.specs.Effects.NumberedTables.{put_at}
 use Rattle.memory_model.specs.Effects.Tests.{TestedSide, object, constant, nothing, pass_test, pass_case}
 use Rattle.memory_model.specs.Effects.Worlds.{World, Reply, goes, stops}
 use Rattle.lower_templates.specs.Views.ProgramViews.{EdgeView, FlowView, flow_view}
-use Rattle.semantics.specs.CfgMachine.FlowStates.{Standing}
+use Rattle.semantics.specs.CfgMachine.FlowStates.{ProgramState}
 use Rattle.semantics.specs.CfgMachine.FlowEdges.{is_taken, edge_taken, with_side, in_world, testing, integer_in, matching, with_put, on_way}
 use Rattle.source_preservation.specs.Memory.GoingWorlds.{WhenGoing}
 use Rattle.source_preservation.proofs.memory.Replies.{when_behind}
@@ -43,7 +43,7 @@ taken_among v (x ∷ xs) e is = by_test (is_taken v x.taken) (taken_among v xs e
 
 -- ---- sides
 
-side_when : (P : Standing → World → Type 0) (s : Standing) (x : Side) (use_it : TestedSide → Reply Standing) → ((y : TestedSide) → WhenGoing P (use_it y)) → WhenGoing P (with_side s x use_it)
+side_when : (P : ProgramState → World → Type 0) (s : ProgramState) (x : Side) (use_it : TestedSide → Reply ProgramState) → ((y : TestedSide) → WhenGoing P (use_it y)) → WhenGoing P (with_side s x use_it)
 side_when P s (side.Object base kind) use_it h = when_some P s (s.bases base) (λ i. use_it (object i kind)) (λ i e. h (object i kind))
 side_when P s (side.Number n) use_it h = h (constant n)
 side_when P s side.Null use_it h = h nothing
@@ -58,12 +58,12 @@ module _ (laws : TypeLaws) (flow : Flow) (laid : AreLaidOut flow.model (structs_
   abbrev m : Model
   m = flow.model
 
-  abbrev Typed : Types → Temporaries → Standing → Type 0
+  abbrev Typed : Types → Temporaries → ProgramState → Type 0
   Typed types known s = IsTypedBy structs m.pointer objects types known s
 
-  module _ (types : Types) (before : Temporaries) (s : Standing) (h : Typed types before s) where
+  module _ (types : Types) (before : Temporaries) (s : ProgramState) (h : Typed types before s) where
     -- a typed state in the same place
-    abbrev Still : Temporaries → Standing → World → Type 0
+    abbrev Still : Temporaries → ProgramState → World → Type 0
     Still known t w = Typed types known (record t { world = w })
 
     world_still : (reply : Reply (Unit {0})) → ((done : _) (w : World) → reply ≡ goes done w → KeepsTypes structs m.pointer types s.world w) → WhenGoing (Still before) (in_world s reply)
@@ -78,10 +78,10 @@ module _ (laws : TypeLaws) (flow : Flow) (laid : AreLaidOut flow.model (structs_
     matched value (Some base) = when_some (Still before) s (slice_get flow.bases.items base) _ (λ b there. when_some (Still before) s (s.bases base) _ (λ i named. world_still (pass_case m i (integer_in b) value s.world) (λ done w e. laws.cases m structs m.pointer types i (integer_in b) value s.world w done h.memory e)))
 
     module _ (after : Temporaries) where
-      kept_still : (t : Standing) (w : World) → Still before t w → IsKept before after → Still after t w
+      kept_still : (t : ProgramState) (w : World) → Still before t w → IsKept before after → Still after t w
       kept_still t w k kept = temps_typed structs m.pointer objects types before after (record t { world = w }) t.temps k (kept_known laws m structs laid types before after t.temps k.temps kept)
 
-      put_still : (puts : Option (ℕ × ℤ)) → PutsKnown puts before after → (t : Standing) (w : World) → Still before t w → Still after (with_put puts t) w
+      put_still : (puts : Option (ℕ × ℤ)) → PutsKnown puts before after → (t : ProgramState) (w : World) → Still before t w → Still after (with_put puts t) w
       put_still None kept t w k = kept_still t w k kept
       put_still (Some p) gives t w k = temps_typed structs m.pointer objects types before after (record t { world = w }) (put_at t.temps p.0 (integer p.1 no_labels)) k (put_known laws m structs laid types before after t.temps p.0 None (integer p.1 no_labels) k.temps tt gives)
 
@@ -93,7 +93,7 @@ module _ (laws : TypeLaws) (flow : Flow) (laid : AreLaidOut flow.model (structs_
       way_still (When truth test puts) typed = when_behind (Still before) (Still after) (testing f s test) (λ t w. goes (with_put puts t) w) (tested test) (λ t w k. put_still puts typed t w k)
       way_still (Case test) kept = moved (matching f s test.value test.object) (matched test.value test.object)
         where
-          moved : (reply : Reply Standing) → WhenGoing (Still before) reply → WhenGoing (Still after) reply
+          moved : (reply : Reply ProgramState) → WhenGoing (Still before) reply → WhenGoing (Still after) reply
           moved (goes t w) k = kept_still t w k kept
           moved (stops why w) k = tt
       way_still (Other values) kept = here kept

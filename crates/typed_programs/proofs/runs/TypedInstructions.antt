@@ -30,7 +30,7 @@ use Rattle.memory_model.specs.Effects.PointerEffects.{narrow, shift, difference,
 use Rattle.memory_model.specs.Effects.StructCopies.{copy_struct}
 use Rattle.memory_model.specs.Effects.Worlds.{World, Reply, goes, stops, Stuck}
 use Rattle.lower_templates.specs.Views.ProgramViews.{FlowView, flow_view}
-use Rattle.semantics.specs.CfgMachine.FlowStates.{Standing, if_some, put, next, size_in, base_size}
+use Rattle.semantics.specs.CfgMachine.FlowStates.{ProgramState, if_some, put, next, size_in, base_size}
 use Rattle.semantics.specs.CfgMachine.FlowActs.{giving, making, keeping, storing, put_result, calling, with_amount, addressing, enter, entering, leaving, changing, struct_leaves, struct_size}
 use Rattle.semantics.specs.CfgMachine.FlowSteps.{act_step}
 use Rattle.typed_programs.specs.PlainUnits.PlainTerms.{is_plain_library}
@@ -54,7 +54,7 @@ pub when_is : {A : Type 0} (P : A → World → Type 0) (reply : Reply A) → ((
 when_is P (goes x w) h = h x w refl
 when_is P (stops why w) h = tt
 
-pub when_some : {A B : Type 0} (P : B → World → Type 0) (s : Standing) (o : Option A) (use_it : A → Reply B) → ((x : A) → o ≡ Some x → WhenGoing P (use_it x)) → WhenGoing P (if_some s o use_it)
+pub when_some : {A B : Type 0} (P : B → World → Type 0) (s : ProgramState) (o : Option A) (use_it : A → Reply B) → ((x : A) → o ≡ Some x → WhenGoing P (use_it x)) → WhenGoing P (if_some s o use_it)
 when_some P s None use_it h = tt
 when_some P s (Some x) use_it h = h x refl
 
@@ -68,24 +68,24 @@ module _ (laws : TypeLaws) (flow : Flow) (laid : AreLaidOut flow.model (structs_
   abbrev m : Model
   m = flow.model
 
-  abbrev Typed : Types → Temporaries → Standing → Type 0
+  abbrev Typed : Types → Temporaries → ProgramState → Type 0
   Typed types known s = IsTypedBy structs m.pointer objects types known s
 
   -- the next instruction of the block, in a typed state
-  pub record IsNext (after : Temporaries) (s t : Standing) (w : World) : Type 0 where
+  pub record IsNext (after : Temporaries) (s t : ProgramState) (w : World) : Type 0 where
     pub types : Types
     pub typed : Typed types after (record t { world = w })
     pub block : t.block ≡ s.block
     pub at : t.at ≡ suc s.at
 
-  module _ (types : Types) (before after : Temporaries) (s : Standing) (h : Typed types before s) where
-    abbrev Goes : Reply Standing → Type 0
+  module _ (types : Types) (before after : Temporaries) (s : ProgramState) (h : Typed types before s) where
+    abbrev Goes : Reply ProgramState → Type 0
     Goes reply = WhenGoing (IsNext after s) reply
 
     abbrev Given : Option Known → Scalar → World → Type 0
     Given known v w = GivesKnown structs m.pointer types known v s.world w
 
-    next_goes : (now : Types) (t : Standing) → Typed now after t → t.block ≡ s.block → t.at ≡ s.at → Goes (next t)
+    next_goes : (now : Types) (t : ProgramState) → Typed now after t → t.block ≡ s.block → t.at ≡ s.at → Goes (next t)
     next_goes now t typed block at = record { types = now; typed = place_typed structs m.pointer objects now after t t.block (suc t.at) typed; block = block; at = ap suc at }
 
     -- ---- results
@@ -113,7 +113,7 @@ module _ (laws : TypeLaws) (flow : Flow) (laid : AreLaidOut flow.model (structs_
     points_at : (temp : ℕ) (t : Ty) (p : PointsTo flow objects before after temp t) (v : Scalar) → s.temps temp ≡ Some v → IsPointing laws m structs laid types p.target v
     points_at temp t p v e = pointing laws m structs laid types p.known p.target p.less v (h.temps temp p.known v p.has e)
 
-    amount_goes : (a : Amount) (use_it : Scalar → Reply Standing) → ((v : Scalar) → Goes (use_it v)) → Goes (with_amount s a use_it)
+    amount_goes : (a : Amount) (use_it : Scalar → Reply ProgramState) → ((v : Scalar) → Goes (use_it v)) → Goes (with_amount s a use_it)
     amount_goes (amount.Temp t) use_it k = when_some (IsNext after s) s (s.temps t) use_it (λ v e. k v)
     amount_goes amount.One use_it k = k _
 

@@ -17,7 +17,7 @@ use Rattle.memory_model.specs.Memory.Scalars.{Scalar, integer}
 use Rattle.memory_model.specs.Effects.UnitStarts.{start_world}
 use Rattle.memory_model.specs.Effects.Worlds.{World, Reply, goes, stops, Violation}
 use Rattle.lower_templates.specs.Views.ProgramViews.{EdgeView, FlowView, flow_view}
-use Rattle.semantics.specs.CfgMachine.FlowStates.{Standing, FlowRun, running, stopped}
+use Rattle.semantics.specs.CfgMachine.FlowStates.{ProgramState, FlowRun, running, stopped}
 use Rattle.semantics.specs.CfgMachine.FlowEdges.{edge_taken, edges_of, at_block, along, on_way}
 use Rattle.semantics.specs.CfgMachine.FlowStarts.{begun_by, flow_begin}
 use Rattle.semantics.specs.CfgMachine.FlowSteps.{block_of, on_edge, switching, begun, act_step, run_by, instruction_step, flow_step, flow_steps}
@@ -42,21 +42,21 @@ module _ (laws : TypeLaws) (flow : Flow) (u : UnitView) (typing : Typing) (p : I
   abbrev m : Model
   m = flow.model
 
-  abbrev Typed : Types → Temporaries → Standing → Type 0
+  abbrev Typed : Types → Temporaries → ProgramState → Type 0
   Typed types known s = IsTypedBy structs m.pointer typing.objects types known s
 
   -- what is known where the run stands
-  abbrev known_at : Standing → Temporaries
+  abbrev known_at : ProgramState → Temporaries
   known_at s = typing.known s.block s.at
 
   -- a run that stands there with this world is in a typed state
-  record StandsTyped (t : Standing) (w : World) : Type 0 where
+  record StandsTyped (t : ProgramState) (w : World) : Type 0 where
     types : Types
     typed : Typed types (known_at t) (record t { world = w })
 
   -- ---- one instruction
 
-  module _ (types : Types) (s : Standing) (h : Typed types (known_at s) s) (i : Instruction) (there : slice_get (instructions_of flow s.block) s.at ≡ Some i) where
+  module _ (types : Types) (s : ProgramState) (h : Typed types (known_at s) s) (i : Instruction) (there : slice_get (instructions_of flow s.block) s.at ≡ Some i) where
     abbrev before : Temporaries
     before = known_at s
 
@@ -82,7 +82,7 @@ module _ (laws : TypeLaws) (flow : Flow) (u : UnitView) (typing : Typing) (p : I
     way_stands _ ends_run off ends = tt
     way_stands _ _ off ends = absurd (off refl)
 
-    next_stands : (t : Standing) (w : World) → IsNext laws flow p.laid typing.objects p.bases after s t w → StandsTyped t w
+    next_stands : (t : ProgramState) (w : World) → IsNext laws flow p.laid typing.objects p.bases after s t w → StandsTyped t w
     next_stands t w k = record { types = k.types; typed = subst (λ z. Typed k.types z (record t { world = w })) known_is k.typed }
       where
         known_is : after ≡ known_at t
@@ -100,11 +100,11 @@ module _ (laws : TypeLaws) (flow : Flow) (u : UnitView) (typing : Typing) (p : I
   IsTypedRun (running s found) = IsTyped structs m.pointer typing.objects (known_at s) s
   IsTypedRun (stopped why w found) = Unit {0}
 
-  reply_typed : (found : List Violation) (place : Place) (reply : Reply Standing) → WhenGoing StandsTyped reply → IsTypedRun (run_by found place reply)
+  reply_typed : (found : List Violation) (place : Place) (reply : Reply ProgramState) → WhenGoing StandsTyped reply → IsTypedRun (run_by found place reply)
   reply_typed found place (goes t w) k = typed_of structs m.pointer typing.objects k.types (known_at t) (record t { world = w }) k.typed
   reply_typed found place (stops why w) k = tt
 
-  step_typed : (found : List Violation) (s : Standing) → IsTyped structs m.pointer typing.objects (known_at s) s → (o : Option Step) → slice_get (block_of f s.block).steps s.at ≡ o → IsTypedRun (instruction_step f found s o)
+  step_typed : (found : List Violation) (s : ProgramState) → IsTyped structs m.pointer typing.objects (known_at s) s → (o : Option Step) → slice_get (block_of f s.block).steps s.at ≡ o → IsTypedRun (instruction_step f found s o)
   step_typed found s h None e = tt
   step_typed found s h (Some i) e =
       let k = is_at flow s.block s.at i e in

@@ -9,7 +9,7 @@ use Rattle.memory_model.specs.Memory.Scalars.{Scalar}
 use Rattle.memory_model.specs.Effects.NumberedTables.{set_at, put_at, clear_at}
 use Rattle.memory_model.specs.Effects.Touches.{is_allocated}
 use Rattle.memory_model.specs.Effects.Worlds.{World}
-use Rattle.semantics.specs.CfgMachine.FlowStates.{Standing}
+use Rattle.semantics.specs.CfgMachine.FlowStates.{ProgramState}
 use Rattle.typed_programs.specs.Types.StandingTypes.{AreLaidOut}
 use Rattle.typed_programs.specs.Types.PointedTypes.{Known, Has}
 use Rattle.typed_programs.specs.Types.TypedStates.{Temporaries, AreDeclared, IsTypedMemory, AreKnown, IsTyped}
@@ -30,21 +30,21 @@ set_else f n x m other = grind arith
 
 module _ (structs : List StructView) (pointer_size : ℕ) (objects : ℕ → Ty) where
   -- a typed state, by the types of its instances
-  pub record IsTypedBy (types : Types) (known : Temporaries) (s : Standing) : Type 0 where
+  pub record IsTypedBy (types : Types) (known : Temporaries) (s : ProgramState) : Type 0 where
     pub bases : (b i : ℕ) → s.bases b ≡ Some i → types i ≡ Some (objects b)
     pub there : (i : ℕ) (t : Ty) → types i ≡ Some t → i < length s.world.memory
     pub declared : AreDeclared types s.world.memory
     pub temps : AreKnown structs pointer_size types known s.temps
     pub memory : IsTypedMemory structs pointer_size types s.world.memory
 
-  pub typed_of : (types : Types) (known : Temporaries) (s : Standing) → IsTypedBy types known s → IsTyped structs pointer_size objects known s
+  pub typed_of : (types : Types) (known : Temporaries) (s : ProgramState) → IsTypedBy types known s → IsTyped structs pointer_size objects known s
   typed_of types known s h = record { types = types; bases = h.bases; there = h.there; declared = h.declared; temps = h.temps; memory = h.memory }
 
-  pub by_types : (known : Temporaries) (s : Standing) (h : IsTyped structs pointer_size objects known s) → IsTypedBy h.types known s
+  pub by_types : (known : Temporaries) (s : ProgramState) (h : IsTyped structs pointer_size objects known s) → IsTypedBy h.types known s
   by_types known s h = record { bases = h.bases; there = h.there; declared = h.declared; temps = h.temps; memory = h.memory }
 
   -- the world behind what keeps to types
-  pub world_typed : (types : Types) (known : Temporaries) (s : Standing) (w : World) → IsTypedBy types known s → KeepsTypes structs pointer_size types s.world w → IsTypedBy types known (record s { world = w })
+  pub world_typed : (types : Types) (known : Temporaries) (s : ProgramState) (w : World) → IsTypedBy types known s → KeepsTypes structs pointer_size types s.world w → IsTypedBy types known (record s { world = w })
   world_typed types known s w h k = record {
     bases = h.bases;
     there = λ i t e. subst (λ z. i < z) (sym k.long) (h.there i t e);
@@ -54,7 +54,7 @@ module _ (structs : List StructView) (pointer_size : ℕ) (objects : ℕ → Ty)
   }
 
   -- behind what leaves memory as it is
-  pub same_typed : (types : Types) (known : Temporaries) (s : Standing) (w : World) → IsTypedBy types known s → w.memory ≡ s.world.memory → IsTypedBy types known (record s { world = w })
+  pub same_typed : (types : Types) (known : Temporaries) (s : ProgramState) (w : World) → IsTypedBy types known s → w.memory ≡ s.world.memory → IsTypedBy types known (record s { world = w })
   same_typed types known s w h same = record {
     bases = h.bases;
     there = λ i t e. subst (λ z. i < length z) (sym same) (h.there i t e);
@@ -63,13 +63,13 @@ module _ (structs : List StructView) (pointer_size : ℕ) (objects : ℕ → Ty)
     memory = subst (IsTypedMemory structs pointer_size types) (sym same) h.memory;
   }
 
-  pub temps_typed : (types : Types) (known after : Temporaries) (s : Standing) (temps : ℕ → Option Scalar) → IsTypedBy types known s → AreKnown structs pointer_size types after temps → IsTypedBy types after (record s { temps = temps })
+  pub temps_typed : (types : Types) (known after : Temporaries) (s : ProgramState) (temps : ℕ → Option Scalar) → IsTypedBy types known s → AreKnown structs pointer_size types after temps → IsTypedBy types after (record s { temps = temps })
   temps_typed types known after s temps h k = record { bases = h.bases; there = h.there; declared = h.declared; temps = k; memory = h.memory }
 
-  pub place_typed : (types : Types) (known : Temporaries) (s : Standing) (block at : ℕ) → IsTypedBy types known s → IsTypedBy types known (record s { block = block; at = at })
+  pub place_typed : (types : Types) (known : Temporaries) (s : ProgramState) (block at : ℕ) → IsTypedBy types known s → IsTypedBy types known (record s { block = block; at = at })
   place_typed types known s block at h = record { bases = h.bases; there = h.there; declared = h.declared; temps = h.temps; memory = h.memory }
 
-  pub cleared_typed : (types : Types) (known : Temporaries) (s : Standing) (base : ℕ) → IsTypedBy types known s → IsTypedBy types known (record s { bases = clear_at s.bases base })
+  pub cleared_typed : (types : Types) (known : Temporaries) (s : ProgramState) (base : ℕ) → IsTypedBy types known s → IsTypedBy types known (record s { bases = clear_at s.bases base })
   cleared_typed types known s base h = record { bases = λ b i e. still b i e; there = h.there; declared = h.declared; temps = h.temps; memory = h.memory }
     where
       still : (b i : ℕ) → clear_at s.bases base b ≡ Some i → types i ≡ Some (objects b)

@@ -6,7 +6,7 @@ use Rattle.memory_model.specs.Memory.Bytes.{MachinePointer, Byte, part}
 use Rattle.memory_model.specs.Memory.Instances.{Memory, bytes_at}
 use Rattle.memory_model.specs.Memory.Scalars.{Scalar}
 use Rattle.memory_model.specs.Effects.Touches.{is_allocated, storage_at}
-use Rattle.semantics.specs.CfgMachine.FlowStates.{Standing}
+use Rattle.semantics.specs.CfgMachine.FlowStates.{ProgramState}
 use Rattle.typed_programs.specs.Types.TypeBytes.{scalar_byte}
 use Rattle.typed_programs.specs.Types.PointedTypes.{Element, Known, Points, Has}
 
@@ -28,7 +28,7 @@ module _ (structs : List StructView) (pointer_size : ℕ) where
   AreKnown types known temps = (t : ℕ) (k : Known) (v : Scalar) → known t ≡ Some k → temps t ≡ Some v → Has structs pointer_size types k v
 
   -- `objects` has the type of each base
-  pub record IsTyped (objects : ℕ → Ty) (known : Temporaries) (s : Standing) : Type 0 where
+  pub record IsTyped (objects : ℕ → Ty) (known : Temporaries) (s : ProgramState) : Type 0 where
     pub types : ℕ → Option Ty
     pub bases : (b i : ℕ) → s.bases b ≡ Some i → types i ≡ Some (objects b)
     pub there : (i : ℕ) (t : Ty) → types i ≡ Some t → i < length s.world.memory

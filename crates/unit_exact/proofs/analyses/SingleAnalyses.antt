@@ -26,7 +26,7 @@ use Rattle.interval_domain.specs.Intervals.IntervalLattice.{interval_lattice, in
 use Rattle.interval_domain.specs.Intervals.IntervalNumbers.{interval_numbers, interval_bounding, interval_ranges}
 use Rattle.domain_theorems.specs.Intervals.Operations.{interval_monotone, interval_sound}
 use Rattle.lower_templates.specs.Views.ProgramViews.{flow_view}
-use Rattle.semantics.specs.CfgMachine.FlowStates.{Standing, running}
+use Rattle.semantics.specs.CfgMachine.FlowStates.{ProgramState, running}
 use Rattle.semantics.specs.CfgMachine.FlowStarts.{first_standing, begun_by, flow_begin}
 use Rattle.store_sound.specs.Concretization.Coverage.{state_of}
 use Rattle.store_sound.specs.Programs.Premises.{HasPremises}
@@ -162,7 +162,7 @@ module _ (flow : Flow) (list : List ℤ) (found : List Diag) (a : IsAnalysis flo
     none_taken f [] e = refl
     none_taken f (x ∷ xs) e = cc
 
-    begin : Standing
+    begin : ProgramState
     begin = first_standing u (flow_view flow) (world_before u [])
 
     begins : flow.parameters.items ≡ [] → flow_begin u (flow_view flow) [] ≡ running begin []

@@ -26,17 +26,17 @@ plans_test_with : (o : NamedObject) (rel : Rel) (common : IntType) (right : Opti
 plans_test_with o rel common None p known = known
 plans_test_with o rel common (Some right) p known = plans_name (name_of_object o.object) p known
 
-plans_turned_object : (n : ℤ) (rel : Rel) (o : Option NamedObject) (common : IntType) (p : Plan) → IsPlannedApart p → IsPlannedApart (turned_object_test n rel o common p).after
-plans_turned_object n rel None common p known = known
-plans_turned_object n rel (Some o) common p known = plans_name (name_of_object o.object) p known
+plans_unrolled_object : (n : ℤ) (rel : Rel) (o : Option NamedObject) (common : IntType) (p : Plan) → IsPlannedApart p → IsPlannedApart (turned_object_test n rel o common p).after
+plans_unrolled_object n rel None common p known = known
+plans_unrolled_object n rel (Some o) common p known = plans_name (name_of_object o.object) p known
 
-plans_turned : (n : Option ℤ) (rel : Rel) (right : TermTree) (common : IntType) (p : Plan) → IsPlannedApart p → IsPlannedApart (turned_test n rel right common p).after
-plans_turned None rel right common p known = known
-plans_turned (Some n) rel right common p known = plans_turned_object n rel (named right) common p known
+plans_unrolled : (n : Option ℤ) (rel : Rel) (right : TermTree) (common : IntType) (p : Plan) → IsPlannedApart p → IsPlannedApart (turned_test n rel right common p).after
+plans_unrolled None rel right common p known = known
+plans_unrolled (Some n) rel right common p known = plans_unrolled_object n rel (named right) common p known
 
 plans_relation : (o : Option NamedObject) (left : TermTree) (rel : Rel) (right : TermTree) (p : Plan) → IsPlannedApart p → IsPlannedApart (relation_test_of o left rel right p).after
 plans_relation (Some o) left rel right p known = plans_test_with o rel (integer_type (term_type left)) (right_side right p).side (right_side right p).after (plans_side (named right) (constant_of right) p known)
-plans_relation None left rel right p known = plans_turned (constant_of left) rel right (integer_type (term_type left)) p known
+plans_relation None left rel right p known = plans_unrolled (constant_of left) rel right (integer_type (term_type left)) p known
 
 plans_null : (o : Option NamedObject) (rel : Rel) (p : Plan) → IsPlannedApart p → IsPlannedApart (null_test o rel p).after
 plans_null None rel p known = known

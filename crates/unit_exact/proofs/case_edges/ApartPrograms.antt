@@ -9,11 +9,11 @@ use Rattle.lower_templates.specs.Worklist.Pieces.{TemplateView}
 use Rattle.lower_objects.specs.declared.counts.function_counts.FunctionCounts.{FunctionCounts}
 use Rattle.lower_tables.specs.Counts.Preparations.{IsPrepared}
 use Rattle.lower_templates.specs.Views.ProgramViews.{EdgeView}
-use Rattle.lower.specs.Inlining.Openings.{joined, template_at, whole, resolved_edge, resolved}
+use Rattle.lower.specs.Inlining.Inlinings.{joined, template_at, whole, resolved_edge, resolved}
 use Rattle.unit_exact.specs.CaseEdges.ApartSwitches.{are_apart_pieces}
 use Rattle.unit_exact.specs.CaseEdges.ApartEdges.{EdgesAreApart, ProgramsSwitchApart}
 use Rattle.unit_exact.proofs.case_edges.ApartTemplates.{template_apart}
-use Rattle.unit_exact.proofs.case_edges.SettledApart.{settled_apart}
+use Rattle.unit_exact.proofs.case_edges.NormalizedApart.{normalized_apart}
 use Rattle.unit_exact.proofs.case_edges.ApartRuns.{Beside, Pairwise, goes_whole, pairs_at}
 
 function_at : (fs : List FunctionView) (n : ℕ) (f : FunctionView) → list_all is_distinct_function fs ≡ true → slice_get fs n ≡ Some f → is_distinct_function f ≡ true
@@ -29,9 +29,9 @@ template_there (Some r) t is = ap Some is
 
 each_apart : (u : UnitView) (ts : List (Option TemplateView)) (table : List (Option FunctionCounts)) → IsPrepared u ts table → is_distinct_unit u ≡ true → (n : ℕ) (t : TemplateView) → template_at ts n ≡ Some t → are_apart_pieces t.pieces ≡ true
 each_apart u ts table prepared apart n t is =
-    let x = prepared.are_settled n t (template_there (slice_get ts n) t is) in
+    let x = prepared.are_normalized n t (template_there (slice_get ts n) t is) in
     let plain = template_apart u.structs u.model.pointer u.model.int x.function (n == u.entry) x.template x.is_template.is_template (function_at u.functions n x.function apart x.is_template.stands) in
-    subst (λ r. are_apart_pieces r.pieces ≡ true) (sym x.settles) (settled_apart x.table x.template plain)
+    subst (λ r. are_apart_pieces r.pieces ≡ true) (sym x.settles) (normalized_apart x.table x.template plain)
 
 -- ---- edges that lead to blocks
 

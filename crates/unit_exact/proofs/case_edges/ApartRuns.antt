@@ -14,8 +14,8 @@ use Rattle.lower_templates.specs.Worklist.Pieces.{Way, Always, When, Case, Other
 use Rattle.lower_templates.specs.declared.worklist.template_pieces.OwnCall.{OwnCall}
 use Rattle.lower_templates.specs.Views.ProgramViews.{EdgeView}
 use Rattle.lower.specs.Inlining.MovedActs.{own_base}
-use Rattle.lower.specs.Inlining.Openings as o
-use Rattle.lower.specs.Inlining.Openings.{Made, CopyView, Placed, Opened, is_none, placed}
+use Rattle.lower.specs.Inlining.Inlinings as o
+use Rattle.lower.specs.Inlining.Inlinings.{Made, CopyView, Placed, Inlined, is_none, placed}
 use Rattle.lower.specs.Inlining.WellMade.{AllFrom}
 use Rattle.unit_exact.specs.CaseEdges.ApartSwitches.{Label, label, is_beside, are_apart, exit_labels, is_apart_piece, are_apart_pieces}
 use Rattle.unit_exact.proofs.case_edges.ApartLabels.{beside_back}
@@ -172,7 +172,7 @@ abbrev pub AreToCome : List CopyView → Type 0
 AreToCome [] = Unit {0}
 AreToCome (c ∷ cs) = (are_apart_pieces c.rest ≡ true) × AreToCome cs
 
-pub record Goes (x : Opened) : Type 0 where
+pub record Goes (x : Inlined) : Type 0 where
   pub made : IsApart x.program
   pub to_come : AreToCome x.stack
 

@@ -147,7 +147,7 @@ plans_statement_works s (tree.While e body) around p is known = search works dep
 plans_statement_works s (tree.Do body e) around p is known = search works depth 30
 plans_statement_works s (tree.For xs first test step body) around p is known =
     let (one, two) = and_parts (have_distinct_cases first) (has_distinct_cases body) is in
-    let opened : IsPlannedApart (with_scope p) = search works in plans_for s (with_scope p).labels xs first test step body (in_scope around p.scopes) (with_scope p) one two opened
+    let inlined : IsPlannedApart (with_scope p) = search works in plans_for s (with_scope p).labels xs first test step body (in_scope around p.scopes) (with_scope p) one two inlined
 plans_statement_works s (tree.Switch at e labels has_default enumerators body) around p is known = let (one, two) = and_parts (are_distinct (case_values labels)) (has_distinct_cases body) is in plans_switch s at e labels body around p one two known
 plans_statement_works s (tree.Case n body) around p is known = search works depth 30
 plans_statement_works s (tree.Default body) around p is known = search works depth 30

@@ -8,15 +8,15 @@ use Rattle.cc_base.specs.declared.diagnostics.Place.{Place}
 use Rattle.memory_model.specs.Effects.Worlds.{World, Why, Stuck, Reply, goes, stops, Violation}
 use Rattle.lower_templates.specs.Worklist.Acts.{Step}
 use Rattle.lower_templates.specs.Views.ProgramViews.{FlowView}
-use Rattle.semantics.specs.CfgMachine.FlowStates.{Standing, FlowRun, running, stopped, found_in}
+use Rattle.semantics.specs.CfgMachine.FlowStates.{ProgramState, FlowRun, running, stopped, found_in}
 use Rattle.semantics.specs.CfgMachine.FlowSteps.{block_of, begun, act_step, violations_at, run_by, instruction_step, flow_step, flow_steps}
 
 module _ (f : FlowView) where
-  by_reply : (found : List Violation) (place : Place) (reply : Reply Standing) (v : Violation) → Contains found v → Contains (found_in (run_by found place reply)) v
+  by_reply : (found : List Violation) (place : Place) (reply : Reply ProgramState) (v : Violation) → Contains found v → Contains (found_in (run_by found place reply)) v
   by_reply found place (goes s w) v h = Contains-append_left found (violations_at place w.violated) v h
   by_reply found place (stops why w) v h = Contains-append_left found (violations_at place w.violated) v h
 
-  by_step : (found : List Violation) (s : Standing) (i : Option Step) (v : Violation) → Contains found v → Contains (found_in (instruction_step f found s i)) v
+  by_step : (found : List Violation) (s : ProgramState) (i : Option Step) (v : Violation) → Contains found v → Contains (found_in (instruction_step f found s i)) v
   by_step found s None v h = h
   by_step found s (Some i) v h = by_reply found i.at (act_step f i.does (begun s)) v h
 

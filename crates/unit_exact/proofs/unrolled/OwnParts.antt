@@ -19,7 +19,7 @@ use Rattle.diagnose.specs.Diagnostics.AdmittedRules.{instructions_of}
 use Rattle.run_exact.proofs.runs.BlockEdges.{in_block}
 use Rattle.loop_unrolling.specs.Turns.{copies, last_copy, number_in, block_copy, split}
 use Rattle.analysis_determined.proofs.unrolled_runs.CopiedLists.{number_below, placed, copy_at}
-use Rattle.analysis_determined.proofs.unrolled_diagnostics.TurnedPrograms.{size, edge_size, block_count, steps_same, edge_count, edge_of}
+use Rattle.analysis_determined.proofs.unrolled_diagnostics.UnrolledPrograms.{size, edge_size, block_count, steps_same, edge_count, edge_of}
 
 -- ---- lists
 

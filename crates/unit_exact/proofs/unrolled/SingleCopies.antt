@@ -19,22 +19,22 @@ use Rattle.lower_templates.specs.Worklist.Pieces.{way}
 use Rattle.lower_templates.specs.Worklist.Pieces as ways
 use Rattle.memory_model.specs.Effects.Worlds.{World, Stuck, Violation}
 use Rattle.lower_templates.specs.Views.ProgramViews.{FlowView, block, flow_view}
-use Rattle.semantics.specs.CfgMachine.FlowStates.{Standing, FlowRun, running, stopped, found_in}
+use Rattle.semantics.specs.CfgMachine.FlowStates.{ProgramState, FlowRun, running, stopped, found_in}
 use Rattle.semantics.specs.CfgMachine.FlowSteps.{flow_steps}
 use Rattle.semantics.specs.CfgMachine.FlowStarts.{flow_begin}
 use Rattle.transfer_edges.specs.Edges.{has_label}
 use Rattle.transfer_system.specs.System.FlowMachines.{head_in, is_head_at}
 use Rattle.transfer_sound.specs.Induction.SoundEnds.{IsDoneIn}
 use Rattle.diagnose.specs.Diagnostics.AdmittedRules.{instructions_of}
-use Rattle.run_exact.proofs.TurnedSound.{found_same}
+use Rattle.run_exact.proofs.UnrolledSound.{found_same}
 use Rattle.run_exact.specs.Runs.SingleRuns.{IsPlainOperation, IsTypedStep, SwitchesAreApart, HasTypedAccesses, EntersNoHead, IsSingleProgram, IsSingleRun, IsNeverStuckAlone}
 use Rattle.loop_unrolling.specs.Turns.{copies, last_copy, number_in, split}
 use Rattle.analysis_determined.specs.UnrolledRuns.SameRuns.{in_copy, IsCopied, SameRun}
 use Rattle.analysis_determined.proofs.unrolled_runs.CopiedLists.{placed}
 use Rattle.analysis_determined.proofs.unrolled_runs.LinkedPrograms.{linked}
 use Rattle.analysis_determined.proofs.unrolled_runs.SameSteps.{runs_same}
-use Rattle.analysis_determined.proofs.unrolled_diagnostics.TurnedPrograms.{same_parts, block_count, head_there, edge_size}
-use Rattle.unit_exact.specs.Unrolled.TurnedLoops.{TakesTurns, IsSingleUpTo}
+use Rattle.analysis_determined.proofs.unrolled_diagnostics.UnrolledPrograms.{same_parts, block_count, head_there, edge_size}
+use Rattle.unit_exact.specs.Unrolled.UnrolledLoops.{TakesTurns, IsSingleUpTo}
 use Rattle.unit_exact.proofs.unrolled.AlikeOperations.{alike}
 use Rattle.unit_exact.proofs.unrolled.TypedCopies.{plain_too, step_too}
 use Rattle.unit_exact.proofs.unrolled.OwnParts.{past, one_copy, one_place, many, own_instruction, an_instruction, headless_before, OwnEdge, own_edge}
@@ -70,22 +70,22 @@ other_of kind.Line labels e = absurd (cc)
 
 -- ---- runs
 
-record OwnRun (turns : ℕ) (f : FlowView) (s : Standing) (found : List Violation) (r : FlowRun) : Type 0 where
-  own : Standing
+record OwnRun (turns : ℕ) (f : FlowView) (s : ProgramState) (found : List Violation) (r : FlowRun) : Type 0 where
+  own : ProgramState
   is : r ≡ running own found
   copied : IsCopied turns f own s
 
-own_run : (turns : ℕ) (f : FlowView) (r q : FlowRun) (s : Standing) (found : List Violation) → SameRun turns f r q → q ≡ running s found → OwnRun turns f s found r
+own_run : (turns : ℕ) (f : FlowView) (r q : FlowRun) (s : ProgramState) (found : List Violation) → SameRun turns f r q → q ≡ running s found → OwnRun turns f s found r
 own_run turns f (running own more) (running t other) s found m e = record {
   own = own;
   is = ap (running own) (sym m.1 ∙ same_found t s other found e);
   copied = subst (IsCopied turns f own) (same_standing t s other found e) m.0;
 }
   where
-    same_standing : (t s : Standing) (other found : List Violation) → running t other ≡ running s found → t ≡ s
+    same_standing : (t s : ProgramState) (other found : List Violation) → running t other ≡ running s found → t ≡ s
     same_standing t s other found e = cc
 
-    same_found : (t s : Standing) (other found : List Violation) → running t other ≡ running s found → other ≡ found
+    same_found : (t s : ProgramState) (other found : List Violation) → running t other ≡ running s found → other ≡ found
     same_found t s other found e = cc
 own_run turns f (running own more) (stopped why w other) s found m e = absurd m
 own_run turns f (stopped why w more) (running t other) s found m e = absurd m
@@ -183,10 +183,10 @@ module _ (turns : ℕ) (limits : Limits) (f g : Flow) (good : is_well_formed lim
     accesses_too typed count s found i e there =
         let o = own_run turns (flow_view f) (before count) (behind count) s found (same_run count) (turned_is count ∙ e) in
         let c = o.copied in
-        let at_is : s.at ≡ o.own.at = ap (λ (z : Standing). z.at) c.place in
-        let block_is : s.block ≡ number_in whole c.copy o.own.block = ap (λ (z : Standing). z.block) c.place in
-        let temps : o.own.temps ≡ s.temps = sym (ap (λ (z : Standing). z.temps) c.place) in
-        let bases : o.own.bases ≡ s.bases = sym (ap (λ (z : Standing). z.bases) c.place) in
+        let at_is : s.at ≡ o.own.at = ap (λ (z : ProgramState). z.at) c.place in
+        let block_is : s.block ≡ number_in whole c.copy o.own.block = ap (λ (z : ProgramState). z.block) c.place in
+        let temps : o.own.temps ≡ s.temps = sym (ap (λ (z : ProgramState). z.temps) c.place) in
+        let bases : o.own.bases ≡ s.bases = sym (ap (λ (z : ProgramState). z.bases) c.place) in
         let x = own_instruction turns f g h c.copy o.own.block o.own.at i c.among c.block (ap (slice_get (instructions_of g (number_in whole c.copy o.own.block))) (sym at_is) ∙ (ap (λ z. slice_get (instructions_of g z) s.at) (sym block_is) ∙ there)) in
         let own = typed count o.own found x.own o.is x.there in
         alike (λ p. IsTypedStep g p s) (λ to name a b newest size q. q) x.own.operation i.operation (ap (λ (z : Step). z.does) x.alike) (step_too f g (same_parts turns f g h) o.own s x.own.operation temps bases own)

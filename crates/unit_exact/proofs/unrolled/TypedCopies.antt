@@ -14,7 +14,7 @@ use Rattle.memory_model.specs.Memory.Bytes.{MachinePointer, null, into}
 use Rattle.memory_model.specs.Memory.ScalarSizes.{class_bytes}
 use Rattle.memory_model.specs.Effects.Accesses.{class_in}
 use Rattle.store_sound.specs.Concretization.Places.{OwnedByLeaf}
-use Rattle.semantics.specs.CfgMachine.FlowStates.{Standing}
+use Rattle.semantics.specs.CfgMachine.FlowStates.{ProgramState}
 use Rattle.transfer_exact.specs.Values.SingleRows.{IsPlainProgram}
 use Rattle.transfer_exact.specs.Accesses.TypedAccesses.{PointsToKind, IsTyped}
 use Rattle.transfer_exact.specs.Spelling.TypedCopies.{HasOwnLeaf, HasStructLeaf, IsAtStruct, PointsToStruct, HasStructType, AreOneOrApart, HasPlaces}
@@ -40,7 +40,7 @@ module _ (f g : Flow) (h : SameParts f g) where
   kind_too entered kind null t = t
   kind_too entered kind (into i offset lo hi) t = λ b base e at low high. t b base (base_there b base e) at low (subst (λ m. offset + class_bytes m (class_in kind) ≤ hi) (sym h.model) high)
 
-  typed_too : (s t : Standing) (temp : ℕ) (kind : declared.Scalar) → s.temps ≡ t.temps → s.bases ≡ t.bases → IsTyped f s temp kind → IsTyped g t temp kind
+  typed_too : (s t : ProgramState) (temp : ℕ) (kind : declared.Scalar) → s.temps ≡ t.temps → s.bases ≡ t.bases → IsTyped f s temp kind → IsTyped g t temp kind
   typed_too s t temp kind temps bases typed p e = subst (λ x. PointsToKind g x kind p) bases (kind_too s.bases kind p (typed p (ap (λ x. x temp) temps ∙ e)))
 
   -- ---- structs
@@ -65,7 +65,7 @@ module _ (f g : Flow) (h : SameParts f g) where
   points_too entered index null t = t
   points_too entered index (into i offset lo hi) t = λ b base view e v at low high. struct_too index view base offset (t b base view (base_there b base e) (view_there index view v) at low high)
 
-  type_too : (s t : Standing) (temp index : ℕ) → s.temps ≡ t.temps → s.bases ≡ t.bases → HasStructType f s temp index → HasStructType g t temp index
+  type_too : (s t : ProgramState) (temp index : ℕ) → s.temps ≡ t.temps → s.bases ≡ t.bases → HasStructType f s temp index → HasStructType g t temp index
   type_too s t temp index temps bases typed p e = subst (λ x. PointsToStruct g x index p) bases (points_too s.bases index p (typed p (ap (λ x. x temp) temps ∙ e)))
 
   one_too : (index : ℕ) (p q : MachinePointer) → AreOneOrApart f index p q → AreOneOrApart g index p q
@@ -73,12 +73,12 @@ module _ (f g : Flow) (h : SameParts f g) where
   one_too index (into i offset lo hi) null a = a
   one_too index (into i offset lo hi) (into j at below above) a = λ x view v. a x view (view_there index view v)
 
-  places_too : (s t : Standing) (to from index : ℕ) → s.temps ≡ t.temps → HasPlaces f s to from index → HasPlaces g t to from index
+  places_too : (s t : ProgramState) (to from index : ℕ) → s.temps ≡ t.temps → HasPlaces f s to from index → HasPlaces g t to from index
   places_too s t to from index temps a p q e c = one_too index p q (a p q (ap (λ x. x to) temps ∙ e) (ap (λ x. x from) temps ∙ c))
 
   -- ---- steps
 
-  pub step_too : (s t : Standing) (o : Operation) → s.temps ≡ t.temps → s.bases ≡ t.bases → IsTypedStep f o s → IsTypedStep g o t
+  pub step_too : (s t : ProgramState) (o : Operation) → s.temps ≡ t.temps → s.bases ≡ t.bases → IsTypedStep f o s → IsTypedStep g o t
   step_too s t (op.Load to from kind) temps bases a = typed_too s t from kind temps bases a
   step_too s t (op.Store to from kind kept) temps bases a = typed_too s t to kind temps bases a
   step_too s t (op.Copy to from index) temps bases a = (type_too s t to index temps bases a.0, type_too s t from index temps bases a.1, places_too s t to from index temps a.2)

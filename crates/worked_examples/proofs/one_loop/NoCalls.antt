@@ -2,7 +2,7 @@
 use Rattle.std.proofs.Common.{◌≡◌, ℕ, zero, suc, List, [], ◌∷◌, Some, None, slice_get, sym, subst}
 use Rattle.lower_templates.specs.Worklist.Pieces.{PieceView, Do, DoIfUsed, End, Mark, Call}
 use Rattle.lower_templates.specs.declared.worklist.template_pieces.OwnCall.{OwnCall}
-use Rattle.simulation_terms.specs.SimulationRelation.Follows.{CallsThere}
+use Rattle.simulation_terms.specs.SimulationRelation.Simulates.{CallsThere}
 use Rattle.worked_examples.specs.OneLoop.NoCalls.{NotCalled}
 
 same_call : (a b : OwnCall) → Some (Call a) ≡ Some (Call b) → a ≡ b

@@ -18,7 +18,7 @@ use Rattle.cfg.specs.declared.machine_instructions.Operation.TheVariants as op
 use Rattle.cfg.specs.declared.programs.Flow.{Flow}
 use Rattle.lower_templates.specs.Views.ProgramViews.{FlowView, flow_view}
 use Rattle.semantics.specs.CfgMachine.FlowStates as states
-use Rattle.semantics.specs.CfgMachine.FlowStates.{Standing, FlowRun, running, stopped}
+use Rattle.semantics.specs.CfgMachine.FlowStates.{ProgramState, FlowRun, running, stopped}
 use Rattle.semantics.specs.CfgMachine.FlowSteps.{flow_steps}
 use Rattle.semantics.specs.CfgMachine.FlowStarts.{flow_begin}
 use Rattle.typed_lowering.specs.PlainUnits.{is_plain_unit}
@@ -107,7 +107,7 @@ module _ (some : Flow) where
   same_pointer : (p q : MachinePointer) → Some (pointer p) ≡ Some (pointer q) → p ≡ q
   same_pointer p q e = cc
 
-  typed : (s : Standing) (temp : ℕ) → s.temps temp ≡ Some (pointer (into 0 0 0 4)) → IsTyped program s temp int_scalar
+  typed : (s : ProgramState) (temp : ℕ) → s.temps temp ≡ Some (pointer (into 0 0 0 4)) → IsTyped program s temp int_scalar
   typed s temp is p there = subst (λ q. PointsToKind program s.bases int_scalar q) (same_pointer (into 0 0 0 4) p (sym is ∙ there)) (into_int s.bases)
 
   -- ---- steps
@@ -125,15 +125,15 @@ module _ (some : Flow) where
   temp_in (stopped why w found) t = None
 
   abbrev IsTypedRun : FlowRun → Type 0
-  IsTypedRun r = (s : Standing) (found : List Violation) (i : Instruction) → r ≡ running s found → slice_get (instructions_of program s.block) s.at ≡ Some i → IsTypedStep program i.operation s
+  IsTypedRun r = (s : ProgramState) (found : List Violation) (i : Instruction) → r ≡ running s found → slice_get (instructions_of program s.block) s.at ≡ Some i → IsTypedStep program i.operation s
 
   -- of the state only what the step looks at is computed
-  by_step : (r : FlowRun) (x : Instruction) → slice_get (instructions_of program (block_in r)) (at_in r) ≡ Some x → ((s : Standing) (found : List Violation) → r ≡ running s found → IsTypedStep program x.operation s) → IsTypedRun r
+  by_step : (r : FlowRun) (x : Instruction) → slice_get (instructions_of program (block_in r)) (at_in r) ≡ Some x → ((s : ProgramState) (found : List Violation) → r ≡ running s found → IsTypedStep program x.operation s) → IsTypedRun r
   by_step r x is typed s found i e there =
       let here : slice_get (instructions_of program s.block) s.at ≡ Some x = subst (λ (y : FlowRun). slice_get (instructions_of program (block_in y)) (at_in y) ≡ Some x) e is in
       subst (λ (y : Instruction). IsTypedStep program y.operation s) (same_Some x i (sym here ∙ there)) (typed s found e)
 
-  through : (r : FlowRun) (t : ℕ) → temp_in r t ≡ Some (pointer (into 0 0 0 4)) → (s : Standing) (found : List Violation) → r ≡ running s found → IsTyped program s t int_scalar
+  through : (r : FlowRun) (t : ℕ) → temp_in r t ≡ Some (pointer (into 0 0 0 4)) → (s : ProgramState) (found : List Violation) → r ≡ running s found → IsTyped program s t int_scalar
   through r t is s found e = typed s t (subst (λ (y : FlowRun). temp_in y t ≡ Some (pointer (into 0 0 0 4))) e is)
 
   entered : IsTypedRun (run 0)
@@ -192,7 +192,7 @@ module _ (some : Flow) where
   typed_run (suc (suc (suc (suc (suc (suc (suc zero))))))) = divided
   typed_run (suc (suc (suc (suc (suc (suc (suc (suc count)))))))) = of_stopped (run (suc (suc (suc (suc (suc (suc (suc (suc count))))))))) Violated (states.world_of (run 8)) (states.found_in (run 8)) (stopped_later (suc (suc (suc (suc (suc (suc (suc (suc count)))))))) (omega arith))
 
-  loads_from : (s : Standing) (found : List Violation) → run 6 ≡ running s found → slice_get (instructions_of program s.block) s.at ≡ Some (does 33 (op.Load 1 1 int_scalar)) → s.temps 1 ≡ Some (pointer (into 0 0 0 4)) → Loads program 6
+  loads_from : (s : ProgramState) (found : List Violation) → run 6 ≡ running s found → slice_get (instructions_of program s.block) s.at ≡ Some (does 33 (op.Load 1 1 int_scalar)) → s.temps 1 ≡ Some (pointer (into 0 0 0 4)) → Loads program 6
   loads_from s found is load through = record { standing = s; found = found; is = is; load = load; through = through }
 
   loads : Loads program 6

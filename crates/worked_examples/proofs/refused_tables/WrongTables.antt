@@ -37,7 +37,7 @@ use Rattle.store_sound.specs.Concretization.Places.{IsLeafPlace, IsPlaceOf, Owne
 use Rattle.memory_model.specs.Memory.Scalars.{pointer}
 use Rattle.memory_model.specs.Memory.Tags.{tag_of}
 use Rattle.memory_model.specs.Effects.ScalarBytes.{refilled}
-use Rattle.semantics.specs.CfgMachine.FlowStates.{Standing}
+use Rattle.semantics.specs.CfgMachine.FlowStates.{ProgramState}
 use Rattle.store_sound.specs.Concretization.Matching.{Matched, Holds, number_in}
 use Rattle.store_sound.specs.Concretization.RowMeaning.{IsLiveOf, InGammaLeaf, InGammaClass}
 use Rattle.store_sound.specs.Concretization.SeenLabels.{as_set}
@@ -95,7 +95,7 @@ abbrev silent_join : Option (List (Cell Interval)) → Option (List (Cell Interv
 silent_join None y = None
 silent_join (Some x) y = y
 
-abbrev at_start : Standing
+abbrev at_start : ProgramState
 at_start = record { block = 0; at = 0; temps = λ t. None; bases = λ b. None; world = record { memory = []; draws = []; violated = [] } }
 
 nothing : {X : Type 0} (x : X) → None ≡ Some x → ⊥
@@ -141,7 +141,7 @@ stands_at_start flow m e w = record {
 }
 
 silent_branch : (flow : Flow) → flow.model ≡ lp64 → flow.bases.items ≡ [] → flow.width ≡ 0
-    → ((x y : Option (List (Cell Interval))) (s : Standing) → InGammaAfter interval_lattice interval_numbers Stands flow y s → InGammaAfter interval_lattice interval_numbers Stands flow (silent_join x y) s) → ⊥
+    → ((x y : Option (List (Cell Interval))) (s : ProgramState) → InGammaAfter interval_lattice interval_numbers Stands flow y s → InGammaAfter interval_lattice interval_numbers Stands flow (silent_join x y) s) → ⊥
 silent_branch flow m e w h = let r = h None (Some []) at_start (stands_at_start flow m e w) in let a : None ≡ Some r.row = r.is in cc
 
 -- ---- one base a call site with a strong store: what is written into one instance is not in the other

@@ -17,7 +17,7 @@ use Rattle.cfg.specs.declared.machine_instructions.Scalar.TheVariants as scalar
 use Rattle.cfg.specs.declared.programs.Flow.{Flow}
 use Rattle.lower_templates.specs.Views.ProgramViews.{FlowView, flow_view}
 use Rattle.semantics.specs.CfgMachine.FlowStates as states
-use Rattle.semantics.specs.CfgMachine.FlowStates.{Standing, FlowRun, running, stopped}
+use Rattle.semantics.specs.CfgMachine.FlowStates.{ProgramState, FlowRun, running, stopped}
 use Rattle.semantics.specs.CfgMachine.FlowSteps.{flow_steps}
 use Rattle.semantics.specs.CfgMachine.FlowStarts.{flow_begin}
 use Rattle.diagnose.specs.Diagnostics.AdmittedRules.{instructions_of}
@@ -25,7 +25,7 @@ use Rattle.memory_model.specs.Effects.Worlds.{Why, Violated, Violation}
 use Rattle.loop_unrolling.specs.Turns.{split}
 use Rattle.typed_lowering.specs.SingleRuns.{IsPlainOperation, IsTypedStep}
 use Rattle.unit_exact.proofs.units.EndedRuns.{stays}
-use Rattle.unit_exact.specs.Unrolled.TurnedLoops.{TakesTurns, IsSingleUpTo}
+use Rattle.unit_exact.specs.Unrolled.UnrolledLoops.{TakesTurns, IsSingleUpTo}
 use Rattle.worked_examples.specs.UnrolledUnit.WorkedLoops.{at, int, unit, division, IsLoopedOnce}
 
 none_there : {X : Type 0} (x : X) (n : ℕ) → slice_get [] n ≡ Some x → ⊥
@@ -87,7 +87,7 @@ module _ (some : Flow) where
   -- ---- instructions: none of them accesses memory or calls
 
   abbrev IsFree : Operation → Type 0
-  IsFree o = IsPlainOperation o × ((s : Standing) → IsTypedStep program o s)
+  IsFree o = IsPlainOperation o × ((s : ProgramState) → IsTypedStep program o s)
 
   abbrev AreFree : List Instruction → Type 0
   AreFree [] = Unit {0}
@@ -149,7 +149,7 @@ module _ (some : Flow) where
   takes_one count s found e = subst IsLow e (stays_low count)
 
   -- with no turn unrolled the run comes to the last copy
-  comes_late : (s : Standing) (found : List Violation) → run 0 5 ≡ running s found → s.block ≡ 5 → TakesTurns 0 program unit → ⊥
+  comes_late : (s : ProgramState) (found : List Violation) → run 0 5 ≡ running s found → s.block ≡ 5 → TakesTurns 0 program unit → ⊥
   comes_late s found e late takes = let less : s.block < 4 = takes 5 s found e in omega arith
 
   looped_single : IsSingleUpTo 1 program unit

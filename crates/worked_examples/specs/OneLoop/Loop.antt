@@ -42,11 +42,11 @@ abbrev pub test : Rel → ℕ → Test
 test rel b = record { left = side.Object 4 (scalar.Int int); rel = rel; right = side.Number (pos b); common = Some int }
 
 -- the objects of the block are left, and the run stops
-abbrev pub behind_loop : List PieceView
-behind_loop = constant 46 0 1 ∷ (address 48 1 8 ∷ (load 48 1 1 ∷ (done 47 (act.Binary 0 sign.Div 0 (Temp 1) int) ∷ (done 1 (act.Leave 7) ∷ (ends 39 act.Stop [] ∷ (done 1 (act.Leave 1) ∷ (ends 1 act.Stop [] ∷ [])))))))
+abbrev pub past_loop : List PieceView
+past_loop = constant 46 0 1 ∷ (address 48 1 8 ∷ (load 48 1 1 ∷ (done 47 (act.Binary 0 sign.Div 0 (Temp 1) int) ∷ (done 1 (act.Leave 7) ∷ (ends 39 act.Stop [] ∷ (done 1 (act.Leave 1) ∷ (ends 1 act.Stop [] ∷ [])))))))
 
 abbrev pub in_body : List PieceView
-in_body = Mark 4 ∷ (address 34 0 6 ∷ (load 34 1 0 ∷ (done 34 (act.Binary 1 sign.Add 1 One int) ∷ (store 34 0 1 ∷ (ends 1 act.Jump (record { to = 2; taken = Always } ∷ []) ∷ (Mark 5 ∷ behind_loop))))))
+in_body = Mark 4 ∷ (address 34 0 6 ∷ (load 34 1 0 ∷ (done 34 (act.Binary 1 sign.Add 1 One int) ∷ (store 34 0 1 ∷ (ends 1 act.Jump (record { to = 2; taken = Always } ∷ []) ∷ (Mark 5 ∷ past_loop))))))
 
 abbrev pub in_test : ℕ → List PieceView
 in_test b = address 30 0 5 ∷ (load 30 0 0 ∷ (constant 32 1 b ∷ (done 31 (act.Compare 0 rel.Lt 0 1)

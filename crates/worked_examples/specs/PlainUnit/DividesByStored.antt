@@ -15,7 +15,7 @@ use Rattle.cfg.specs.declared.machine_instructions.Scalar.{Scalar}
 use Rattle.cfg.specs.declared.machine_instructions.Scalar.TheVariants as scalar
 use Rattle.cfg.specs.declared.programs.Flow.{Flow}
 use Rattle.lower_templates.specs.Views.ProgramViews.{flow_view}
-use Rattle.semantics.specs.CfgMachine.FlowStates.{Standing, running}
+use Rattle.semantics.specs.CfgMachine.FlowStates.{ProgramState, running}
 use Rattle.semantics.specs.CfgMachine.FlowSteps.{flow_steps}
 use Rattle.semantics.specs.CfgMachine.FlowStarts.{flow_begin}
 use Rattle.typed_lowering.specs.PlainUnits.{is_plain_unit}
@@ -69,7 +69,7 @@ division = record { at = at 32; rule = rule.Diverr }
 
 -- behind so many steps the run loads through a pointer to the first byte of the first instance
 pub record Loads (flow : Flow) (count : ℕ) : Type 0 where
-  pub standing : Standing
+  pub standing : ProgramState
   pub found : List Violation
   pub is : flow_steps (flow_view flow) count (flow_begin unit (flow_view flow) []) ≡ running standing found
   pub load : slice_get (instructions_of flow standing.block) standing.at ≡ Some (record { place = at 33; operation = op.Load 1 1 int_scalar })

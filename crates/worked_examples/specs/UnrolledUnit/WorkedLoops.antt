@@ -14,7 +14,7 @@ use Rattle.semantics.specs.CfgMachine.FlowSteps.{flow_steps}
 use Rattle.semantics.specs.CfgMachine.FlowStarts.{flow_begin}
 use Rattle.memory_model.specs.Effects.Worlds.{Violation}
 use Rattle.transfer_system.specs.System.FlowMachines.{is_head_at}
-use Rattle.unit_exact.specs.Unrolled.TurnedLoops.{TakesTurns, IsSingleUpTo}
+use Rattle.unit_exact.specs.Unrolled.UnrolledLoops.{TakesTurns, IsSingleUpTo}
 
 abbrev pub at : ℕ → Place
 at column = record { file = 0; line = 1; col = column }

@@ -1,5 +1,5 @@
 use Rattle.std.proofs.Common.{refl, sym, subst}
-use Rattle.cli_units.specs.Judging.{IsTurned}
+use Rattle.cli_units.specs.Judging.{IsUnrolled}
 use Rattle.cli_units.proofs.unit_answers.judge_unit.Goals as goal
 
 pub returns-in-None-clause-judged : goal.returns-in-None-clause-judged
@@ -15,7 +15,7 @@ returns-in-None-clause-judged c = record {
   lowered = c.in_ok-flow.ensures.lowered;
   made = c.in_ok-flow.ensures.well_formed;
   analysed = c.in_ok-flow.flow;
-  turned = subst (λ t. IsTurned t c.in_ok-flow.flow c.in_ok-flow.flow) (sym c.in-None.is) refl;
+  turned = subst (λ t. IsUnrolled t c.in_ok-flow.flow c.in_ok-flow.flow) (sym c.in-None.is) refl;
   well_formed = c.in_ok-flow.ensures.well_formed;
   found = c.in_ok-judge_program-in-None.ensures.found;
   bases = c.in_ok-judge_program-in-None.ensures.bases;

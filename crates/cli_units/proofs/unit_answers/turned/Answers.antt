@@ -1,10 +1,10 @@
 use Rattle.std.proofs.Common.{subst, sym}
-use Rattle.cli_units.specs.Judging.{setting_view, IsTurned, StopsUnit}
+use Rattle.cli_units.specs.Judging.{setting_view, IsUnrolled, StopsUnit}
 use Rattle.cli_units.proofs.Staging.{turning_stops}
 use Rattle.cli_units.proofs.unit_answers.turned.Goals as goal
 
 pub returns-in-Ok-clause-turned : goal.returns-in-Ok-clause-turned
-returns-in-Ok-clause-turned c = subst (λ t. IsTurned t c.args.flow.now c.in-Ok.made) (sym c.requires.turns) c.in-Ok.ensures.split
+returns-in-Ok-clause-turned c = subst (λ t. IsUnrolled t c.args.flow.now c.in-Ok.made) (sym c.requires.turns) c.in-Ok.ensures.split
 
 pub returns-in-Err-clause-stops : goal.returns-in-Err-clause-stops
 returns-in-Err-clause-stops c =

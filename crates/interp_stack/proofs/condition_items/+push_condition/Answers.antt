@@ -6,7 +6,7 @@ use Rattle.c_layout.specs.declared.checked_tree.checked_terms.CheckedTerm as of_
 use Rattle.c_layout.specs.declared.checked_tree.checked_terms.TermForm as of_form
 use Rattle.lower_templates.specs.Worklist.TermKinds.{term_form}
 use Rattle.semantics.specs.SourceMachine.ConditionItems.{condition}
-use Rattle.interp_stack.specs.Standings.{Standing, with_items, picked, standing}
+use Rattle.interp_stack.specs.StackViews.{StackView, with_items, picked, standing}
 use Rattle.interp_stack.proofs.Conditions.{is_leaf, leaf_stacks, logical_is}
 use Rattle.interp_stack.proofs.Sequels.{goes_on}
 use Rattle.interp_stack.proofs.condition_items.+push_condition.Goals as goal
@@ -135,8 +135,8 @@ pub returns-in_ok-push_item-in-Not : goal.returns-in_ok-push_item-in-Not
 returns-in_ok-push_item-in-Not t c = λ u.
     let s = standing u c.args.control.now.items in
     let inner = term_tree c.deref.result.now in
-    let next : Standing → Standing = λ s. with_items (condition u c.args.is_test inner s.yes s.no) s in
-    let whole : TermTree → Standing = λ e. with_items (condition u c.args.is_test e s.yes s.no) s in
+    let next : StackView → StackView = λ s. with_items (condition u c.args.is_test inner s.yes s.no) s in
+    let whole : TermTree → StackView = λ e. with_items (condition u c.args.is_test e s.yes s.no) s in
     let is : term_tree c.args.term.now ≡ Typed c.args.term.now.place (view c.args.term.now.ctype) c.args.term.now.parens c.args.term.now.constant (tree.Not inner) = search (rules, of_term.the_lemmas, of_form.the_lemmas) in
     goes_on c.push_condition.result (standing u c.push_condition.new.control.items) (next (standing u c.push_item.new.control.items)) (whole (term_tree c.args.term.now))
     (ap next (c.in_ok-push_item-in-Not.ensures u) ∙ ap whole (sym is)) (c.push_condition.ensures u)
@@ -146,8 +146,8 @@ returns-in_ok-push_logical-in-Logical t c = λ u.
     let s = standing u c.args.control.now.items in
     let left = term_tree c.deref-in-Logical-2.result.now in
     let right = term_tree c.deref-in-Logical.result.now in
-    let next : Standing → Standing = λ s. with_items (condition u c.args.is_test left s.yes s.no) s in
-    let whole : TermTree → Standing = λ e. with_items (condition u c.args.is_test e s.yes s.no) s in
+    let next : StackView → StackView = λ s. with_items (condition u c.args.is_test left s.yes s.no) s in
+    let whole : TermTree → StackView = λ e. with_items (condition u c.args.is_test e s.yes s.no) s in
     let is : term_tree c.args.term.now ≡ Typed c.args.term.now.place (view c.args.term.now.ctype) c.args.term.now.parens c.args.term.now.constant (tree.Logical c.in-Logical.op left right) = search (rules, of_term.the_lemmas, of_form.the_lemmas) in
     goes_on c.push_condition-in-Logical.result (standing u c.push_condition-in-Logical.new.control.items) (next (standing u c.push_logical.new.control.items)) (whole (term_tree c.args.term.now))
     (ap next (c.in_ok-push_logical-in-Logical.ensures u) ∙ logical_is u c.in-Logical.op c.args.is_test c.args.term.now.place (view c.args.term.now.ctype) c.args.term.now.parens c.args.term.now.constant left right s ∙ ap whole (sym is)) (c.push_condition-in-Logical.ensures u)
@@ -156,8 +156,8 @@ pub returns-in_ok-push_item-in-Conditional : goal.returns-in_ok-push_item-in-Con
 returns-in_ok-push_item-in-Conditional t c = λ u.
     let s = standing u c.args.control.now.items in
     let test = term_tree c.deref-in-Conditional.result.now in
-    let next : Standing → Standing = λ s. with_items (condition u true test s.yes s.no) s in
-    let whole : TermTree → Standing = λ e. with_items (condition u c.args.is_test e s.yes s.no) s in
+    let next : StackView → StackView = λ s. with_items (condition u true test s.yes s.no) s in
+    let whole : TermTree → StackView = λ e. with_items (condition u c.args.is_test e s.yes s.no) s in
     let is : term_tree c.args.term.now ≡ Typed c.args.term.now.place (view c.args.term.now.ctype) c.args.term.now.parens c.args.term.now.constant (tree.Conditional test (term_tree c.in-Conditional.field-1.value) (term_tree c.in-Conditional.field-2.value)) = search (rules, of_term.the_lemmas, of_form.the_lemmas) in
     goes_on c.push_condition-in-Conditional.result (standing u c.push_condition-in-Conditional.new.control.items) (next (standing u c.push_item-in-Conditional.new.control.items)) (whole (term_tree c.args.term.now))
     (ap next (c.in_ok-push_item-in-Conditional.ensures u) ∙ ap (λ e. next (picked u (term_form e) s)) is ∙ ap whole (sym is)) (c.push_condition-in-Conditional.ensures u)

@@ -1,6 +1,6 @@
 use Rattle.std.proofs.Common.{ap, sym}
 use Rattle.c_layout.specs.CheckedTrees.{term_tree}
-use Rattle.interp_stack.specs.Standings.{on_logical, on_term, standing}
+use Rattle.interp_stack.specs.StackViews.{on_logical, on_term, standing}
 use Rattle.interp_stack.specs.declared.items.Use7.TheVariants as use_of
 use Rattle.interp_stack.proofs.Sequels.{goes_on}
 use Rattle.interp_stack.proofs.condition_items.push_logical.Goals as goal

@@ -1,6 +1,6 @@
 use Rattle.std.proofs.Common.{◌≡◌, [], ◌∷◌, ◌++◌, ◌+◌, length, Option, None, MatchOption, vec_len, subst, ap, sym, ◌∙◌, arith}
-use Rattle.semantics.specs.SourceMachine.Scopes.{behind_loop}
-use Rattle.interp_stack.specs.Standings.{standing}
+use Rattle.semantics.specs.SourceMachine.Scopes.{past_loop}
+use Rattle.interp_stack.specs.StackViews.{standing}
 use Rattle.interp_stack.specs.declared.items.Item7.{Item7}
 use Rattle.interp_stack.specs.declared.items.Item7.TheVariants as held
 use Rattle.interp_stack.proofs.Entries.{entry_loop}
@@ -11,12 +11,12 @@ use Rattle.interp_stack.proofs.scopes.drop_loop.Goals as goal
 pub returns-in-LoopEnd : goal.returns-in-LoopEnd
 returns-in-LoopEnd c = λ u.
     let is : c.loop-item.control.items ≡ c.pop.new.self.items ++ held.LoopEnd ∷ [] = c.in-Some.ensures.items ∙ ap (λ i. c.pop.new.self.items ++ i ∷ []) c.in-LoopEnd.is in
-    sym (ap (λ s. behind_loop s.items) (stacked u c.pop.new.self.items c.loop-item.control.items held.LoopEnd is)) ∙ c.loop-item.invariant u
+    sym (ap (λ s. past_loop s.items) (stacked u c.pop.new.self.items c.loop-item.control.items held.LoopEnd is)) ∙ c.loop-item.invariant u
 
 pub loop-item-preserved : goal.loop-item-preserved
 loop-item-preserved c = λ u.
     sym (entry_loop u c.in-Some.item (standing u c.pop.new.self.items) c.in_default-item.not-LoopEnd)
-    ∙ sym (ap (λ s. behind_loop s.items) (stacked u c.pop.new.self.items c.loop-item.control.items c.in-Some.item c.in-Some.ensures.items))
+    ∙ sym (ap (λ s. past_loop s.items) (stacked u c.pop.new.self.items c.loop-item.control.items c.in-Some.item c.in-Some.ensures.items))
     ∙ c.loop-item.invariant u
 
 pub returns : goal.returns
@@ -28,5 +28,5 @@ returns c = λ u.
     let before : length c.loop-item.control.items ≡ 0 = omega arith in
     ap (λ xs. (standing u xs).items) (no_items c.pop.new.self.items now)
     ∙ ap (λ s. s.items) (standing_none u)
-    ∙ sym (ap (λ xs. behind_loop (standing u xs).items) (no_items c.loop-item.control.items before) ∙ ap (λ s. behind_loop s.items) (standing_none u))
+    ∙ sym (ap (λ xs. past_loop (standing u xs).items) (no_items c.loop-item.control.items before) ∙ ap (λ s. past_loop s.items) (standing_none u))
     ∙ c.loop-item.invariant u

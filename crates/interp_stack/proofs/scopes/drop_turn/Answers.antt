@@ -1,6 +1,6 @@
 use Rattle.std.proofs.Common.{◌≡◌, [], ◌∷◌, ◌++◌, ◌+◌, length, Option, None, MatchOption, vec_len, subst, ap, sym, ◌∙◌, arith}
-use Rattle.semantics.specs.SourceMachine.Scopes.{behind_turn}
-use Rattle.interp_stack.specs.Standings.{standing}
+use Rattle.semantics.specs.SourceMachine.Scopes.{past_iteration}
+use Rattle.interp_stack.specs.StackViews.{standing}
 use Rattle.interp_stack.specs.declared.items.Item7.{Item7}
 use Rattle.interp_stack.specs.declared.items.Item7.TheVariants as held
 use Rattle.interp_stack.proofs.Entries.{entry_turn}
@@ -8,15 +8,15 @@ use Rattle.interp_stack.proofs.Objects.{no_items, no_item}
 use Rattle.interp_stack.proofs.Stacks.{stacked, standing_none}
 use Rattle.interp_stack.proofs.scopes.drop_turn.Goals as goal
 
-pub returns-in-TurnEnd : goal.returns-in-TurnEnd
-returns-in-TurnEnd c = λ u.
-    let is : c.loop-item.control.items ≡ c.pop.new.self.items ++ held.TurnEnd ∷ [] = c.in-Some.ensures.items ∙ ap (λ i. c.pop.new.self.items ++ i ∷ []) c.in-TurnEnd.is in
-    sym (ap (λ s. behind_turn s.items) (stacked u c.pop.new.self.items c.loop-item.control.items held.TurnEnd is)) ∙ c.loop-item.invariant u
+pub returns-in-IterationEnd : goal.returns-in-IterationEnd
+returns-in-IterationEnd c = λ u.
+    let is : c.loop-item.control.items ≡ c.pop.new.self.items ++ held.IterationEnd ∷ [] = c.in-Some.ensures.items ∙ ap (λ i. c.pop.new.self.items ++ i ∷ []) c.in-IterationEnd.is in
+    sym (ap (λ s. past_iteration s.items) (stacked u c.pop.new.self.items c.loop-item.control.items held.IterationEnd is)) ∙ c.loop-item.invariant u
 
 pub loop-item-preserved : goal.loop-item-preserved
 loop-item-preserved c = λ u.
-    sym (entry_turn u c.in-Some.item (standing u c.pop.new.self.items) c.in_default-item.not-TurnEnd)
-    ∙ sym (ap (λ s. behind_turn s.items) (stacked u c.pop.new.self.items c.loop-item.control.items c.in-Some.item c.in-Some.ensures.items))
+    sym (entry_turn u c.in-Some.item (standing u c.pop.new.self.items) c.in_default-item.not-IterationEnd)
+    ∙ sym (ap (λ s. past_iteration s.items) (stacked u c.pop.new.self.items c.loop-item.control.items c.in-Some.item c.in-Some.ensures.items))
     ∙ c.loop-item.invariant u
 
 pub returns : goal.returns
@@ -28,5 +28,5 @@ returns c = λ u.
     let before : length c.loop-item.control.items ≡ 0 = omega arith in
     ap (λ xs. (standing u xs).items) (no_items c.pop.new.self.items now)
     ∙ ap (λ s. s.items) (standing_none u)
-    ∙ sym (ap (λ xs. behind_turn (standing u xs).items) (no_items c.loop-item.control.items before) ∙ ap (λ s. behind_turn s.items) (standing_none u))
+    ∙ sym (ap (λ xs. past_iteration (standing u xs).items) (no_items c.loop-item.control.items before) ∙ ap (λ s. past_iteration s.items) (standing_none u))
     ∙ c.loop-item.invariant u

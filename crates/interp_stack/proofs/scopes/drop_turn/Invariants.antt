@@ -1,11 +1,11 @@
 use Rattle.std.proofs.Common.{◌≡◌, vec_len}
 use Rattle.c_layout.specs.CheckedUnits.{UnitView}
 use Rattle.semantics.specs.SourceMachine.Scopes as machine
-use Rattle.interp_stack.specs.Standings.{standing}
+use Rattle.interp_stack.specs.StackViews.{standing}
 use Rattle.interp_stack.proofs.scopes.drop_turn.Given as goal
 
 abbrev pub invariant-loop-item : goal.invariant-loop-item
-invariant-loop-item l = (u : UnitView) → machine.behind_turn (standing u l.control.items).items ≡ machine.behind_turn (standing u l.initial.control.items).items
+invariant-loop-item l = (u : UnitView) → machine.past_iteration (standing u l.control.items).items ≡ machine.past_iteration (standing u l.initial.control.items).items
 
 abbrev pub decreases-loop-item : goal.decreases-loop-item
 decreases-loop-item l = vec_len l.control

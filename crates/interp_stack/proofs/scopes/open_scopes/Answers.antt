@@ -2,7 +2,7 @@ use Rattle.std.proofs.Common.{◌≡◌, ◌+◌, [], ◌∷◌, ◌++◌, take,
 use Rattle.std.proofs.lemmas.List.{take_more, take_all}
 use Rattle.semantics.specs.SourceMachine.Scopes as machine
 use Rattle.interp_stack.specs.Scans.{scopes_view, Scans}
-use Rattle.interp_stack.specs.Standings.{Standing, standing}
+use Rattle.interp_stack.specs.StackViews.{StackView, standing}
 use Rattle.interp_stack.proofs.Objects.{view-reverse}
 use Rattle.interp_stack.proofs.Stacks.{stacked, standing_none}
 use Rattle.interp_stack.proofs.scopes.open_scopes.Goals as goal
@@ -19,7 +19,7 @@ loop-item-preserved c = λ u.
     let k = c.loop-item.item-index in
     let item = c.item-item.result in
     let more : take (k + 1) control ≡ take k control ++ item ∷ [] = take_more control k item c.loop-item-test.true ∙ ap (λ i. take k control ++ i ∷ []) (sym c.item-item.is) in
-    let family : Standing → Type 0 = λ s. Scans c.add_scope.new.scopes.items c.add_scope.new.below.items s in
+    let family : StackView → Type 0 = λ s. Scans c.add_scope.new.scopes.items c.add_scope.new.below.items s in
     subst family (sym (stacked u (take k control) (take (k + 1) control) item more)) (c.in_ok-add_scope.ensures u (standing u (take k control)) (c.loop-item.invariant u))
 
 pub returns : goal.returns

@@ -1,7 +1,7 @@
 use Rattle.std.proofs.Common.{take}
 use Rattle.c_layout.specs.CheckedUnits.{UnitView}
 use Rattle.interp_stack.specs.Scans.{Scans}
-use Rattle.interp_stack.specs.Standings.{standing}
+use Rattle.interp_stack.specs.StackViews.{standing}
 use Rattle.interp_stack.proofs.scopes.open_scopes.Given as goal
 
 abbrev pub invariant-loop-item : goal.invariant-loop-item

@@ -1,6 +1,6 @@
 use Rattle.std.proofs.Common.{◌≡◌, ◌≤◌, ◌++◌, length, drop}
 use Rattle.c_layout.specs.CheckedUnits.{UnitView}
-use Rattle.interp_stack.specs.Standings.{standing}
+use Rattle.interp_stack.specs.StackViews.{standing}
 use Rattle.interp_stack.proofs.scopes.push_objects.Given as goal
 
 abbrev pub invariant-back : goal.invariant-back

@@ -2,7 +2,7 @@ use Rattle.std.proofs.Common.{[], ◌∷◌, ap, sym}
 use Rattle.c_layout.specs.CheckedTrees.{lvalue_tree}
 use Rattle.semantics.specs.SourceMachine.Operations as op
 use Rattle.semantics.specs.SourceMachine.Items as machine
-use Rattle.interp_stack.specs.Standings.{with_items, standing}
+use Rattle.interp_stack.specs.StackViews.{with_items, standing}
 use Rattle.interp_stack.proofs.Trees.{type_of_lvalue}
 use Rattle.interp_stack.proofs.store_items.push_copy.Goals as goal
 

@@ -3,7 +3,7 @@ use Rattle.c_layout.specs.CheckedTrees.{term_tree}
 use Rattle.lower_templates.specs.Worklist.TermKinds.{scalar_of}
 use Rattle.semantics.specs.SourceMachine.Operations as op
 use Rattle.semantics.specs.SourceMachine.Items as machine
-use Rattle.interp_stack.specs.Standings.{with_items, standing}
+use Rattle.interp_stack.specs.StackViews.{with_items, standing}
 use Rattle.interp_stack.proofs.Trees.{type_of_term}
 use Rattle.interp_stack.proofs.store_items.push_store.Goals as goal
 

@@ -1,5 +1,5 @@
 use Rattle.std.proofs.Common.{arith, MatchOption, vec_len, length, ◌+◌, ◌≡◌, Bool, Option, None, refl, ap, sym, subst, ◌∙◌}
-use Rattle.interp_stack.specs.Standings.{nothing_left, on_item, standing}
+use Rattle.interp_stack.specs.StackViews.{nothing_left, on_item, standing}
 use Rattle.interp_stack.specs.declared.items.Item7.{Item7}
 use Rattle.interp_stack.proofs.Stacks.{stacked, standing_none}
 use Rattle.interp_stack.proofs.Objects.{no_items, no_item}

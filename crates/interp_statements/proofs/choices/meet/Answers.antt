@@ -2,7 +2,7 @@ use Rattle.std.proofs.Common.{[], List, ap, sym}
 use Rattle.c_layout.specs.CheckedTrees.{term_tree, statement_tree}
 use Rattle.semantics.specs.SourceMachine.Items.{Item}
 use Rattle.semantics.specs.SourceMachine.ConditionItems.{truth_of}
-use Rattle.interp_stack.specs.Standings.{following, on_item, on_term, on_statement, standing}
+use Rattle.interp_stack.specs.StackViews.{following, on_item, on_term, on_statement, standing}
 use Rattle.interp_stack.specs.declared.items.Item7.{Item7}
 use Rattle.interp_statements.specs.Choices.{followed}
 use Rattle.interp_statements.proofs.Ends.{met_item, stays_item, met_as, met_alone}

@@ -5,7 +5,7 @@ use Rattle.c_layout.specs.CheckedTrees.{TermTree, Typed, term_tree}
 use Rattle.c_layout.specs.declared.checked_tree.checked_terms.CheckedTerm as of_term
 use Rattle.c_layout.specs.declared.checked_tree.checked_terms.TermForm as of_form
 use Rattle.semantics.specs.SourceMachine.Items.{Item}
-use Rattle.interp_stack.specs.Standings.{on_term, standing}
+use Rattle.interp_stack.specs.StackViews.{on_term, standing}
 use Rattle.interp_stack.specs.declared.items.Use7.TheVariants as use_of
 use Rattle.interp_statements.specs.Choices.{followed}
 use Rattle.interp_statements.proofs.Ends.{met_as}

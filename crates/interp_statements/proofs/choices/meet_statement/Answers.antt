@@ -2,7 +2,7 @@ use Rattle.std.proofs.Common.{◌≡◌, [], List, refl, ap, sym, subst}
 use Rattle.c_layout.specs.CheckedTrees.{statement_tree}
 use Rattle.semantics.specs.SourceMachine.Items.{Item}
 use Rattle.interp_stack.specs.ItemViews.{next_items}
-use Rattle.interp_stack.specs.Standings.{following, on_statement, standing}
+use Rattle.interp_stack.specs.StackViews.{following, on_statement, standing}
 use Rattle.interp_stack.specs.declared.items.Way7.{Way7}
 use Rattle.interp_statements.specs.Choices.{followed}
 use Rattle.interp_statements.proofs.Ends.{met_item, stays_item, met_as}

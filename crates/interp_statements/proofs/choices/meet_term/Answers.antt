@@ -2,7 +2,7 @@ use Rattle.std.proofs.Common.{◌≡◌, [], List, refl, ap, sym, subst}
 use Rattle.c_layout.specs.CheckedTrees.{term_tree}
 use Rattle.semantics.specs.SourceMachine.Items.{Item}
 use Rattle.interp_stack.specs.ItemViews.{arm_items}
-use Rattle.interp_stack.specs.Standings.{following, on_term, standing}
+use Rattle.interp_stack.specs.StackViews.{following, on_term, standing}
 use Rattle.interp_stack.specs.declared.items.Use7.{Use7}
 use Rattle.interp_stack.specs.declared.items.Use7.TheVariants as use_of
 use Rattle.interp_statements.specs.Choices.{followed}

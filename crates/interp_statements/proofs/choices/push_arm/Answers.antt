@@ -2,7 +2,7 @@ use Rattle.std.proofs.Common.{◌+◌, [], ◌∷◌, ◌++◌, ap, sym}
 use Rattle.c_layout.specs.CheckedTrees.{term_tree}
 use Rattle.semantics.specs.SourceMachine.Items as machine
 use Rattle.semantics.specs.SourceMachine.ConditionItems.{arm}
-use Rattle.interp_stack.specs.Standings.{with_item, standing}
+use Rattle.interp_stack.specs.StackViews.{with_item, standing}
 use Rattle.interp_stack.proofs.Sequels.{items_go_on}
 use Rattle.interp_statements.proofs.choices.push_arm.Goals as goal
 

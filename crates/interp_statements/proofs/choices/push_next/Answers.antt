@@ -3,7 +3,7 @@ use Rattle.c_layout.specs.CheckedTrees.{statement_tree}
 use Rattle.semantics.specs.SourceMachine.Items as machine
 use Rattle.semantics.specs.SourceMachine.Items.{Item}
 use Rattle.interp_stack.specs.ItemViews.{next_items}
-use Rattle.interp_stack.specs.Standings.{with_item, standing}
+use Rattle.interp_stack.specs.StackViews.{with_item, standing}
 use Rattle.interp_stack.specs.declared.items.Next7.{Next7}
 use Rattle.interp_stack.proofs.Sequels.{items_go_on}
 use Rattle.interp_statements.proofs.choices.push_next.Goals as goal

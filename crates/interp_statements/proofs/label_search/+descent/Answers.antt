@@ -8,7 +8,7 @@ use Rattle.semantics.specs.SourceMachine.Items as machine
 use Rattle.semantics.specs.SourceMachine.Items.{Item}
 use Rattle.semantics.specs.SourceMachine.StatementItems.{list_statements}
 use Rattle.semantics.specs.SourceMachine.LabelSearch.{found, found_among, here_or, inside_switch}
-use Rattle.interp_stack.specs.Standings.{with_item, standing}
+use Rattle.interp_stack.specs.StackViews.{with_item, standing}
 use Rattle.interp_stack.specs.declared.items.Item7.{Item7}
 use Rattle.interp_stack.specs.ItemViews.{loop_item, turn_items}
 use Rattle.semantics.specs.SourceMachine.StatementItems as spec
@@ -157,7 +157,7 @@ find-returns-in_ok-push_while_turn-in-While t c = λ u.
     let seen = tree.While (term_tree c.in-While.field-0) (statement_tree c.deref-in-While.result.now) in
     let is : statement_tree c.args.statement.now ≡ seen = search (rules, of_statement.the_lemmas) in
     let next : List Item → Option (List Item) = λ rest. found u l (statement_tree c.deref-in-While.result.now) rest in
-    let added : StatementTree → List Item = λ x. machine.Hop ∷ (machine.TurnEnd ∷ (loop_item x ∷ [])) in
+    let added : StatementTree → List Item = λ x. machine.Hop ∷ (machine.IterationEnd ∷ (loop_item x ∷ [])) in
     finds_as c.find-in-While.result (next (standing u c.push_while_turn.new.control.items).items) (whole (statement_tree c.args.statement.now)) (standing u c.find-in-While.new.control.items).items (ap next (c.in_ok-push_while_turn-in-While.ensures u)
     ∙ ap (λ t. next (added (statement_tree c.args.statement.now) ++ t.items)) (c.in_ok-push_item-in-While.ensures u)
     ∙ ap (λ x. next (added x ++ machine.LoopEnd ∷ s.items)) is
@@ -172,7 +172,7 @@ find-returns-in_ok-push_do_test-in-Do t c = λ u.
     let seen = tree.Do (statement_tree c.deref-in-Do.result.now) (term_tree c.in-Do.condition) in
     let is : statement_tree c.args.statement.now ≡ seen = search (rules, of_statement.the_lemmas) in
     let next : List Item → Option (List Item) = λ rest. found u l (statement_tree c.deref-in-Do.result.now) rest in
-    let added : StatementTree → List Item = λ x. machine.TurnEnd ∷ condition u true (term_tree c.in-Do.condition) (turn_items x) [] in
+    let added : StatementTree → List Item = λ x. machine.IterationEnd ∷ condition u true (term_tree c.in-Do.condition) (turn_items x) [] in
     finds_as c.find-in-Do.result (next (standing u c.push_do_test.new.control.items).items) (whole (statement_tree c.args.statement.now)) (standing u c.find-in-Do.new.control.items).items (ap next (c.in_ok-push_do_test-in-Do.ensures u)
     ∙ ap (λ t. next (added (statement_tree c.args.statement.now) ++ t.items)) (c.in_ok-push_item-in-Do.ensures u)
     ∙ ap (λ x. next (added x ++ machine.LoopEnd ∷ s.items)) is
@@ -187,7 +187,7 @@ find-returns-in_ok-push_for_step-in-For t c = λ u.
     let seen = tree.For c.in-For.objects.items (statement_trees (map statement_tree c.in-For.field-1.items)) (option_map term_tree c.in-For.field-2) (option_map term_tree c.in-For.step) (statement_tree c.deref-in-For.result.now) in
     let is : statement_tree c.args.statement.now ≡ seen = search (rules, of_statement.the_lemmas) in
     let next : List Item → Option (List Item) = λ rest. found u l (statement_tree c.deref-in-For.result.now) rest in
-    let added : StatementTree → List Item = λ x. machine.TurnEnd ∷ (spec.clause (option_map term_tree c.in-For.step) ++ (machine.Hop ∷ (loop_item x ∷ []))) in
+    let added : StatementTree → List Item = λ x. machine.IterationEnd ∷ (spec.clause (option_map term_tree c.in-For.step) ++ (machine.Hop ∷ (loop_item x ∷ []))) in
     finds_as c.find-in-For.result (next (standing u c.push_for_step.new.control.items).items) (whole (statement_tree c.args.statement.now)) (standing u c.find-in-For.new.control.items).items (ap next (c.in_ok-push_for_step-in-For.ensures u)
     ∙ ap (λ t. next (added (statement_tree c.args.statement.now) ++ t.items)) (c.in_ok-push_item-in-For-2.ensures u)
     ∙ ap (λ t. next (added (statement_tree c.args.statement.now) ++ machine.LoopEnd ∷ t.items)) (c.in_ok-push_item-in-For.ensures u)

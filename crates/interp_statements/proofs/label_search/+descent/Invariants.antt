@@ -2,7 +2,7 @@ use Rattle.std.proofs.Common.{◌≡◌, map, drop}
 use Rattle.c_layout.specs.CheckedTrees.{statement_tree}
 use Rattle.c_layout.specs.CheckedUnits.{UnitView}
 use Rattle.semantics.specs.SourceMachine.LabelSearch as search
-use Rattle.interp_stack.specs.Standings.{standing}
+use Rattle.interp_stack.specs.StackViews.{standing}
 use Rattle.interp_statements.specs.LabelViews.{sought_view}
 use Rattle.interp_statements.proofs.label_search.+descent.Given as goal
 

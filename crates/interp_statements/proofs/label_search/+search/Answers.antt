@@ -128,7 +128,7 @@ is_in-returns-in-While t c = λ u rest.
     let whole : StatementTree → Bool = λ x. is_some (found u l x rest) in
     let seen = tree.While (term_tree c.in-While.field-0) (statement_tree c.deref-in-While.result.now) in
     let is : statement_tree c.args.statement.now ≡ seen = search (rules, of_statement.the_lemmas) in
-    c.is_in-in-While.ensures u (machine.Hop ∷ (machine.TurnEnd ∷ (machine.WhileTurn (term_tree c.in-While.field-0) (statement_tree c.deref-in-While.result.now) ∷ (machine.LoopEnd ∷ rest)))) ∙ ap whole (sym is)
+    c.is_in-in-While.ensures u (machine.Hop ∷ (machine.IterationEnd ∷ (machine.WhileIteration (term_tree c.in-While.field-0) (statement_tree c.deref-in-While.result.now) ∷ (machine.LoopEnd ∷ rest)))) ∙ ap whole (sym is)
 
 pub is_in-returns-in-Do : goal.is_in-returns-in-Do
 unfolding found

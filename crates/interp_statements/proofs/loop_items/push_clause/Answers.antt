@@ -5,7 +5,7 @@ use Rattle.c_layout.specs.declared.checked_tree.checked_terms.CheckedTerm.{Check
 use Rattle.semantics.specs.SourceMachine.Items as machine
 use Rattle.semantics.specs.SourceMachine.Items.{Item}
 use Rattle.semantics.specs.SourceMachine.StatementItems as spec
-use Rattle.interp_stack.specs.Standings.{with_item, standing}
+use Rattle.interp_stack.specs.StackViews.{with_item, standing}
 use Rattle.interp_stack.proofs.Sequels.{items_go_on}
 use Rattle.interp_statements.proofs.loop_items.push_clause.Goals as goal
 

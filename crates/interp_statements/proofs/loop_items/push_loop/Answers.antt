@@ -8,7 +8,7 @@ use Rattle.semantics.specs.SourceMachine.Items.{Item}
 use Rattle.semantics.specs.SourceMachine.ConditionItems.{condition}
 use Rattle.semantics.specs.SourceMachine.StatementItems as spec
 use Rattle.interp_stack.specs.ItemViews.{loop_item, turn_items, loop_turn}
-use Rattle.interp_stack.specs.Standings.{standing}
+use Rattle.interp_stack.specs.StackViews.{standing}
 use Rattle.interp_stack.proofs.Sequels.{goes_on}
 use Rattle.interp_statements.proofs.loop_items.push_loop.Goals as goal
 
@@ -27,7 +27,7 @@ returns-in-Do c = λ u.
     let whole : StatementTree → List Item = λ x. loop_turn u x ++ s.items in
     let seen = tree.Do (statement_tree c.deref.result.now) (term_tree c.in-Do.condition) in
     let is : statement_tree c.args.statement.now ≡ seen = search (rules, of_statement.the_lemmas) in
-    let pushed : StatementTree → List Item = λ x. (machine.Statement (statement_tree c.deref.result.now) ∷ (machine.TurnEnd ∷ condition u true (term_tree c.in-Do.condition) (turn_items x) [])) ++ s.items in
+    let pushed : StatementTree → List Item = λ x. (machine.Statement (statement_tree c.deref.result.now) ∷ (machine.IterationEnd ∷ condition u true (term_tree c.in-Do.condition) (turn_items x) [])) ++ s.items in
     goes_on c.push_do_turn.result (standing u c.push_do_turn.new.control.items).items (pushed (statement_tree c.args.statement.now)) (whole (statement_tree c.args.statement.now)) (ap pushed is ∙ ap whole (sym is)) (c.push_do_turn.ensures u)
 
 pub returns-in-For-default-default-Some-default-default : goal.returns-in-For-default-default-Some-default-default
@@ -45,5 +45,5 @@ returns-in-For-default-default-None-default-default c = λ u.
     let whole : StatementTree → List Item = λ x. loop_turn u x ++ s.items in
     let seen = tree.For c.in-For-default-default-None-default-default.field-0.items (statement_trees (map statement_tree c.in-For-default-default-None-default-default.field-1.items)) None (option_map term_tree c.in-For-default-default-None-default-default.step) (statement_tree c.deref-in-For-default-default-None-default-default.result.now) in
     let is : statement_tree c.args.statement.now ≡ seen = search (rules, of_statement.the_lemmas) in
-    let pushed : StatementTree → List Item = λ x. (machine.Statement (statement_tree c.deref-in-For-default-default-None-default-default.result.now) ∷ (machine.TurnEnd ∷ (spec.clause (option_map term_tree c.in-For-default-default-None-default-default.step) ++ (machine.Hop ∷ (loop_item x ∷ []))))) ++ s.items in
+    let pushed : StatementTree → List Item = λ x. (machine.Statement (statement_tree c.deref-in-For-default-default-None-default-default.result.now) ∷ (machine.IterationEnd ∷ (spec.clause (option_map term_tree c.in-For-default-default-None-default-default.step) ++ (machine.Hop ∷ (loop_item x ∷ []))))) ++ s.items in
     goes_on c.push_for_body.result (standing u c.push_for_body.new.control.items).items (pushed (statement_tree c.args.statement.now)) (whole (statement_tree c.args.statement.now)) (ap pushed is ∙ ap whole (sym is)) (c.push_for_body.ensures u)

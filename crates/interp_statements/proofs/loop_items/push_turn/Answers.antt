@@ -7,7 +7,7 @@ use Rattle.semantics.specs.SourceMachine.Items as machine
 use Rattle.semantics.specs.SourceMachine.Items.{Item}
 use Rattle.semantics.specs.SourceMachine.StatementItems as spec
 use Rattle.interp_stack.specs.ItemViews.{loop_item, turn_items}
-use Rattle.interp_stack.specs.Standings.{with_item, standing}
+use Rattle.interp_stack.specs.StackViews.{with_item, standing}
 use Rattle.interp_stack.proofs.Sequels.{goes_on, items_go_on}
 use Rattle.interp_statements.proofs.loop_items.push_turn.Goals as goal
 
@@ -17,7 +17,7 @@ returns-in-While c = λ u.
     let whole : StatementTree → List Item = λ x. turn_items x ++ s.items in
     let seen = tree.While (term_tree c.in-While.field-0) (statement_tree c.deref.result.now) in
     let is : statement_tree c.args.statement.now ≡ seen = search (rules, of_statement.the_lemmas) in
-    let pushed : StatementTree → List Item = λ x. (machine.Statement (statement_tree c.deref.result.now) ∷ (machine.Hop ∷ (machine.TurnEnd ∷ (loop_item x ∷ [])))) ++ s.items in
+    let pushed : StatementTree → List Item = λ x. (machine.Statement (statement_tree c.deref.result.now) ∷ (machine.Hop ∷ (machine.IterationEnd ∷ (loop_item x ∷ [])))) ++ s.items in
     goes_on c.push_while_body.result (standing u c.push_while_body.new.control.items).items (pushed (statement_tree c.args.statement.now)) (whole (statement_tree c.args.statement.now)) (ap pushed is ∙ ap whole (sym is)) (c.push_while_body.ensures u)
 
 pub returns-in-Do : goal.returns-in-Do
@@ -35,5 +35,5 @@ returns-in-For c = λ u.
     let whole : StatementTree → List Item = λ x. turn_items x ++ s.items in
     let seen = tree.For c.in-For.field-0.items (statement_trees (map statement_tree c.in-For.field-1.items)) (option_map term_tree c.in-For.field-2) (option_map term_tree c.in-For.step) (statement_tree c.deref-in-For.result.now) in
     let is : statement_tree c.args.statement.now ≡ seen = search (rules, of_statement.the_lemmas) in
-    let pushed : StatementTree → List Item = λ x. (machine.Statement (statement_tree c.deref-in-For.result.now) ∷ (machine.TurnEnd ∷ (spec.clause (option_map term_tree c.in-For.step) ++ (machine.Hop ∷ (loop_item x ∷ []))))) ++ s.items in
+    let pushed : StatementTree → List Item = λ x. (machine.Statement (statement_tree c.deref-in-For.result.now) ∷ (machine.IterationEnd ∷ (spec.clause (option_map term_tree c.in-For.step) ++ (machine.Hop ∷ (loop_item x ∷ []))))) ++ s.items in
     goes_on c.push_for_body.result (standing u c.push_for_body.new.control.items).items (pushed (statement_tree c.args.statement.now)) (whole (statement_tree c.args.statement.now)) (ap pushed is ∙ ap whole (sym is)) (c.push_for_body.ensures u)

@@ -2,7 +2,7 @@ use Rattle.std.proofs.Common.{true, [], ◌∷◌, ◌++◌, refl}
 use Rattle.c_layout.specs.CheckedTrees.{term_tree, statement_tree}
 use Rattle.semantics.specs.SourceMachine.Items as machine
 use Rattle.semantics.specs.SourceMachine.ConditionItems.{condition}
-use Rattle.interp_stack.specs.Standings.{with_items, standing}
+use Rattle.interp_stack.specs.StackViews.{with_items, standing}
 use Rattle.interp_stack.proofs.Sequels.{items_go_on}
 use Rattle.interp_statements.proofs.statement_items.push_if.Goals as goal
 

@@ -5,7 +5,7 @@ use Rattle.c_layout.specs.declared.checked_tree.checked_terms.CheckedTerm.{Check
 use Rattle.semantics.specs.SourceMachine.Items as machine
 use Rattle.semantics.specs.SourceMachine.Items.{Item}
 use Rattle.semantics.specs.SourceMachine.StatementItems as spec
-use Rattle.interp_stack.specs.Standings.{standing}
+use Rattle.interp_stack.specs.StackViews.{standing}
 use Rattle.interp_stack.proofs.Sequels.{goes_on}
 use Rattle.interp_statements.proofs.statement_items.push_return.Goals as goal
 

@@ -2,7 +2,7 @@ use Rattle.std.proofs.Common.{true, false, ◌++◌, List, Bool, Some, ap, sym}
 use Rattle.c_layout.specs.CheckedTrees.{term_tree}
 use Rattle.semantics.specs.SourceMachine.Items.{Item}
 use Rattle.semantics.specs.SourceMachine.StatementItems as spec
-use Rattle.interp_stack.specs.Standings.{standing}
+use Rattle.interp_stack.specs.StackViews.{standing}
 use Rattle.interp_stack.proofs.Sequels.{goes_on}
 use Rattle.interp_statements.proofs.statement_items.push_returned.Goals as goal
 

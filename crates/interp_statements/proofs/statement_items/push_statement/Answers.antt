@@ -10,7 +10,7 @@ use Rattle.semantics.specs.SourceMachine.Items.{Item}
 use Rattle.semantics.specs.SourceMachine.StatementItems as spec
 use Rattle.semantics.specs.SourceMachine.StatementItems.{list_statements}
 use Rattle.interp_stack.specs.ItemViews.{loop_item, select_item}
-use Rattle.interp_stack.specs.Standings.{with_item, standing}
+use Rattle.interp_stack.specs.StackViews.{with_item, standing}
 use Rattle.interp_stack.proofs.Sequels.{goes_on, items_go_on}
 use Rattle.interp_statements.proofs.Labels.{same_statements}
 use Rattle.interp_statements.proofs.statement_items.push_statement.Goals as goal
@@ -173,7 +173,7 @@ returns-in-Continue c = λ u.
     let whole : StatementTree → List Item = λ x. spec.of_statement u c.args.is_entry x ++ s.items in
     let seen = tree.Continue in
     let is : statement_tree c.args.statement.now ≡ seen = search (rules, of_statement.the_lemmas) in
-    items_go_on c.push_item-in-Continue.result (standing u c.push_item-in-Continue.new.control.items) (with_item (machine.NextTurn) s) (whole (statement_tree c.args.statement.now)) (ap whole (sym is)) (c.push_item-in-Continue.ensures u)
+    items_go_on c.push_item-in-Continue.result (standing u c.push_item-in-Continue.new.control.items) (with_item (machine.NextIteration) s) (whole (statement_tree c.args.statement.now)) (ap whole (sym is)) (c.push_item-in-Continue.ensures u)
 
 pub returns-in-Return : goal.returns-in-Return
 returns-in-Return c = λ u.

@@ -1,7 +1,7 @@
 use Rattle.std.proofs.Common.{◌++◌, map, refl}
 use Rattle.c_layout.specs.CheckedTrees.{statement_tree}
 use Rattle.semantics.specs.SourceMachine.StatementItems.{list_statements}
-use Rattle.interp_stack.specs.Standings.{with_items, standing}
+use Rattle.interp_stack.specs.StackViews.{with_items, standing}
 use Rattle.interp_stack.proofs.Sequels.{items_go_on}
 use Rattle.interp_statements.proofs.statement_items.push_statements.Goals as goal
 

@@ -1,6 +1,6 @@
 use Rattle.c_layout.specs.CheckedTrees.{term_tree, lvalue_tree}
 use Rattle.semantics.specs.SourceMachine.TermItems as spec
-use Rattle.interp_stack.specs.Standings.{standing}
+use Rattle.interp_stack.specs.StackViews.{standing}
 use Rattle.interp_stack.proofs.Stacks.{dropped}
 use Rattle.interp_terms.proofs.assigned_items.push_assignment.Goals as goal
 

@@ -1,7 +1,7 @@
 use Rattle.std.proofs.Common.{◌++◌, ap, sym}
 use Rattle.semantics.specs.SourceMachine.Items as machine
 use Rattle.semantics.specs.SourceMachine.TermItems as spec
-use Rattle.interp_stack.specs.Standings.{with_item, standing}
+use Rattle.interp_stack.specs.StackViews.{with_item, standing}
 use Rattle.interp_stack.proofs.Sequels.{items_go_on}
 use Rattle.interp_terms.proofs.assigned_items.push_kept.Goals as goal
 

@@ -1,7 +1,7 @@
 use Rattle.c_layout.specs.CheckedTrees.{lvalue_tree}
 use Rattle.lower_expressions.specs.Assignments as assignments
 use Rattle.semantics.specs.SourceMachine.TermItems as spec
-use Rattle.interp_stack.specs.Standings.{standing}
+use Rattle.interp_stack.specs.StackViews.{standing}
 use Rattle.interp_stack.proofs.Stacks.{dropped}
 use Rattle.interp_terms.proofs.assigned_items.push_pointer_step.Goals as goal
 

@@ -4,7 +4,7 @@ use Rattle.lower_templates.specs.Worklist.TermKinds.{lvalue_at}
 use Rattle.semantics.specs.SourceMachine.Items as machine
 use Rattle.semantics.specs.SourceMachine.Operations as op
 use Rattle.semantics.specs.SourceMachine.TermItems as spec
-use Rattle.interp_stack.specs.Standings.{with_item, with_items, standing}
+use Rattle.interp_stack.specs.StackViews.{with_item, with_items, standing}
 use Rattle.interp_stack.proofs.Sequels.{goes_on}
 use Rattle.interp_terms.proofs.assigned_items.push_store_step.Goals as goal
 

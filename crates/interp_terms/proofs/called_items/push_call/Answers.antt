@@ -2,7 +2,7 @@ use Rattle.std.proofs.Common.{[], ◌∷◌, ◌++◌, map}
 use Rattle.c_layout.specs.CheckedTrees.{term_tree, term_trees}
 use Rattle.semantics.specs.SourceMachine.Items as machine
 use Rattle.semantics.specs.SourceMachine.TermItems as spec
-use Rattle.interp_stack.specs.Standings.{standing}
+use Rattle.interp_stack.specs.StackViews.{standing}
 use Rattle.interp_stack.proofs.Stacks.{left_dropped}
 use Rattle.interp_terms.proofs.called_items.push_call.Goals as goal
 

@@ -2,7 +2,7 @@ use Rattle.std.proofs.Common.{[], ◌∷◌, map, ap, ◌∙◌}
 use Rattle.c_layout.specs.CheckedTrees.{term_tree, term_trees}
 use Rattle.semantics.specs.SourceMachine.Items as machine
 use Rattle.semantics.specs.SourceMachine.TermItems.{arguments, argument_count}
-use Rattle.interp_stack.specs.Standings.{with_item, with_items, standing}
+use Rattle.interp_stack.specs.StackViews.{with_item, with_items, standing}
 use Rattle.interp_stack.proofs.Stacks.{with_again}
 use Rattle.interp_terms.proofs.Calls.{count_is}
 use Rattle.interp_terms.proofs.called_items.push_invoked.Goals as goal

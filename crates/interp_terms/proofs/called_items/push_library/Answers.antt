@@ -4,7 +4,7 @@ use Rattle.c_layout.specs.Types.{view}
 use Rattle.c_layout.specs.CheckedTrees.{term_tree, term_trees}
 use Rattle.lower_expressions.specs.Calls as calls
 use Rattle.semantics.specs.SourceMachine.TermItems as spec
-use Rattle.interp_stack.specs.Standings.{standing}
+use Rattle.interp_stack.specs.StackViews.{standing}
 use Rattle.interp_stack.proofs.Stacks.{left_dropped}
 use Rattle.interp_terms.proofs.called_items.push_library.Goals as goal
 

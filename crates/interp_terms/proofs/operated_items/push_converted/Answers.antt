@@ -4,7 +4,7 @@ use Rattle.cfg.specs.declared.machine_instructions.Scalar.TheVariants as of
 use Rattle.semantics.specs.SourceMachine.Items as machine
 use Rattle.semantics.specs.SourceMachine.Operations as op
 use Rattle.semantics.specs.SourceMachine.TermItems.{converted}
-use Rattle.interp_stack.specs.Standings.{with_item, standing}
+use Rattle.interp_stack.specs.StackViews.{with_item, standing}
 use Rattle.interp_stack.proofs.Sequels.{items_go_on}
 use Rattle.interp_terms.proofs.operated_items.push_converted.Goals as goal
 

@@ -3,7 +3,7 @@ use Rattle.c_layout.specs.CheckedTrees.{lvalue_tree}
 use Rattle.lower_templates.specs.Worklist.TermKinds.{lvalue_at}
 use Rattle.semantics.specs.SourceMachine.Items as machine
 use Rattle.semantics.specs.SourceMachine.Operations as op
-use Rattle.interp_stack.specs.Standings.{with_items, standing}
+use Rattle.interp_stack.specs.StackViews.{with_items, standing}
 use Rattle.interp_stack.proofs.Trees.{type_of_lvalue}
 use Rattle.interp_terms.proofs.operated_items.push_copied.Goals as goal
 

@@ -1,6 +1,6 @@
 use Rattle.std.proofs.Common.{ap, sym}
 use Rattle.semantics.specs.SourceMachine.Items as machine
-use Rattle.interp_stack.specs.Standings.{with_item, unless_used, standing}
+use Rattle.interp_stack.specs.StackViews.{with_item, unless_used, standing}
 use Rattle.interp_stack.proofs.Sequels.{goes_on}
 use Rattle.interp_terms.proofs.operated_items.push_if_unused.Goals as goal
 

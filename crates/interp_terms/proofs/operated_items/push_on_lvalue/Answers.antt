@@ -3,7 +3,7 @@ use Rattle.c_layout.specs.CheckedTrees.{lvalue_tree}
 use Rattle.lower_templates.specs.Worklist.TermKinds.{lvalue_at}
 use Rattle.semantics.specs.SourceMachine.Items as machine
 use Rattle.interp_stack.specs.ItemViews.{operation_view}
-use Rattle.interp_stack.specs.Standings.{with_item, standing}
+use Rattle.interp_stack.specs.StackViews.{with_item, standing}
 use Rattle.interp_stack.proofs.Sequels.{goes_on}
 use Rattle.interp_stack.proofs.Trees.{place_of_lvalue}
 use Rattle.interp_terms.proofs.operated_items.push_on_lvalue.Goals as goal

@@ -2,7 +2,7 @@ use Rattle.std.proofs.Common.{[], ◌∷◌}
 use Rattle.c_layout.specs.CheckedTrees.{term_tree}
 use Rattle.semantics.specs.SourceMachine.Items as machine
 use Rattle.interp_stack.specs.ItemViews.{operation_view}
-use Rattle.interp_stack.specs.Standings.{standing}
+use Rattle.interp_stack.specs.StackViews.{standing}
 use Rattle.interp_stack.proofs.Stacks.{dropped}
 use Rattle.interp_terms.proofs.operated_items.push_one.Goals as goal
 

@@ -4,7 +4,7 @@ use Rattle.c_layout.specs.CheckedUnits.{unit_view}
 use Rattle.lower_templates.specs.Worklist.TermKinds.{lvalue_at, lvalue_type}
 use Rattle.semantics.specs.SourceMachine.Items as machine
 use Rattle.semantics.specs.SourceMachine.Operations as op
-use Rattle.interp_stack.specs.Standings.{standing}
+use Rattle.interp_stack.specs.StackViews.{standing}
 use Rattle.interp_stack.proofs.Stacks.{dropped}
 use Rattle.interp_terms.proofs.term_items.push_decay.Goals as goal
 

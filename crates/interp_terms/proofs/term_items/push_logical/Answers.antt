@@ -1,7 +1,7 @@
 use Rattle.std.proofs.Common.{◌∙◌}
 use Rattle.c_layout.specs.CheckedTrees.{term_tree}
 use Rattle.semantics.specs.SourceMachine.ConditionItems as spec
-use Rattle.interp_stack.specs.Standings.{standing, unless_used}
+use Rattle.interp_stack.specs.StackViews.{standing, unless_used}
 use Rattle.interp_stack.proofs.Stacks.{dropped}
 use Rattle.interp_terms.proofs.Branches.{logical_is}
 use Rattle.interp_terms.proofs.term_items.push_logical.Goals as goal

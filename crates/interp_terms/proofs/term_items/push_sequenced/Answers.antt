@@ -5,14 +5,14 @@ use Rattle.c_layout.specs.CheckedTrees.{TermTree, Typed, term_tree}
 use Rattle.c_layout.specs.declared.checked_tree.checked_terms.CheckedTerm as of_term
 use Rattle.c_layout.specs.declared.checked_tree.checked_terms.TermForm as of_form
 use Rattle.semantics.specs.SourceMachine.ConditionItems.{term_items}
-use Rattle.interp_stack.specs.Standings.{Standing, with_items, standing}
+use Rattle.interp_stack.specs.StackViews.{StackView, with_items, standing}
 use Rattle.interp_stack.proofs.Sequels.{goes_on}
 use Rattle.interp_terms.proofs.term_items.push_sequenced.Goals as goal
 
 pub returns-in-Conditional : goal.returns-in-Conditional
 returns-in-Conditional c = λ u.
     let s = standing u c.args.control.now.items in
-    let whole : TermTree → Standing = λ e. with_items (term_items u c.args.used e) s in
+    let whole : TermTree → StackView = λ e. with_items (term_items u c.args.used e) s in
     let seen = Typed c.args.term.now.place (view c.args.term.now.ctype) c.args.term.now.parens c.args.term.now.constant (tree.Conditional (term_tree c.deref-in-Conditional.result.now) (term_tree c.deref-in-Conditional-2.result.now) (term_tree c.deref-in-Conditional-3.result.now)) in
     let is : term_tree c.args.term.now ≡ seen = search (rules, of_term.the_lemmas, of_form.the_lemmas) in
     goes_on c.push_conditional.result (standing u c.push_conditional.new.control.items) (whole seen) (whole (term_tree c.args.term.now)) (ap whole (sym is)) (c.push_conditional.ensures u)
@@ -20,7 +20,7 @@ returns-in-Conditional c = λ u.
 pub returns-in-Comma : goal.returns-in-Comma
 returns-in-Comma c = λ u.
     let s = standing u c.args.control.now.items in
-    let whole : TermTree → Standing = λ e. with_items (term_items u c.args.used e) s in
+    let whole : TermTree → StackView = λ e. with_items (term_items u c.args.used e) s in
     let seen = Typed c.args.term.now.place (view c.args.term.now.ctype) c.args.term.now.parens c.args.term.now.constant (tree.Comma (term_tree c.deref-in-Comma.result.now) (term_tree c.deref-in-Comma-2.result.now)) in
     let is : term_tree c.args.term.now ≡ seen = search (rules, of_term.the_lemmas, of_form.the_lemmas) in
     goes_on c.push_comma.result (standing u c.push_comma.new.control.items) (whole seen) (whole (term_tree c.args.term.now)) (ap whole (sym is)) (c.push_comma.ensures u)

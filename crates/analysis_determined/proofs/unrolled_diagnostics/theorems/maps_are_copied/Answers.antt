@@ -3,8 +3,8 @@ use Rattle.std.proofs.lemmas.List.{length-map}
 use Rattle.lower_templates.specs.Views.ProgramViews.{block}
 use Rattle.interval_domain.specs.Intervals.IntervalLattice.{interval_lattice}
 use Rattle.interval_domain.specs.Intervals.IntervalNumbers.{interval_numbers}
-use Rattle.analysis_determined.proofs.unrolled_diagnostics.TurnedMaps.{copies_inductive}
-use Rattle.analysis_determined.proofs.unrolled_diagnostics.TurnedPairs.{copies_admit}
+use Rattle.analysis_determined.proofs.unrolled_diagnostics.UnrolledMaps.{copies_inductive}
+use Rattle.analysis_determined.proofs.unrolled_diagnostics.UnrolledPairs.{copies_admit}
 use Rattle.analysis_determined.proofs.unrolled_diagnostics.theorems.maps_are_copied.Goals as goal
 
 pub returns : goal.returns

@@ -4,7 +4,7 @@ use Rattle.c_layout.specs.CheckedUnits.{unit_view}
 use Rattle.interp_memory.specs.ByteViews.{scalar_view}
 use Rattle.interp_accesses.specs.WorldViews.{world_view}
 use Rattle.semantics.specs.SourceMachine.TermTests.{test_if}
-use Rattle.interp_stack.specs.Standings.{standing}
+use Rattle.interp_stack.specs.StackViews.{standing}
 use Rattle.interp_steps.specs.Operations.Pending.{pending}
 use Rattle.interp_steps.specs.MachineItems.MachineViews.{state_view}
 use Rattle.interp.proofs.machine.Followed.{chosen}

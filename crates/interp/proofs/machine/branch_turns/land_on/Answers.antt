@@ -2,7 +2,7 @@ use Rattle.std.proofs.Common.{None, sym, ◌∙◌}
 use Rattle.c_layout.specs.CheckedTrees.{statement_tree}
 use Rattle.semantics.specs.SourceMachine.BranchSteps.{landing}
 use Rattle.semantics.specs.SourceMachine.LabelSearch.{found}
-use Rattle.interp_stack.specs.Standings.{standing}
+use Rattle.interp_stack.specs.StackViews.{standing}
 use Rattle.interp_statements.specs.LabelViews.{sought_view}
 use Rattle.interp.proofs.machine.Jumped.{landing_behind, lands_behind, lands_as}
 use Rattle.interp.proofs.machine.branch_turns.land_on.Goals as goal

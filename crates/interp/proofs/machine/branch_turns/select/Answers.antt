@@ -16,7 +16,7 @@ use Rattle.interp_memory.specs.declared.byte_forms.Value7.TheVariants as value
 use Rattle.semantics.specs.SourceMachine.LabelSearch.{case_of}
 use Rattle.semantics.specs.SourceMachine.SourceStates.{State}
 use Rattle.semantics.specs.SourceMachine.SourceSteps.{turn_by}
-use Rattle.interp_stack.specs.Standings.{on_statement, standing}
+use Rattle.interp_stack.specs.StackViews.{on_statement, standing}
 use Rattle.interp_stack.specs.declared.items.Way7.TheVariants as way
 use Rattle.interp_steps.specs.Operations.Pending.{pending}
 use Rattle.interp_statements.specs.LabelViews.{sought_view}

@@ -1,6 +1,6 @@
 use Rattle.std.proofs.Common.{◌≡◌, ◌≤◌, length, take}
 use Rattle.c_layout.specs.CheckedUnits.{UnitView}
-use Rattle.interp_stack.specs.Standings.{standing}
+use Rattle.interp_stack.specs.StackViews.{standing}
 use Rattle.interp.proofs.machine.sizes.first_below.Given as goal
 
 abbrev pub invariant-back : goal.invariant-back

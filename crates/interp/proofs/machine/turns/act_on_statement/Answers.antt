@@ -3,7 +3,7 @@ use Rattle.c_layout.specs.CheckedUnits.{unit_view}
 use Rattle.interp_stack.specs.declared.items.Item7.TheVariants as held
 use Rattle.interp_steps.specs.MachineItems.Moves.{turn_of}
 use Rattle.interp_steps.proofs.machine_items.ToldTurns.{turns_by, turns_same, line_counted}
-use Rattle.interp_stack.specs.Standings.{standing}
+use Rattle.interp_stack.specs.StackViews.{standing}
 use Rattle.interp_steps.specs.MachineItems.MachineViews.{state_view}
 use Rattle.interp.proofs.machine.turns.act_on_statement.Goals as goal
 

@@ -7,7 +7,7 @@ use Rattle.memory_model.specs.Effects.UnitStarts.{entry_parameters}
 use Rattle.interp_accesses.specs.WorldViews.{world_view}
 use Rattle.semantics.specs.SourceMachine.SourceRuns.{body_of}
 use Rattle.semantics.specs.SourceMachine.SourceStates.{function_at}
-use Rattle.interp_stack.specs.Standings.{Standing, standing}
+use Rattle.interp_stack.specs.StackViews.{StackView, standing}
 use Rattle.interp_stack.proofs.Stacks.{standing_none}
 use Rattle.interp.proofs.machine.Begun.{begun, body_alone}
 use Rattle.interp.proofs.machine.ParameterNames.{parameters_are}
@@ -26,7 +26,7 @@ returns-in-Ok c =
     ∙ ap (λ fs. option_map function_view (slice_get fs entry)) (sym c.deref.ensures.value)
     ∙ ap (option_map function_view) there in
     let below = (standing u c.at_rest-m.result.control.items).items in
-    let none : below ≡ [] = ap (λ is. (standing u is).items) c.at_rest-m.ensures.control ∙ ap (λ (s : Standing). s.items) (standing_none u) in
+    let none : below ≡ [] = ap (λ is. (standing u is).items) c.at_rest-m.ensures.control ∙ ap (λ (s : StackView). s.items) (standing_none u) in
     let m = record c.at_rest-m.result { names = c.name_parameters.new.names; control = c.push_body.new.control } in
     begun u (world_view c.args.world) m c.at_rest-m.ensures.function
     (c.in_ok-name_parameters.ensures ∙ parameters_are u (entry_parameters u) (length c.entry_parameters.result.now) (sym (length-map c.entry_parameters.result.now local_view) ∙ ap length c.entry_parameters.ensures))
@@ -44,7 +44,7 @@ returns c =
     slice_get-map function_view c.args.unit.now.functions.items entry
     ∙ ap (λ fs. option_map function_view (slice_get fs entry)) (sym c.deref.ensures.value)
     ∙ ap (option_map function_view) (slice_get_past functions entry c.in-None.ensures.lookup.3) in
-    let none : (standing u c.at_rest-m.result.control.items).items ≡ [] = ap (λ is. (standing u is).items) c.at_rest-m.ensures.control ∙ ap (λ (s : Standing). s.items) (standing_none u) in
+    let none : (standing u c.at_rest-m.result.control.items).items ≡ [] = ap (λ is. (standing u is).items) c.at_rest-m.ensures.control ∙ ap (λ (s : StackView). s.items) (standing_none u) in
     let m = record c.at_rest-m.result { names = c.name_parameters.new.names } in
     begun u (world_view c.args.world) m c.at_rest-m.ensures.function
     (c.in_ok-name_parameters.ensures ∙ parameters_are u (entry_parameters u) (length c.entry_parameters.result.now) (sym (length-map c.entry_parameters.result.now local_view) ∙ ap length c.entry_parameters.ensures))

@@ -3,7 +3,7 @@ use Rattle.c_layout.specs.CheckedTrees.{statement_tree}
 use Rattle.c_layout.specs.CheckedUnits.{unit_view}
 use Rattle.semantics.specs.SourceMachine.SourceSteps.{is_entry, turn_by}
 use Rattle.semantics.specs.SourceMachine.StatementItems.{of_statement}
-use Rattle.interp_stack.specs.Standings.{Adds, on_statement, standing}
+use Rattle.interp_stack.specs.StackViews.{Adds, on_statement, standing}
 use Rattle.interp_stack.specs.declared.items.Way7.TheVariants as way
 use Rattle.interp_steps.specs.MachineItems.MachineViews.{state_view}
 use Rattle.interp_steps.proofs.machine_items.Entries.{frames_empty}

@@ -3,11 +3,11 @@ use Rattle.c_layout.specs.CheckedTrees.{statement_tree}
 use Rattle.c_layout.specs.CheckedUnits.{unit_view}
 use Rattle.semantics.specs.SourceMachine.SourceSteps.{turn_by}
 use Rattle.interp_stack.specs.ItemViews.{loop_turn}
-use Rattle.interp_stack.specs.Standings.{on_statement, standing}
+use Rattle.interp_stack.specs.StackViews.{on_statement, standing}
 use Rattle.interp_stack.specs.declared.items.Way7.TheVariants as way
 use Rattle.interp_steps.specs.MachineItems.MachineViews.{state_view}
 use Rattle.interp_steps.proofs.machine_items.ToldTurns.{turns_held, loop_turned}
-use Rattle.interp.proofs.machine.turns.do_turn.Goals as goal
+use Rattle.interp.proofs.machine.turns.do_iteration.Goals as goal
 
 pub returns : goal.returns
 returns c =

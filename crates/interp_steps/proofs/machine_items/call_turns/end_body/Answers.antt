@@ -3,7 +3,7 @@ use Rattle.c_layout.specs.CheckedUnits.{unit_view, function_view}
 use Rattle.semantics.specs.SourceMachine.CallSteps.{behind_body}
 use Rattle.semantics.specs.SourceMachine.ObjectSteps.{on}
 use Rattle.semantics.specs.SourceMachine.SourceStates.{if_some}
-use Rattle.interp_stack.specs.Standings.{Standing, added, standing}
+use Rattle.interp_stack.specs.StackViews.{StackView, added, standing}
 use Rattle.interp_stack.proofs.Stacks.{standing_none}
 use Rattle.interp_steps.specs.MachineItems.MachineViews.{frame_view, state_view}
 use Rattle.interp_steps.proofs.machine_items.Entries.{added_none}
@@ -17,7 +17,7 @@ returns-in-Ok c =
     let items = behind_body f [] s.frames in
     ap (λ o. if_some s o (λ g. on (record s { control = behind_body g [] s.frames }))) c.in_ok-function.ensures
     ∙ ap (λ is. on (record s { control = is }))
-    (sym (ap (λ (t : Standing). t.items) (c.in-Ok.ensures u)
+    (sym (ap (λ (t : StackView). t.items) (c.in-Ok.ensures u)
     ∙ ap (λ fs. (added (behind_body f [] (reverse (map (frame_view u) fs))) (standing u c.clear.new.self.items)).items) c.as_slice.ensures.value
-    ∙ ap (λ (t : Standing). (added items t).items) (ap (standing u) c.clear.ensures.items ∙ standing_none u)
+    ∙ ap (λ (t : StackView). (added items t).items) (ap (standing u) c.clear.ensures.items ∙ standing_none u)
     ∙ added_none items))

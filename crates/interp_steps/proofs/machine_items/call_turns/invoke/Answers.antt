@@ -5,7 +5,7 @@ use Rattle.memory_model.specs.Effects.NumberedTables.{empty_table}
 use Rattle.interp_accesses.specs.declared.worlds.Halt.{Halt}
 use Rattle.semantics.specs.SourceMachine.CallSteps.{prologue, waiting, invoke}
 use Rattle.semantics.specs.SourceMachine.StatementItems.{body}
-use Rattle.interp_stack.specs.Standings.{Standing, standing}
+use Rattle.interp_stack.specs.StackViews.{StackView, standing}
 use Rattle.interp_stack.specs.declared.items.Item7.{Item7}
 use Rattle.interp_stack.proofs.Stacks.{standing_none}
 use Rattle.interp_steps.specs.MachineItems.MachineViews.{names_view, frame_view, state_view}
@@ -31,8 +31,8 @@ returns c =
     let named : names_view c.replace.new.dest.items ≡ empty_table = ap (λ (v : Vec (Option ℕ) Global). names_view v.items) c.replace.ensures.after ∙ ap names_view c.new.ensures.items in
     let control : (standing u c.replace-2.new.dest.items).items ≡ items =
     ap (λ (v : Vec Item7 Global). (standing u v.items).items) c.replace-2.ensures.after
-    ∙ ap (λ (t : Standing). t.items) (c.in-Ok.ensures u)
-    ∙ ap (λ (t : Standing). items ++ t.items) (ap (standing u) c.new-control.ensures.items ∙ standing_none u)
+    ∙ ap (λ (t : StackView). t.items) (c.in-Ok.ensures u)
+    ∙ ap (λ (t : StackView). items ++ t.items) (ap (standing u) c.new-control.ensures.items ∙ standing_none u)
     ∙ append-nil items in
     elim c.match-push.branch [
       | in-Ok-push w ↦ subst moves (sym w.result-is) (invoked u s c.args.at c.args.number c.args.count c.args.used f m c.in_ok-function.ensures refl named control refl

@@ -1,7 +1,7 @@
 use Rattle.std.proofs.Common.{refl, sym, ap, ◌∙◌, Ok, None}
 use Rattle.c_layout.specs.CheckedUnits.{unit_view}
 use Rattle.semantics.specs.SourceMachine.ObjectSteps.{on}
-use Rattle.interp_stack.specs.Standings.{standing}
+use Rattle.interp_stack.specs.StackViews.{standing}
 use Rattle.interp_steps.specs.MachineItems.MachineViews.{state_view, with_next}
 use Rattle.interp_steps.proofs.machine_items.ToldTurns.{turns_by, turns_same, enters_none}
 use Rattle.interp_steps.proofs.machine_items.item_turns.enter_below.Goals as goal

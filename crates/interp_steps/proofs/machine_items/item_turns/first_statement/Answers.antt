@@ -4,7 +4,7 @@ use Rattle.std.proofs.lemmas.Slice.{first_rest}
 use Rattle.c_layout.specs.CheckedTrees.{statement_tree}
 use Rattle.semantics.specs.SourceMachine.SourceSteps.{is_entry}
 use Rattle.semantics.specs.SourceMachine.StatementItems.{of_statement, list_statements}
-use Rattle.interp_stack.specs.Standings.{standing}
+use Rattle.interp_stack.specs.StackViews.{standing}
 use Rattle.interp_steps.specs.MachineItems.MachineViews.{state_view}
 use Rattle.interp_steps.specs.MachineItems.Moves.{HeldAs, turn_with}
 use Rattle.interp_steps.specs.declared.machine_items.item_turns.Turned7.{Turned7}

@@ -4,7 +4,7 @@ use Rattle.semantics.specs.SourceMachine.Items as item
 use Rattle.semantics.specs.SourceMachine.ObjectSteps.{on, leave}
 use Rattle.semantics.specs.SourceMachine.SourceStates.{first_do}
 use Rattle.semantics.specs.SourceMachine.SourceSteps.{leave_all}
-use Rattle.interp_stack.specs.Standings.{Standing, standing}
+use Rattle.interp_stack.specs.StackViews.{StackView, standing}
 use Rattle.interp_steps.specs.MachineItems.MachineViews.{state_view, with_next}
 use Rattle.interp_steps.proofs.machine_items.ToldTurns.{turns_by, turns_same, moves_same, leaves_none}
 use Rattle.interp_steps.proofs.machine_items.item_turns.leave_below.Goals as goal
@@ -30,7 +30,7 @@ returns-in-Ok c =
     let m = record c.args.m.now { control = c.push_item.new.control } in
     let first : old.objects ≡ n ∷ now.objects = c.in-Ok-Some.ensures.objects u ∙ ap (λ next. with_next next now.objects) c.in-Ok-Some.field-0-is in
     let state : state_view u m ≡ first_do (item.Leaves now.objects ∷ []) s =
-    ap (λ items. record s { control = items }) (ap (λ (t : Standing). t.items) (c.in-Ok.ensures u) ∙ ap (λ items. item.Leaves now.objects ∷ items) (sym (c.in-Ok-Some.ensures.items u))) in
+    ap (λ items. record s { control = items }) (ap (λ (t : StackView). t.items) (c.in-Ok.ensures u) ∙ ap (λ items. item.Leaves now.objects ∷ items) (sym (c.in-Ok-Some.ensures.items u))) in
     turns_same u (leave_all u s (n ∷ now.objects)) (leave_all u s old.objects) c.step.result c.leave_object.new.m (sym (ap (leave_all u s) first))
     (turns_by u (leave_all u s (n ∷ now.objects)) c.step.result c.leave_object.new.m c.leave_object.result (Some c.own_place-at.result) c.step.ensures
     (moves_same u (leave (state_view u m) n) (leave (first_do (item.Leaves now.objects ∷ []) s) n) c.leave_object.result c.leave_object.new.m (ap (λ z. leave z n) state) (c.leave_object.ensures u))

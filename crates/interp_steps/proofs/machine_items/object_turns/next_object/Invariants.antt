@@ -1,6 +1,6 @@
 use Rattle.std.proofs.Common.{◌≡◌, vec_len}
 use Rattle.c_layout.specs.CheckedUnits.{UnitView}
-use Rattle.interp_stack.specs.Standings.{standing}
+use Rattle.interp_stack.specs.StackViews.{standing}
 use Rattle.interp_steps.proofs.machine_items.object_turns.next_object.Given as goal
 
 abbrev pub invariant-loop-item : goal.invariant-loop-item

@@ -1,5 +1,5 @@
 use Rattle.std.proofs.Common.{◌≡◌, map, drop}
-use Rattle.lower.specs.Inlining.Openings.{with_heads}
+use Rattle.lower.specs.Inlining.Inlinings.{with_heads}
 use Rattle.lower_templates.specs.Views.ProgramViews.{block, edge}
 use Rattle.lower.proofs.inlining.resolved_edges.note_heads.Given as goal
 

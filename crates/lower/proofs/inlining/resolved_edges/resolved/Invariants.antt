@@ -1,5 +1,5 @@
 use Rattle.std.proofs.Common.{◌≡◌, map}
-use Rattle.lower.specs.Inlining.Openings.{resolved}
+use Rattle.lower.specs.Inlining.Inlinings.{resolved}
 use Rattle.lower_templates.specs.Views.ProgramViews.{edge}
 use Rattle.lower.proofs.inlining.resolved_edges.resolved.Given as goal
 

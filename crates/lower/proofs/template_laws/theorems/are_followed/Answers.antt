@@ -1,9 +1,9 @@
 use Rattle.lower.proofs.template_laws.TemplateOrder.{template_followed}
-use Rattle.lower.proofs.template_laws.SettledOrder.{settled_followed}
+use Rattle.lower.proofs.template_laws.NormalizedOrder.{normalized_followed}
 use Rattle.lower.proofs.template_laws.theorems.are_followed.Goals as goal
 
 pub returns : goal.returns
 returns c = record {
   template = λ structs pointer int_bytes f is_entry t is. template_followed structs pointer int_bytes f is_entry t is;
-  settled = λ table t followed. settled_followed table t followed;
+  normalized = λ table t followed. normalized_followed table t followed;
 }

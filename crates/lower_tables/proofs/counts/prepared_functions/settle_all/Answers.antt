@@ -5,7 +5,7 @@ use Rattle.c_layout.specs.CheckedUnits.{function_view, unit_view}
 use Rattle.lower_templates.specs.Worklist.Pieces.{template_view}
 use Rattle.lower_tables.specs.Counts.Preparations.{templates_view}
 use Rattle.lower_tables.proofs.counts.Tables.{seen_empty}
-use Rattle.lower_tables.proofs.counts.Preparing.{none_settled, still_holds}
+use Rattle.lower_tables.proofs.counts.Preparing.{none_normalized, still_holds}
 use Rattle.lower_tables.proofs.counts.prepared_functions.settle_all.Goals as goal
 
 pub loop-number-init : goal.loop-number-init
@@ -13,7 +13,7 @@ loop-number-init c =
     let long : c.len-count.result ≡ length c.args.unit.now.functions.items = grind (arith, common_steps) in
     λ made. record {
       made = made;
-      settled = none_settled (unit_view c.args.unit.now) (templates_view c.in_ok-all_none.field-0.items) c.in_ok-all_none-2.field-0.items c.len-count.result (long ∙ sym (length-map c.args.unit.now.functions.items function_view)) (seen_empty template_view c.in_ok-all_none.field-0.items c.len-count.result c.in_ok-all_none.ensures) c.in_ok-all_none-2.ensures;
+      normalized = none_normalized (unit_view c.args.unit.now) (templates_view c.in_ok-all_none.field-0.items) c.in_ok-all_none-2.field-0.items c.len-count.result (long ∙ sym (length-map c.args.unit.now.functions.items function_view)) (seen_empty template_view c.in_ok-all_none.field-0.items c.len-count.result c.in_ok-all_none.ensures) c.in_ok-all_none-2.ensures;
     }
 
 pub loop-number-preserved : goal.loop-number-preserved

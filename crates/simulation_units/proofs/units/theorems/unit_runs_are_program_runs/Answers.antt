@@ -1,4 +1,4 @@
-use Rattle.simulation_statements.proofs.entry.EntryFollows.{body_follows}
+use Rattle.simulation_statements.proofs.entry.EntrySimulates.{body_simulates}
 use Rattle.simulation_units.proofs.units.UnitRuns.{Laws, unit_runs}
 use Rattle.simulation_units.proofs.units.theorems.unit_runs_are_program_runs.Goals as goal
 
@@ -15,10 +15,10 @@ returns c =
       jumps = c.regular_jumps_stand.ensures;
       not_called = c.entries_are_not_called.ensures;
       leave = c.called_functions_leave_all.ensures;
-      start = λ t f e n. body_follows t f e n;
-      functions = c.functions_are_followed.ensures;
-      entries = c.entries_are_followed.ensures;
-      returns = c.returns_are_followed.ensures;
+      start = λ t f e n. body_simulates t f e n;
+      functions = c.functions_are_simulated.ensures;
+      entries = c.entries_are_simulated.ensures;
+      returns = c.returns_are_simulated.ensures;
       same = c.checked_runs_are_the_same.ensures;
     })
     u limits program o draws turns

@@ -1,4 +1,4 @@
-use Rattle.unit_exact.proofs.unrolled.TurnedUnits.{looped_units_told}
+use Rattle.unit_exact.proofs.unrolled.UnrolledUnits.{looped_units_told}
 use Rattle.unit_exact.proofs.unrolled.theorems.looped_units_are_exact.Goals as goal
 
 pub returns : goal.returns

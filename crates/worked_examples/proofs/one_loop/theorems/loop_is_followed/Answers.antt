@@ -1,4 +1,4 @@
-use Rattle.worked_examples.proofs.one_loop.LoopFollows.{followed}
+use Rattle.worked_examples.proofs.one_loop.LoopSimulates.{followed}
 use Rattle.worked_examples.proofs.one_loop.theorems.loop_is_followed.Goals as goal
 
 pub returns : goal.returns

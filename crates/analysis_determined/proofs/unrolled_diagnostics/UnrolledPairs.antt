@@ -1,0 +1,90 @@
+-- What the copies of a map admit of a program with turns unrolled, the map admits of the program.
+use Rattle.std.specs.Prelude.{◌≡◌, ℕ, zero, suc, ◌+◌, ◌<◌, Option, Some, None, List, [], ◌∷◌, ◌++◌, map, length, Contains, refl}
+use Rattle.std.proofs.Common.{arith, sym, subst, ap, ap₂, ◌∙◌, inl, inr}
+use Rattle.cc_base.specs.Lattices.{LatticeOf}
+use Rattle.cc_base.specs.IntegerDomains.{IntegersOf}
+use Rattle.cc_base.specs.InductiveMap.{row_at}
+use Rattle.cc_base.specs.declared.diagnostics.Diag.{Diag}
+use Rattle.cfg.specs.declared.programs.Flow.{Flow}
+use Rattle.cfg.specs.declared.machine_instructions.Instruction.{Instruction}
+use Rattle.lower_templates.specs.Worklist.Acts.{Step, step}
+use Rattle.lower_templates.specs.Views.ProgramViews.{flow_view}
+use Rattle.value_domain.specs.declared.values.row_cells.Cell.{Cell}
+use Rattle.diagnose.specs.Diagnostics.AdmittedRules.{pairs_of, instructions_of, pairs_at, row_behind, pairs_from, instruction_pairs, block_pairs, entry_pairs, rows_pairs, map_pairs}
+use Rattle.analysis.proofs.FewestPairs.{In, AreIn, in_left, in_right, in_either, in_from, contains_in}
+use Rattle.loop_unrolling.specs.Turns.{copies, number_in, split}
+use Rattle.analysis_determined.specs.UnrolledDiagnostics.SameParts.{SameParts}
+use Rattle.analysis_determined.specs.UnrolledDiagnostics.CopiedMaps.{copied_map}
+use Rattle.analysis_determined.proofs.unrolled_runs.CopiedLists.{placed, copies_length}
+use Rattle.analysis_determined.proofs.unrolled_diagnostics.SameOperations.{operate_same, violations_same}
+use Rattle.analysis_determined.proofs.unrolled_diagnostics.UnrolledPrograms.{same_parts, size, steps_same}
+use Rattle.analysis_determined.proofs.unrolled_diagnostics.UnrolledMaps.{step_same, steps_behind, row_of}
+
+module _ {I : Type 0} (l : LatticeOf I) (n : IntegersOf I) where
+  -- a pair of a map is one of a block
+  record OfBlock (flow : Flow) (number : ℕ) (rows : List (Option (List (Cell I)))) (d : Diag) : Type 0 where
+    at : ℕ
+    there : at < length rows
+    admits : In (entry_pairs l n flow (number + at) (row_at rows at)) d
+
+  of_block : (flow : Flow) (number : ℕ) (rows : List (Option (List (Cell I)))) (d : Diag) → In (rows_pairs l n flow number rows) d → OfBlock flow number rows d
+  of_block flow number [] d h = absurd h
+  of_block flow number (x ∷ xs) d h = elim (in_either (entry_pairs l n flow number x) (rows_pairs l n flow (number + 1) xs) d h) [
+    | inl p ↦ (let e : number ≡ number + 0 = omega arith in record { at = 0; there = omega arith; admits = subst (λ z. In (entry_pairs l n flow z x) d) e p })
+    | inr p ↦ (let r = of_block flow (number + 1) xs d p in let s = r.there in let e : (number + 1) + r.at ≡ number + suc r.at = omega arith in
+        record { at = suc r.at; there = omega arith; admits = subst (λ z. In (entry_pairs l n flow z (row_at xs r.at)) d) e r.admits })
+  ]
+
+  block_in : (flow : Flow) (number : ℕ) (rows : List (Option (List (Cell I)))) (d : Diag) (at : ℕ) → at < length rows → In (entry_pairs l n flow (number + at) (row_at rows at)) d → In (rows_pairs l n flow number rows) d
+  block_in flow number [] d at h p = absurd (omega arith)
+  block_in flow number (x ∷ xs) d zero h p = let e : number + 0 ≡ number = omega arith in in_left (entry_pairs l n flow number x) (rows_pairs l n flow (number + 1) xs) d (subst (λ z. In (entry_pairs l n flow z x) d) e p)
+  block_in flow number (x ∷ xs) d (suc at) h p = let e : number + suc at ≡ (number + 1) + at = omega arith in
+      in_right (entry_pairs l n flow number x) (rows_pairs l n flow (number + 1) xs) d (block_in flow (number + 1) xs d at (omega arith) (subst (λ z. In (entry_pairs l n flow z (row_at xs at)) d) e p))
+
+  module _ (turns : ℕ) (f g : Flow) (h : flow_view g ≡ split turns (flow_view f)) where
+    abbrev same : SameParts f g
+    same = same_parts turns f g h
+
+    abbrev many : ℕ
+    many = size turns f g h
+
+    one_pairs : (i j : Instruction) → step i ≡ step j → (x : Option (List (Cell I))) → pairs_at l n g j x ≡ pairs_at l n f i x
+    one_pairs i j e None = refl
+    one_pairs i j e (Some row) = ap₂ (λ (s : Step) v. pairs_of s.at v) (sym e) (violations_same l n f g same row i.operation j.operation (ap (λ (s : Step). s.does) e))
+
+    one_behind : (i j : Instruction) → step i ≡ step j → (x : Option (List (Cell I))) → row_behind l n g j x ≡ row_behind l n f i x
+    one_behind i j e None = refl
+    one_behind i j e (Some row) = operate_same l n f g same row i.operation j.operation (ap (λ (s : Step). s.does) e)
+
+    from_same : (is js : List Instruction) → map step is ≡ map step js → (x : Option (List (Cell I))) → pairs_from l n g x js ≡ pairs_from l n f x is
+    from_same [] [] e x = refl
+    from_same [] (j ∷ js) e x = absurd (cc)
+    from_same (i ∷ is) [] e x = absurd (cc)
+    from_same (i ∷ is) (j ∷ js) e x =
+        let s = step_same (step i) (step j) (map step is) (map step js) e in
+        ap₂ (λ a c. a ++ c) (one_pairs i j s x)
+        (from_same is js (steps_behind (step i) (step j) (map step is) (map step js) e) (row_behind l n g j x) ∙ ap (λ z. pairs_from l n f z is) (one_behind i j s x))
+
+    entry_same : (k j : ℕ) → k < copies turns → j < many → (x : Option (List (Cell I))) → entry_pairs l n g (number_in many k j) x ≡ entry_pairs l n f j x
+    unfolding block_pairs instruction_pairs
+    entry_same k j p q None = refl
+    entry_same k j p q (Some row) = from_same (instructions_of f j) (instructions_of g (number_in many k j)) (steps_same turns f g h k j p q) (Some row)
+
+    module _ (rows : List (Option (List (Cell I)))) (long : length rows ≡ many) where
+      map_same : AreIn (map_pairs l n g (copied_map turns rows)) (map_pairs l n f rows)
+      unfolding map_pairs
+      map_same d e =
+          let r = of_block g 0 (copied_map turns rows) d e in
+          let s = copies_length (λ k. rows) many (λ k. long) (copies turns) in
+          let t = r.there in
+          let z = placed many (copies turns) r.at (omega arith) in
+          let zero_is : 0 + r.at ≡ number_in many z.copy z.place = let m = z.is in omega arith in
+          let row_is : row_at (copied_map turns rows) r.at ≡ row_at rows z.place = ap (row_at (copied_map turns rows)) z.is ∙ row_of l n [] turns f g h rows long z.copy z.place z.in_copies z.in_copy in
+          let moved : In (entry_pairs l n g (number_in many z.copy z.place) (row_at rows z.place)) d = subst (λ x. In (entry_pairs l n g (number_in many z.copy z.place) x) d) row_is (subst (λ b. In (entry_pairs l n g b (row_at (copied_map turns rows) r.at)) d) zero_is r.admits) in
+          let here : In (entry_pairs l n f z.place (row_at rows z.place)) d = subst (λ ps. In ps d) (entry_same z.copy z.place z.in_copies z.in_copy (row_at rows z.place)) moved in
+          let place_is : z.place ≡ 0 + z.place = omega arith in
+          let c = z.in_copy in
+          block_in f 0 rows d z.place (omega arith) (subst (λ b. In (entry_pairs l n f b (row_at rows z.place)) d) place_is here)
+
+      pub copies_admit : (d : Diag) → Contains (map_pairs l n g (copied_map turns rows)) d → Contains (map_pairs l n f rows) d
+      copies_admit d e = contains_in (map_pairs l n f rows) d (map_same d (in_from (map_pairs l n g (copied_map turns rows)) d e))

@@ -1,0 +1,17 @@
+-- What an analysis with turns unrolled finds holds each pair that a run of the program itself violates.
+use Rattle.std.specs.Prelude.{◌≡◌, ℕ, ℤ, true, List}
+use Rattle.cc_base.specs.declared.diagnostics.Diag.{Diag}
+use Rattle.cc_base.specs.declared.limit_table.Limits.{Limits}
+use Rattle.c_layout.specs.CheckedUnits.{UnitView}
+use Rattle.cfg.specs.WellFormed.{is_well_formed}
+use Rattle.cfg.specs.declared.programs.Flow.{Flow}
+use Rattle.lower_templates.specs.Views.ProgramViews.{flow_view}
+use Rattle.analysis_determined.specs.Analyses.{IsAnalysis}
+use Rattle.loop_unrolling.specs.Turns.{split}
+use Rattle.entry_sound.specs.Tables.UnitStarts.{StartsAs}
+use Rattle.analysis_sound.specs.Units.SoundUnits.{FindsPairsOf}
+
+-- of each unit with whose tables the program begins, in its runs without turns unrolled
+abbrev pub FindsUnrolledPairs : Type 0
+FindsUnrolledPairs = (turns : ℕ) (limits : Limits) (flow turned : Flow) (list : List ℤ) (found : List Diag) → is_well_formed limits flow ≡ true → flow_view turned ≡ split turns (flow_view flow)
+    → IsAnalysis turned list found → (u : UnitView) → StartsAs u flow → FindsPairsOf flow found u

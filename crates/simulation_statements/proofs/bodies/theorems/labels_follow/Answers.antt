@@ -1,8 +1,0 @@
-use Rattle.std.proofs.Common.{refl}
-use Rattle.simulation_terms.proofs.scopes.Positions.{position}
-use Rattle.simulation_statements.proofs.bodies.Statements.{finds}
-use Rattle.simulation_statements.proofs.bodies.theorems.labels_follow.Goals as goal
-
-pub returns : goal.returns
-returns c = λ t s fits f has ends i n around enclosed known suits p scopes choices ps r m none known_r items rest stands k follows l mark is to e.
-    (finds s t fits f has ends i n around enclosed known (position p) suits (scopes, choices)).from p none refl ps r m known_r items rest stands k follows l mark is to e

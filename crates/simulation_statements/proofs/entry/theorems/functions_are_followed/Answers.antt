@@ -1,5 +1,0 @@
-use Rattle.simulation_statements.proofs.entry.CalledFunctions.{all_follow}
-use Rattle.simulation_statements.proofs.entry.theorems.functions_are_followed.Goals as goal
-
-pub returns : goal.returns
-returns c = λ t never made h g f caller callers reached calls is n. all_follow t never made h g f caller callers reached calls is n
