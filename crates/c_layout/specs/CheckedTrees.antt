@@ -5,7 +5,6 @@ use Rattle.std.specs.Global.{Box, Global}
 use Rattle.cc_base.specs.declared.diagnostics.Place.{Place}
 use Rattle.c_layout.specs.Types.{Ty, view}
 use Rattle.c_layout.specs.declared.library_functions.LibFn.{LibFn}
-use Rattle.c_layout.specs.declared.type_terms.CType.{CType}
 use Rattle.c_layout.specs.declared.syntax_tree.expressions.BinaryOp.{BinaryOp}
 use Rattle.c_layout.specs.declared.syntax_tree.expressions.LogicalOp.{LogicalOp}
 use Rattle.c_layout.specs.declared.syntax_tree.expressions.StepOp.{StepOp}

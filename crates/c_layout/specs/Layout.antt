@@ -1,9 +1,7 @@
 -- The layout of types (6.2.8 and 6.7.2.1): sizes, alignments, offsets and leaves.
-use Rattle.std.specs.Prelude.{ℕ, Bool, true, false, ◌&&◌, ◌+◌, ◌-◌, ◌*◌, ◌/◌, ◌^◌, ◌==◌, max, nat_le, nat_lt, List, [], ◌∷◌, ◌++◌, if◌then◌else◌, length}
-use Rattle.cc_base.specs.declared.int_types.IntType.{IntType}
-use Rattle.c_layout.specs.declared.data_model.Model.{Model}
+use Rattle.std.specs.Prelude.{ℕ, Bool, true, false, ◌&&◌, ◌+◌, ◌-◌, ◌*◌, ◌/◌, ◌^◌, nat_le, nat_lt, List, length}
 use Rattle.c_layout.specs.Types.{Ty, Int, Pointer, Array, Struct, Void}
-use Rattle.c_layout.specs.StructViews.{FieldView, StructView, struct_at}
+use Rattle.c_layout.specs.StructViews.{StructView, struct_at}
 
 -- the most bytes that a type may have
 abbrev pub most_bytes : ℕ

@@ -1,5 +1,5 @@
 -- The leaves of a type: its scalars with their offsets. A long array is folded: the leaves of its element stand once.
-use Rattle.std.specs.Prelude.{ℕ, Bool, true, false, ◌&&◌, ◌+◌, ◌*◌, ◌==◌, nat_le, List, [], ◌∷◌, ◌++◌, if◌then◌else◌, length, map, zero, suc}
+use Rattle.std.specs.Prelude.{ℕ, Bool, false, ◌+◌, ◌*◌, ◌==◌, nat_le, List, [], ◌∷◌, ◌++◌, if◌then◌else◌, length, zero, suc}
 use Rattle.cc_base.specs.declared.int_types.IntType.{IntType}
 use Rattle.c_layout.specs.declared.leaf_lists.Class.{Class}
 use Rattle.c_layout.specs.declared.leaf_lists.Class.TheVariants as class
@@ -48,10 +48,14 @@ abbrev pub behind_all : Ty → Ty
 behind_all (Array t n) = behind_all t
 behind_all t = t
 
--- what stands so often, one behind the other
+module _ {X : Type 0} where
+  -- the lists of so many elements, one after the other
+  abbrev pub repeats : ℕ → ℕ → ℕ → (ℕ → List X) → List X
+  repeats zero at step element = []
+  repeats (suc n) at step element = element at ++ repeats n (at + step) step element
+
 abbrev pub repeated : ℕ → ℕ → ℕ → (ℕ → List Leaf) → List Leaf
-repeated zero at step element = []
-repeated (suc n) at step element = element at ++ repeated n (at + step) step element
+repeated n at step element = repeats n at step element
 
 -- the leaves of members
 abbrev pub of_fields : List FieldView → ℕ → (Ty → ℕ → List Leaf) → List Leaf

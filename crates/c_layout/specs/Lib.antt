@@ -10,3 +10,5 @@ pub mod CheckedTrees
 pub mod CheckedUnits
 pub mod DeclarationTrees
 pub mod ByteTexts
+pub mod LibrarySignatures
+pub mod CharacterClasses

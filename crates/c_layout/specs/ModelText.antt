@@ -1,6 +1,6 @@
 -- What a data model file says: a table with exactly the six keys of a model.
 use Rattle.std.specs.Prelude.{ℕ, ℤ, pos, negsuc, Bool, ◌==◌, nat_lt, ◌+◌, List, Option, Some, None, Result, Ok, Err, codes, if◌then◌else◌, option_and_then, option_map}
-use Rattle.toml.specs.Data.{Data, Members, no_members, member, get_member, as_integer, as_bool}
+use Rattle.toml.specs.Data.{Members, no_members, member, get_member, as_integer, as_bool}
 use Rattle.c_layout.specs.declared.data_model.Model.{Model}
 use Rattle.c_layout.specs.declared.model_file.Key.TheVariants as key
 use Rattle.c_layout.specs.declared.model_file.ModelFault.{ModelFault}

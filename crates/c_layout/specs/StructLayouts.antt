@@ -1,6 +1,6 @@
 -- The layout of a struct, member by member (6.7.2.1).
-use Rattle.std.specs.Prelude.{ℕ, Bool, true, false, ◌+◌, ◌*◌, max, nat_le, List, [], ◌∷◌, ◌++◌, Option, Some, None, map, if◌then◌else◌}
-use Rattle.c_layout.specs.Types.{Ty, Int, Pointer, Array, Struct, Void}
+use Rattle.std.specs.Prelude.{ℕ, true, ◌+◌, ◌*◌, max, nat_le, List, [], ◌∷◌, ◌++◌, Option, Some, None, map, if◌then◌else◌}
+use Rattle.c_layout.specs.Types.{Ty, Array, Struct}
 use Rattle.c_layout.specs.StructViews.{FieldView, StructView, struct_at, field_view}
 use Rattle.c_layout.specs.Layout.{most_bytes, round_up, size_of_type, align_of_type}
 use Rattle.c_layout.specs.Leaves.{short_count, behind_short, behind_long, full_count, behind_all}

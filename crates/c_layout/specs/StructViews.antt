@@ -1,5 +1,5 @@
 -- The structs of a unit, as contracts see them.
-use Rattle.std.specs.Prelude.{ℕ, Bool, true, false, List, [], ◌∷◌, map, get_or}
+use Rattle.std.specs.Prelude.{ℕ, Bool, false, List, [], map, get_or}
 use Rattle.c_layout.specs.Types.{Ty, view}
 use Rattle.c_layout.specs.declared.struct_table.Field.{Field}
 use Rattle.c_layout.specs.declared.struct_table.StructType.{StructType}

@@ -1,6 +1,6 @@
 //! Data models: the sizes of the scalar types.
 ghost use Rattle.std.specs.Prelude.{◌≡◌};
-ghost use Rattle.c_layout.specs.Models.{model_named};
+ghost use Rattle.c_layout.specs.Models.{model_named, is_model, pointer_fits};
 
 /// The sizes in bytes of the integer types and of pointers, and whether plain char is signed.
 /// Bytes have 8 bits, numbers are little-endian, and each scalar is aligned to its size.
@@ -54,4 +54,22 @@ pub fn by_name(name: &str) -> Option<Model>
         });
     }
     None
+}
+
+fn is_pointer_size(model: &Model) -> bool
+    ensures { result ≡ pointer_fits model.now.int model.now.long model.now.long_long model.now.pointer }
+{
+    let size = model.pointer;
+    (size == 4 || size == 8)
+        && ((size == model.int || size == model.long) || size == model.long_long)
+}
+
+/// Whether a model's sizes are such as a data model has.
+pub fn is_sound(model: &Model) -> bool
+    ensures { result ≡ is_model model.now }
+{
+    model.short == 2
+        && ((model.int == 2 || model.int == 4)
+            && ((model.long == 4 || model.long == 8)
+                && (model.long_long == 8 && is_pointer_size(model))))
 }

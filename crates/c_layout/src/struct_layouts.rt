@@ -15,7 +15,7 @@ use cc_base::Text;
 use std::alloc::{AllocError, Global};
 
 /// The most bytes that a type may have.
-const MOST_BYTES: u64 = 1_073_741_824;
+pub(crate) const MOST_BYTES: u64 = 1_073_741_824;
 
 /// A struct whose members are laid out one after another.
 #[derive(Drop)]

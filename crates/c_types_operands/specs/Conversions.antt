@@ -1,12 +1,11 @@
 -- Conversions that no cast writes (6.3).
-use Rattle.std.specs.Prelude.{ℕ, Bool, true, false, cond, Option, Some, None, Ok}
+use Rattle.std.specs.Prelude.{ℕ, false, cond, Option, Some, None, Ok}
 use Rattle.cc_base.specs.declared.diagnostics.Place.{Place}
 use Rattle.cc_base.specs.declared.int_types.IntType.{IntType}
 use Rattle.c_layout.specs.Types.{Ty, Int, Pointer, same_type}
 use Rattle.c_layout.specs.CheckedTrees as tree
+use Rattle.c_layout.specs.LibrarySignatures.{signature_of}
 use Rattle.c_layout.specs.CheckedTrees.{TermTree, FormTree}
-use Rattle.c_layout.specs.declared.library_functions.LibFn.{LibFn}
-use Rattle.c_layout.specs.declared.library_functions.LibFn.TheVariants as lib
 use Rattle.c_layout.specs.declared.checked_tree.checked_terms.ConversionKind.{ConversionKind}
 use Rattle.c_layout.specs.declared.checked_tree.checked_terms.ConversionKind.TheVariants as kind
 use Rattle.c_types_rules.specs.Rules.TypeConversions as types
@@ -15,12 +14,6 @@ use Rattle.c_types_rules.specs.declared.rules.type_conversions.Conversion.TheVar
 use Rattle.c_types_scopes.specs.Known.{Known, size_of}
 use Rattle.c_types_scopes.specs.Refusals.{Ruled, type_fault, pointer_integer}
 use Rattle.c_types_operands.specs.Operands.{term_place, term_type, term_constant, is_null}
-
-abbrev pub allocates : LibFn → Bool
-allocates lib.Malloc = true
-allocates lib.Calloc = true
-allocates lib.Realloc = true
-allocates _ = false
 
 abbrev pub kept_if : Ty → Option ℕ → Option Ty
 kept_if t None = None
@@ -36,7 +29,7 @@ complete_target k (Pointer t) = if_complete k t
 complete_target k _ = None
 
 abbrev pub noted_form : Known → Ty → FormTree → FormTree
-noted_form k to (tree.Library f arguments allocated) = tree.Library f arguments (cond (allocates f) (complete_target k to) allocated)
+noted_form k to (tree.Library f arguments allocated) = tree.Library f arguments (cond (signature_of f).allocates (complete_target k to) allocated)
 noted_form k to f = f
 
 -- an allocation that is converted at once to a pointer to a complete type keeps that type

@@ -8,22 +8,10 @@ ghost use Rattle.c_types_operands.specs.Operands.{boxed_term};
 ghost use Rattle.c_types_operands.specs.Conversions as spec;
 
 use crate::operands::{is_null, term_node};
-use c_layout::{CType, CheckedTerm, ConversionKind, LibFn, TermForm};
+use c_layout::{CType, CheckedTerm, ConversionKind, TermForm};
 use c_types_rules::rules::{Conversion, argument_conversion};
 use c_types_scopes::{Context, pointer_integer, type_fault};
 use cc_base::{IntType, Memory, Place, Stop};
-
-/// Whether a function allocates.
-fn allocates(function: LibFn) -> bool
-    ensures { result ≡ spec.allocates function }
-{
-    match function {
-        LibFn::Malloc => true,
-        LibFn::Calloc => true,
-        LibFn::Realloc => true,
-        _ => false,
-    }
-}
 
 /// A type, where it is complete.
 fn if_complete(cx: &Context, t: &CType) -> Result<Option<CType>, Memory>
@@ -53,7 +41,7 @@ fn note_allocation(cx: &Context, from: &mut CheckedTerm, to: &CType) -> Result<(
     ensures { IfOk result (λ _. term_tree from.new ≡ spec.noted (known cx.now) (view to.now) (term_tree from.old)) }
 {
     if let TermForm::Library(function, _, slot) = &mut from.form {
-        if allocates(*function) {
+        if function.signature().allocates {
             *slot = complete_target(cx, to)?;
         }
     }

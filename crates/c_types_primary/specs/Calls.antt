@@ -1,10 +1,11 @@
 -- Calls (6.5.2.2).
-use Rattle.std.specs.Prelude.{ℕ, ◌==◌, Bool, true, false, not, cond, List, [], ◌∷◌, length, map, slice_get, unwrap_or, Vec, Option, Some, None, Ok, Err}
+use Rattle.std.specs.Prelude.{ℕ, ◌==◌, Bool, false, not, cond, List, [], ◌∷◌, length, map, slice_get, unwrap_or, Vec, Option, Some, None, Ok, Err}
 use Rattle.std.specs.Global.{Global}
 use Rattle.cc_base.specs.declared.diagnostics.Place.{Place}
 use Rattle.cc_base.specs.declared.int_types.IntType.{IntType}
 use Rattle.c_layout.specs.Types.{Ty, Int, Pointer, same_type}
 use Rattle.c_layout.specs.CheckedTrees as tree
+use Rattle.c_layout.specs.LibrarySignatures.{signature_of}
 use Rattle.c_layout.specs.CheckedTrees.{TermTree, term_tree, term_trees}
 use Rattle.c_layout.specs.SyntaxTrees as syntax_tree
 use Rattle.c_layout.specs.SyntaxTrees.{Tree}
@@ -219,10 +220,8 @@ library_with at t f (Ok arguments) = Ok (library_called at t f arguments)
 abbrev pub library_call : State → Place → LibFn → List OperandView → Ruled OperandView
 library_call s at f arguments = library_with at (library_result s.known.numbers s.stream f) f (converted_arguments s.known at arguments (library_parameters s.known.numbers s.stream f))
 
--- the one library function that takes a format
 abbrev pub takes_format : LibFn → Bool
-takes_format lib.Printf = true
-takes_format f = false
+takes_format f = (signature_of f).takes_format
 
 abbrev pub called_library : State → Place → LibFn → Option Tree → List OperandView → Ruled OperandView
 called_library s at f format arguments = cond (takes_format f) (printf_call s.known at format arguments) (library_call s at f arguments)

@@ -460,41 +460,6 @@ fn library_call(
     Ok(library_called(cx, place, ctype, function, arguments)?)
 }
 
-/// Whether a library function takes a format and what the format wants.
-fn takes_format(function: LibFn) -> bool
-    ensures { result ≡ spec.takes_format function }
-{
-    match function {
-        LibFn::Printf => true,
-        LibFn::Malloc
-        | LibFn::Calloc
-        | LibFn::Realloc
-        | LibFn::Free
-        | LibFn::Memcpy
-        | LibFn::Memmove
-        | LibFn::Memset
-        | LibFn::Strlen
-        | LibFn::Strcpy
-        | LibFn::Strncpy
-        | LibFn::Strcat
-        | LibFn::Strcmp
-        | LibFn::Isalpha
-        | LibFn::Isdigit
-        | LibFn::Isspace
-        | LibFn::Isupper
-        | LibFn::Islower
-        | LibFn::Isalnum
-        | LibFn::Toupper
-        | LibFn::Tolower
-        | LibFn::Getchar
-        | LibFn::Fgets
-        | LibFn::Putchar
-        | LibFn::Puts
-        | LibFn::Exit
-        | LibFn::Abort => false,
-    }
-}
-
 /// A call of a library function.
 fn called_library(
     cx: &Context,
@@ -505,7 +470,7 @@ fn called_library(
 ) -> Result<Operand, Stop>
     ensures { Gives operand_view (spec.called_library (state cx.now) place function (option_map (λ e. tree_of e.now) format.entry) (map operand_view arguments.items)) result }
 {
-    if takes_format(function) {
+    if function.signature().takes_format {
         printf_call(cx, place, format, arguments)
     } else {
         library_call(cx, place, function, arguments)

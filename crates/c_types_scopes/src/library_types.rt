@@ -5,93 +5,9 @@ ghost use Rattle.c_layout.specs.Types.{view, Pointer};
 ghost use Rattle.c_types_scopes.specs.LibraryTypes as spec;
 
 use crate::data_models::DataModel;
-use c_layout::{CType, LibFn};
+use c_layout::{CType, LibFn, Slot};
 use c_types_rules::rules::{char_kind, int_kind, size_kind};
 use std::alloc::{AllocError, Global};
-
-/// A type in a library function's prototype.
-#[derive(Clone, Copy, PartialEq, Eq, Debug)]
-enum Slot {
-    Void,
-    Int,
-    Size,
-    /// `char *`
-    Text,
-    /// `void *`
-    Memory,
-    /// `FILE *`
-    Stream,
-}
-
-/// The result.
-fn result_slot(function: LibFn) -> Slot
-    ensures { result ≡ spec.result_slot function }
-{
-    match function {
-        LibFn::Malloc => Slot::Memory,
-        LibFn::Calloc => Slot::Memory,
-        LibFn::Realloc => Slot::Memory,
-        LibFn::Free => Slot::Void,
-        LibFn::Memcpy => Slot::Memory,
-        LibFn::Memmove => Slot::Memory,
-        LibFn::Memset => Slot::Memory,
-        LibFn::Strlen => Slot::Size,
-        LibFn::Strcpy => Slot::Text,
-        LibFn::Strncpy => Slot::Text,
-        LibFn::Strcat => Slot::Text,
-        LibFn::Strcmp => Slot::Int,
-        LibFn::Isalpha => Slot::Int,
-        LibFn::Isdigit => Slot::Int,
-        LibFn::Isspace => Slot::Int,
-        LibFn::Isupper => Slot::Int,
-        LibFn::Islower => Slot::Int,
-        LibFn::Isalnum => Slot::Int,
-        LibFn::Toupper => Slot::Int,
-        LibFn::Tolower => Slot::Int,
-        LibFn::Getchar => Slot::Int,
-        LibFn::Fgets => Slot::Text,
-        LibFn::Putchar => Slot::Int,
-        LibFn::Puts => Slot::Int,
-        LibFn::Printf => Slot::Int,
-        LibFn::Exit => Slot::Void,
-        LibFn::Abort => Slot::Void,
-    }
-}
-
-/// The parameters; of `printf` none, since its format says what follows.
-fn parameter_slots(function: LibFn) -> &'static [Slot]
-    ensures { result.now ≡ spec.parameter_slots function }
-{
-    match function {
-        LibFn::Malloc => &[Slot::Size],
-        LibFn::Calloc => &[Slot::Size, Slot::Size],
-        LibFn::Realloc => &[Slot::Memory, Slot::Size],
-        LibFn::Free => &[Slot::Memory],
-        LibFn::Memcpy => &[Slot::Memory, Slot::Memory, Slot::Size],
-        LibFn::Memmove => &[Slot::Memory, Slot::Memory, Slot::Size],
-        LibFn::Memset => &[Slot::Memory, Slot::Int, Slot::Size],
-        LibFn::Strlen => &[Slot::Text],
-        LibFn::Strcpy => &[Slot::Text, Slot::Text],
-        LibFn::Strncpy => &[Slot::Text, Slot::Text, Slot::Size],
-        LibFn::Strcat => &[Slot::Text, Slot::Text],
-        LibFn::Strcmp => &[Slot::Text, Slot::Text],
-        LibFn::Isalpha => &[Slot::Int],
-        LibFn::Isdigit => &[Slot::Int],
-        LibFn::Isspace => &[Slot::Int],
-        LibFn::Isupper => &[Slot::Int],
-        LibFn::Islower => &[Slot::Int],
-        LibFn::Isalnum => &[Slot::Int],
-        LibFn::Toupper => &[Slot::Int],
-        LibFn::Tolower => &[Slot::Int],
-        LibFn::Getchar => &[],
-        LibFn::Fgets => &[Slot::Text, Slot::Int, Slot::Stream],
-        LibFn::Putchar => &[Slot::Int],
-        LibFn::Puts => &[Slot::Text],
-        LibFn::Printf => &[],
-        LibFn::Exit => &[Slot::Int],
-        LibFn::Abort => &[],
-    }
-}
 
 /// A pointer to a type.
 fn pointer_to(alloc: Global, target: CType) -> Result<CType, AllocError>
@@ -142,7 +58,8 @@ pub fn library_signature(
     ensures result { IfOk result (λ made. view made.0 ≡ spec.library_result model.now.numbers stream function) }
     ensures parameters { IfOk result (λ made. map view made.1.items ≡ spec.library_parameters model.now.numbers stream function) }
 {
-    let parameters = slot_types(alloc, model, parameter_slots(function), stream)?;
-    let made = slot_type(alloc, model, result_slot(function), stream)?;
+    let signature = function.signature();
+    let parameters = slot_types(alloc, model, signature.parameters, stream)?;
+    let made = slot_type(alloc, model, signature.result, stream)?;
     Ok((made, parameters))
 }

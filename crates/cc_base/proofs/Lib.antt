@@ -2,5 +2,5 @@ pub mod Names
 pub mod Filling
 mod Sorting
 mod DiagnosticOrder
-mod RuleOrder
+pub mod RuleOrder
 pub mod Closed

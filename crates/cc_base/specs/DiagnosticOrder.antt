@@ -1,5 +1,5 @@
 -- The order in which diagnostics are told: by file, line, column, and then by tag.
-use Rattle.std.specs.Prelude.{ℕ, List, Contains}
+use Rattle.std.specs.Prelude.{ℕ, ◌==◌, Bool, List, Contains}
 use Rattle.std.specs.Ordering.{nat_cmp, ordering_then}
 use Rattle.std.specs.List.Sorted.{IsStrictlySortedBy}
 use Rattle.std.specs.declared.cmp.Ordering.{Ordering}
@@ -28,6 +28,9 @@ rule_rank Swtchdflt = 14
 rule_rank Taintsink = 15
 rule_rank Uninitref = 16
 rule_rank Xfree = 17
+
+abbrev pub same_rule : Rule → Rule → Bool
+same_rule r s = rule_rank r == rule_rank s
 
 -- by file, then line, then column
 abbrev pub place_compare : Place → Place → Ordering

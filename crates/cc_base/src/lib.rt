@@ -16,6 +16,7 @@ mod memory_tree;
 mod number_ranges;
 mod outside;
 mod refusals;
+mod rule_table;
 mod sorted_lists;
 mod standard_sink;
 mod step_counter;
@@ -41,6 +42,7 @@ pub use number_ranges::{
 };
 pub use outside::{LONGEST_FILE, Sink, SinkFailed, Tree, TreeFault};
 pub use refusals::{Fault, Memory, Refusal, Stop};
+pub use rule_table::RULES;
 pub use sorted_lists::{ordered, ordered_diagnostics};
 pub use standard_sink::StdSink;
 pub use step_counter::Steps;

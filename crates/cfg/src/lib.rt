@@ -15,6 +15,5 @@ mod threshold_numbers;
 pub use basic_blocks::BasicBlock;
 pub use flow_edges::{CaseTest, Edge, EdgeKind, Side, Test};
 pub use machine_instructions::{Amount, Instruction, Operation, Scalar};
-pub use member_numbers::type_bytes;
 pub use programs::{Flow, InitialObject, InitialValue, ParameterInput};
 pub use threshold_choice::thresholds;

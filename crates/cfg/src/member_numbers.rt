@@ -1,32 +1,10 @@
 //! The offsets and ends of the members of structs.
 ghost use Rattle.std.specs.Prelude.{◌≡◌, ◌++◌, IfOk, map};
-ghost use Rattle.c_layout.specs.Types.{view};
 ghost use Rattle.c_layout.specs.StructViews.{field_view, struct_view, structs_view};
-ghost use Rattle.c_layout.specs.Layout.{size_of_type};
 ghost use Rattle.cfg.specs.StructNumbers.{field_numbers, fields_numbers, struct_numbers, structs_numbers};
 
-use c_layout::{CType, Field, StructType, Structs};
+use c_layout::{Field, StructType, Structs, type_bytes};
 use std::alloc::AllocError;
-
-/// The size of a type in bytes; one that no u64 holds comes to want of memory, since no complete
-/// type has one.
-pub fn type_bytes(t: &CType, structs: &Structs, pointer: u8) -> Result<u64, AllocError>
-    ensures { IfOk result (λ n. n ≡ size_of_type (structs_view structs.now) pointer (view t.now)) }
-{
-    match t {
-        CType::Int(kind) => Ok(kind.bytes as u64),
-        CType::Pointer(_) => Ok(pointer as u64),
-        CType::Array(element, count) => {
-            let inner = type_bytes(element, structs, pointer)?;
-            count.checked_mul(inner).ok_or(AllocError)
-        }
-        CType::Struct(index) => match structs.items.get(*index as usize) {
-            Some(found) => Ok(found.size),
-            None => Ok(0),
-        },
-        CType::Void => Ok(0),
-    }
-}
 
 fn push_field(
     out: &mut Vec<i128>,

@@ -14,7 +14,8 @@ use Rattle.c_preproc.proofs.Own.{own_caused}
 use Rattle.cli_words.specs.Words.Requests.{CommandView, Asked, Help, Version, Check, Load, Refused}
 use Rattle.cli_texts.specs.Reports.{Bytes, file_name}
 use Rattle.cli_texts.specs.LoadUnits.{load_of}
-use Rattle.cli_texts.specs.FixedTexts.{help_text, version_text, words_refused_text}
+use Rattle.cli_texts.specs.HelpTexts.{help_text}
+use Rattle.cli_texts.specs.FixedTexts.{version_text, words_refused_text}
 use Rattle.cli_answers.specs.declared.model_choice.ModelChoice.{ModelChoice}
 use Rattle.cli_answers.specs.declared.model_choice.ModelChoice.TheVariants.{Chosen}
 use Rattle.cli_answers.specs.Choices.{IsChoice}

@@ -40,7 +40,8 @@ use Rattle.cli_texts.specs.JsonReports.{json_of}
 use Rattle.sarif.specs.Reports.{sarif_of}
 use Rattle.cli_texts.specs.Summaries.{summary_of}
 use Rattle.cli_texts.specs.Refusals.{limit_line, refusal_line, refusal_status}
-use Rattle.cli_texts.specs.FixedTexts.{help_text, version_text, words_refused_text, no_file_text, too_long_text, no_model_text, no_baseline_text, no_draws_text, cert_too_long_text, cert_refused_text}
+use Rattle.cli_texts.specs.HelpTexts.{help_text}
+use Rattle.cli_texts.specs.FixedTexts.{version_text, words_refused_text, no_file_text, too_long_text, no_model_text, no_baseline_text, no_draws_text, cert_too_long_text, cert_refused_text}
 
 -- one for each kind of answer that has a text
 pub data Verdict : Type 0 where

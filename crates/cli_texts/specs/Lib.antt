@@ -4,3 +4,4 @@ pub mod JsonReports
 pub mod FixedTexts
 pub mod Summaries
 pub mod LoadUnits
+pub mod HelpTexts

@@ -1,38 +1,13 @@
 -- The summary that `load` prints: bases and cells, a line for each rule that has diagnostics, and their
 -- number.
-use Rattle.std.specs.Prelude.{ℕ, Bool, true, false, nat_lt, List, [], ◌∷◌, ◌++◌, length, codes, if◌then◌else◌}
+use Rattle.std.specs.Prelude.{ℕ, nat_lt, List, [], ◌∷◌, ◌++◌, length, codes, if◌then◌else◌}
 use Rattle.std.specs.List.{count_by}
 use Rattle.std.specs.Fmt.{decimal}
 use Rattle.cc_base.specs.declared.diagnostics.Rule.{Rule}
-use Rattle.cc_base.specs.declared.diagnostics.Rule.TheVariants.{Accfree, Boolasgn, Chrsgnext, Dblfree, Diverr, Insufmem, Intoflow, Invptr, Libptr, Nonnullcs, Nullref, Ptrobj, Sizeofptr, Strmod, Swtchdflt, Taintsink, Uninitref, Xfree}
 use Rattle.cc_base.specs.declared.diagnostics.Diag.{Diag}
-use Rattle.cc_base.specs.Rules.{tag_of}
+use Rattle.cc_base.specs.DiagnosticOrder.{same_rule}
+use Rattle.cc_base.specs.Rules.{all_rules, tag_of}
 use Rattle.cli_texts.specs.Reports.{Bytes, last_line}
-
--- the rules, in the order of their tags
-abbrev pub all_rules : List Rule
-all_rules = Accfree ∷ (Boolasgn ∷ (Chrsgnext ∷ (Dblfree ∷ (Diverr ∷ (Insufmem ∷ (Intoflow ∷ (Invptr ∷ (Libptr ∷ (Nonnullcs ∷ (Nullref ∷ (Ptrobj ∷ (Sizeofptr ∷ (Strmod ∷ (Swtchdflt ∷ (Taintsink ∷ (Uninitref ∷ (Xfree ∷ [])))))))))))))))))
-
-abbrev pub same_rule : Rule → Rule → Bool
-same_rule Accfree Accfree = true
-same_rule Boolasgn Boolasgn = true
-same_rule Chrsgnext Chrsgnext = true
-same_rule Dblfree Dblfree = true
-same_rule Diverr Diverr = true
-same_rule Insufmem Insufmem = true
-same_rule Intoflow Intoflow = true
-same_rule Invptr Invptr = true
-same_rule Libptr Libptr = true
-same_rule Nonnullcs Nonnullcs = true
-same_rule Nullref Nullref = true
-same_rule Ptrobj Ptrobj = true
-same_rule Sizeofptr Sizeofptr = true
-same_rule Strmod Strmod = true
-same_rule Swtchdflt Swtchdflt = true
-same_rule Taintsink Taintsink = true
-same_rule Uninitref Uninitref = true
-same_rule Xfree Xfree = true
-same_rule _ _ = false
 
 -- how many diagnostics are of a rule
 abbrev pub count_of : List Diag → Rule → ℕ

@@ -3,6 +3,7 @@
 
 mod answers;
 mod fixed_texts;
+mod help_text;
 mod json_report;
 mod load_summary;
 mod loaded_units;
@@ -13,9 +14,10 @@ mod text_report;
 
 pub use answers::Answer;
 pub use fixed_texts::{
-    cert_refused, cert_too_long, file_too_long, help, no_baseline, no_draws, no_file, no_model,
-    version, words_refused,
+    cert_refused, cert_too_long, file_too_long, no_baseline, no_draws, no_file, no_model, version,
+    words_refused,
 };
+pub use help_text::help;
 pub use json_report::report_json;
 pub use load_summary::summary;
 pub use loaded_units::load_unit;

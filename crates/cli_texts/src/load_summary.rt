@@ -1,34 +1,14 @@
 //! The summary that `load` prints.
 ghost use Rattle.std.specs.Prelude.{◌≡◌, ◌++◌, IfOk, string_bytes};
+ghost use Rattle.cc_base.specs.DiagnosticOrder.{same_rule};
 ghost use Rattle.cli_texts.specs.Reports.{last_line};
-ghost use Rattle.cli_texts.specs.Summaries.{same_rule, count_of, rule_line, rule_part, rule_parts, rule_lines, first_line, summary_of};
+ghost use Rattle.cli_texts.specs.Summaries.{count_of, rule_line, rule_part, rule_parts, rule_lines, first_line, summary_of};
 
 use crate::text_report::count_line;
-use cc_base::{Diag, Rule};
+use cc_base::{Diag, RULES, Rule};
 use std::alloc::{AllocError, Global};
 
-/// The rules, in the order of their tags.
-const RULES: [Rule; 18] = [
-    Rule::Accfree,
-    Rule::Boolasgn,
-    Rule::Chrsgnext,
-    Rule::Dblfree,
-    Rule::Diverr,
-    Rule::Insufmem,
-    Rule::Intoflow,
-    Rule::Invptr,
-    Rule::Libptr,
-    Rule::Nonnullcs,
-    Rule::Nullref,
-    Rule::Ptrobj,
-    Rule::Sizeofptr,
-    Rule::Strmod,
-    Rule::Swtchdflt,
-    Rule::Taintsink,
-    Rule::Uninitref,
-    Rule::Xfree,
-];
-
+#[tactic(auto, using(cc_base::proofs::RuleOrder::rank_equals))]
 fn is_same(one: Rule, other: Rule) -> bool
     ensures { result ≡ same_rule one other }
 {

@@ -1,5 +1,4 @@
 pub mod TestViews
-pub mod ReadViews
 pub mod ItemViews
 pub mod StackViews
 pub mod Scans

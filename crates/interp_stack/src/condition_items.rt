@@ -4,13 +4,13 @@ ghost use Rattle.c_layout.specs.CheckedTrees.{term_tree};
 ghost use Rattle.c_layout.specs.CheckedUnits.{UnitView};
 ghost use Rattle.semantics.specs.SourceMachine.Items.{items_of};
 ghost use Rattle.semantics.specs.SourceMachine.ConditionItems.{line_items, leaf_by, leaf, condition};
-ghost use Rattle.interp_stack.specs.ReadViews.{read_view_of};
+ghost use Rattle.lower_conditions.specs.Conditions.{read_view_of};
 ghost use Rattle.interp_stack.specs.StackViews.{on_logical, with_items, Stacks};
 
 use crate::items::{Item7, Use7};
-use crate::line_reads::{ReadTest, read_by};
 use crate::store_items::push_item;
 use c_layout::{CheckedTerm, LogicalOp, TermForm};
+use lower_conditions::{ReadTest, read_by};
 use std::alloc::AllocError;
 
 // A call of `fgets` that a condition tests alone.

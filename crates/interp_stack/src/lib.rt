@@ -3,7 +3,6 @@
 
 mod condition_items;
 mod items;
-mod line_reads;
 mod named_tests;
 mod scopes;
 mod store_items;

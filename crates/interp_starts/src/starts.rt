@@ -3,8 +3,8 @@
 
 mod static_objects;
 mod texts;
-mod whole_types;
+mod type_layouts;
 
 pub use static_objects::{literal_instance, literal_size, make_input, make_literal, make_object};
 pub use texts::spell;
-pub use whole_types::{TypeLayout, is_sound, layout_of};
+pub use type_layouts::{TypeLayout, layout_of};

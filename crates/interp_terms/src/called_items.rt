@@ -56,38 +56,6 @@ pub fn push_call<'a>(
     Ok(())
 }
 
-fn gives(function: LibFn) -> bool
-    ensures { result ≡ calls.gives function }
-{
-    match function {
-        LibFn::Free | LibFn::Exit | LibFn::Abort => false,
-        LibFn::Malloc
-        | LibFn::Calloc
-        | LibFn::Realloc
-        | LibFn::Memcpy
-        | LibFn::Memmove
-        | LibFn::Memset
-        | LibFn::Strlen
-        | LibFn::Strcpy
-        | LibFn::Strncpy
-        | LibFn::Strcat
-        | LibFn::Strcmp
-        | LibFn::Isalpha
-        | LibFn::Isdigit
-        | LibFn::Isspace
-        | LibFn::Isupper
-        | LibFn::Islower
-        | LibFn::Isalnum
-        | LibFn::Toupper
-        | LibFn::Tolower
-        | LibFn::Getchar
-        | LibFn::Fgets
-        | LibFn::Putchar
-        | LibFn::Puts
-        | LibFn::Printf => true,
-    }
-}
-
 fn allocated_type<'a>(allocated: &'a Option<CType>) -> Option<&'a CType>
     ensures { type_seen result ≡ option_map view allocated.now }
 {
@@ -127,7 +95,7 @@ pub fn push_library<'a>(
 ) -> Result<(), AllocError>
     ensures { (u : UnitView) → Stacks u (λ s. with_items (spec.left_if (calls.gives function) used (spec.library_items at function (term_trees (map term_tree arguments.now)) (option_map view allocated.now))) s) control.old.items result control.new.items }
 {
-    push_if_unused(control, is_kept(used, gives(function)))?;
+    push_if_unused(control, is_kept(used, function.gives()))?;
     push_asked(control, at, function, arguments, allocated)?;
     Ok(())
 }

@@ -11,9 +11,9 @@ ghost use Rattle.semantics.specs.SourceMachine.TermItems.{address_items, convert
 ghost use Rattle.interp_stack.specs.ItemViews.{operation_view, order_view};
 ghost use Rattle.interp_stack.specs.StackViews.{with_item, with_items, unless_used, Stacks, Adds};
 
-use c_layout::{BinaryOp, CType, Checked, CheckedTerm, Lvalue, LvalueForm};
+use c_layout::{BinaryOp, CType, Checked, CheckedTerm, Lvalue, LvalueForm, type_bytes};
 use cc_base::{IntType, Place};
-use cfg::{Scalar, type_bytes};
+use cfg::Scalar;
 use interp_stack::{Item7, Operation7, Order7, Use7, push_item};
 use lower_templates::worklist::{OperatorMeaning, integer_type, meaning, scalar};
 use std::alloc::AllocError;

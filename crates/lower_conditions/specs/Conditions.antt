@@ -15,8 +15,8 @@ use Rattle.lower_templates.specs.Worklist.Settings.{SettingView}
 use Rattle.lower_templates.specs.declared.worklist.pending_works.Targets.{Targets}
 use Rattle.lower_templates.specs.declared.worklist.pending_works.Decision.{Decision}
 use Rattle.lower_expressions.specs.declared.branched_values.Known.{Known}
-use Rattle.lower_conditions.specs.declared.branch_conditions.LineCall.{LineCall}
-use Rattle.lower_conditions.specs.declared.branch_conditions.ReadTest.{ReadTest}
+use Rattle.lower_conditions.specs.declared.line_reads.LineCall.{LineCall}
+use Rattle.lower_conditions.specs.declared.line_reads.ReadTest.{ReadTest}
 use Rattle.lower_expressions.specs.Branches.{branch, left_targets}
 use Rattle.lower_expressions.specs.Calls.{reads_line, read_line}
 use Rattle.lower_conditions.specs.Tests as tests

@@ -1,12 +1,13 @@
 -- Calls: the arguments from left to right, and then the call.
-use Rattle.std.specs.Prelude.{ℕ, Bool, true, false, cond, List, [], ◌∷◌, length, Option, Some, None}
+use Rattle.std.specs.Prelude.{ℕ, Bool, cond, List, [], ◌∷◌, length, Option, Some, None}
 use Rattle.cc_base.specs.declared.diagnostics.Place.{Place}
 use Rattle.c_layout.specs.Types.{Ty}
 use Rattle.c_layout.specs.Layout.{size_of_type}
 use Rattle.c_layout.specs.CheckedTrees as tree
 use Rattle.c_layout.specs.CheckedTrees.{TermTrees}
+use Rattle.c_layout.specs.LibrarySignatures as signatures
+use Rattle.c_layout.specs.LibrarySignatures.{signature_of}
 use Rattle.c_layout.specs.declared.library_functions.LibFn.{LibFn}
-use Rattle.c_layout.specs.declared.library_functions.LibFn.TheVariants.{Malloc, Calloc, Realloc, Free, Exit, Abort, Fgets}
 use Rattle.lower_templates.specs.declared.worklist.template_pieces.Exit.{Exit as ExitOf}
 use Rattle.lower_templates.specs.Worklist.Acts.{Library, ReadLine}
 use Rattle.lower_templates.specs.Worklist.Pieces.{Allocation, ExitView, exits_view, NoLine, Line, Call}
@@ -31,20 +32,13 @@ abbrev pub own_call : Place → ℕ → TermTrees → Bool → ℕ → Plan → 
 own_call at function args used depth p = with_work (Ready (Call (record { place = at; function = function; depth = depth; used = used }))) (argued args depth p)
 
 abbrev pub gives : LibFn → Bool
-gives Free = false
-gives Exit = false
-gives Abort = false
-gives _ = true
+gives = signatures.gives
 
 abbrev pub is_allocation : LibFn → Bool
-is_allocation Malloc = true
-is_allocation Calloc = true
-is_allocation Realloc = true
-is_allocation _ = false
+is_allocation function = (signature_of function).allocates
 
 abbrev pub reads_line : LibFn → Bool
-reads_line Fgets = true
-reads_line _ = false
+reads_line function = (signature_of function).reads_line
 
 abbrev pub result_temp : LibFn → ℕ → Option ℕ
 result_temp function depth = cond (gives function) (Some depth) None

@@ -67,43 +67,10 @@ pub fn own_call<'a>(
     })))
 }
 
-/// Whether a library function gives a value.
-fn gives(function: LibFn) -> bool
-    ensures { result ≡ spec.gives function }
-{
-    match function {
-        LibFn::Free => false,
-        LibFn::Exit => false,
-        LibFn::Abort => false,
-        _ => true,
-    }
-}
-
-fn is_allocation(function: LibFn) -> bool
-    ensures { result ≡ spec.is_allocation function }
-{
-    match function {
-        LibFn::Malloc => true,
-        LibFn::Calloc => true,
-        LibFn::Realloc => true,
-        _ => false,
-    }
-}
-
-/// Whether a library function reads a line, which ends its block.
-pub fn reads_line(function: LibFn) -> bool
-    ensures { result ≡ spec.reads_line function }
-{
-    match function {
-        LibFn::Fgets => true,
-        _ => false,
-    }
-}
-
 fn result_temp(function: LibFn, depth: u32) -> Option<u32>
     ensures { result ≡ spec.result_temp function depth }
 {
-    if gives(function) { Some(depth) } else { None }
+    if function.gives() { Some(depth) } else { None }
 }
 
 /// The newest base of an allocation.
@@ -114,7 +81,7 @@ fn allocated<'a>(
 ) -> Result<Option<u32>, AllocError>
     ensures { IfOk result (λ b. spec.sited b (plan builder.new) ≡ spec.allocated function (target_view target.entry) (plan builder.old)) }
 {
-    if is_allocation(function) {
+    if function.signature().allocates {
         let base = builder.base(BaseName::Allocation(target))?;
         Ok(Some(base))
     } else {
@@ -181,7 +148,7 @@ pub fn library_call<'a>(
 ) -> Result<(), AllocError>
     ensures { IfOk result (λ _. plan builder.new ≡ spec.library_call (setting cx.now) place function (term_trees (map term_tree arguments.now)) (option_map view target.now) depth (plan builder.old)) }
 {
-    if reads_line(function) {
+    if function.signature().reads_line {
         line_value(builder, place, arguments, depth)
     } else {
         plain_call(cx, builder, place, function, arguments, target, depth)

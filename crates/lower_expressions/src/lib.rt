@@ -8,6 +8,6 @@ mod lvalue_pointers;
 mod term_values;
 
 pub use branched_values::{Known, branch, jump, left_targets};
-pub use called_values::{read_line, reads_line};
+pub use called_values::read_line;
 pub use lvalue_pointers::address_works;
 pub use term_values::term_works;

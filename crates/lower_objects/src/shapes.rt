@@ -2,6 +2,5 @@
 
 mod shapes_of_bases;
 mod struct_zeros;
-mod whole_types;
 
 pub use shapes_of_bases::{heap_leaves, heap_shape, object_shape};

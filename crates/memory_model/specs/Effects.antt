@@ -14,6 +14,5 @@ pub mod LibraryChecks
 pub mod AllocationCalls
 pub mod MemoryCalls
 pub mod StringCalls
-pub mod Characters
 pub mod CharacterCalls
 pub mod LibraryCalls

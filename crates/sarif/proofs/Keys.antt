@@ -5,7 +5,7 @@ use Rattle.std.specs.Ordering.{is_eq}
 use Rattle.std.specs.Cmp.{both_tied, unsigned_ties}
 use Rattle.std.specs.Cmp.Lexicographic.{texts_ties}
 use Rattle.cc_base.specs.DiagnosticOrder.{rule_rank}
-use Rattle.sarif.proofs.Ranks.{ranks_tie}
+use Rattle.cc_base.proofs.RuleOrder.{ranks_tie}
 use Rattle.sarif.specs.contracts.fresh_diagnostics.KeyOrd.TheImpl as order
 use Rattle.sarif.specs.declared.fresh_diagnostics.Key.{Key}
 use Rattle.sarif.specs.declared.known_results.Known.{Known}

@@ -2,7 +2,6 @@ pub mod Values
 pub mod Fractions
 pub mod UriBytes
 pub mod UriRound
-pub mod Ranks
 pub mod Keys
 pub mod Lines
 pub mod Plain

@@ -5,8 +5,8 @@ use Rattle.std.proofs.lemmas.List.Elements.{All-head, All-tail, All-nil}
 use Rattle.std.proofs.lemmas.Str.{IsUtf8-append, is_utf8-from_IsUtf8, IsUtf8-nil}
 use Rattle.cc_base.specs.declared.diagnostics.Diag.{Diag}
 use Rattle.cc_base.specs.declared.diagnostics.Rule.{Rule}
-use Rattle.cc_base.specs.declared.diagnostics.Rule.TheVariants.{Accfree, Boolasgn, Chrsgnext, Dblfree, Diverr, Insufmem, Intoflow, Invptr, Libptr, Nonnullcs, Nullref, Ptrobj, Sizeofptr, Strmod, Swtchdflt, Taintsink, Uninitref, Xfree}
-use Rattle.cc_base.specs.Rules.{tag_of, text_of}
+use Rattle.cc_base.proofs.RuleOrder.{passes, rule_read}
+use Rattle.cc_base.specs.Rules.{tag_of, text_of, rule_tagged}
 use Rattle.json.specs.Token.{Token}
 use Rattle.json.specs.Lex.{tokens}
 use Rattle.json.specs.Json as json
@@ -21,7 +21,6 @@ use Rattle.serde_json.specs.Written.{outline, items_outline, compact_text}
 use Rattle.serde_json.proofs.Numbers.{number_of-decimal}
 use Rattle.serde_json.proofs.Texts.{print-outline}
 use Rattle.sarif.specs.Uris.{Bytes, uri_of, file_of_uri}
-use Rattle.sarif.specs.RuleTags.{rule_tagged}
 use Rattle.sarif.specs.Reports.{name_of, result_data, results_data, report_data, sarif_of}
 use Rattle.sarif.specs.Baselines.{position, known_from, known_of, results_known, baseline_of, value_of, baseline_read}
 use Rattle.sarif.specs.Laws.{IsName, IsCounted, known_result}
@@ -30,65 +29,11 @@ use Rattle.sarif.proofs.Plain.{IsPlain, ArePlain, numbers_kept, depth_kept, text
 use Rattle.sarif.proofs.UriRound.{uri_read_back, uri_is_utf8}
 use Rattle.sarif.proofs.Values.{value_read}
 
-rule_read : (r : Rule) → rule_tagged (tag_of r) ≡ Some r
-rule_read Accfree = refl
-rule_read Boolasgn = refl
-rule_read Chrsgnext = refl
-rule_read Dblfree = refl
-rule_read Diverr = refl
-rule_read Insufmem = refl
-rule_read Intoflow = refl
-rule_read Invptr = refl
-rule_read Libptr = refl
-rule_read Nonnullcs = refl
-rule_read Nullref = refl
-rule_read Ptrobj = refl
-rule_read Sizeofptr = refl
-rule_read Strmod = refl
-rule_read Swtchdflt = refl
-rule_read Taintsink = refl
-rule_read Uninitref = refl
-rule_read Xfree = refl
-
 tag_ascii : (r : Rule) → are_ascii (tag_of r) ≡ true
-tag_ascii Accfree = refl
-tag_ascii Boolasgn = refl
-tag_ascii Chrsgnext = refl
-tag_ascii Dblfree = refl
-tag_ascii Diverr = refl
-tag_ascii Insufmem = refl
-tag_ascii Intoflow = refl
-tag_ascii Invptr = refl
-tag_ascii Libptr = refl
-tag_ascii Nonnullcs = refl
-tag_ascii Nullref = refl
-tag_ascii Ptrobj = refl
-tag_ascii Sizeofptr = refl
-tag_ascii Strmod = refl
-tag_ascii Swtchdflt = refl
-tag_ascii Taintsink = refl
-tag_ascii Uninitref = refl
-tag_ascii Xfree = refl
+tag_ascii = passes (λ r. are_ascii (tag_of r)) refl
 
 text_ascii : (r : Rule) → are_ascii (text_of r) ≡ true
-text_ascii Accfree = refl
-text_ascii Boolasgn = refl
-text_ascii Chrsgnext = refl
-text_ascii Dblfree = refl
-text_ascii Diverr = refl
-text_ascii Insufmem = refl
-text_ascii Intoflow = refl
-text_ascii Invptr = refl
-text_ascii Libptr = refl
-text_ascii Nonnullcs = refl
-text_ascii Nullref = refl
-text_ascii Ptrobj = refl
-text_ascii Sizeofptr = refl
-text_ascii Strmod = refl
-text_ascii Swtchdflt = refl
-text_ascii Taintsink = refl
-text_ascii Uninitref = refl
-text_ascii Xfree = refl
+text_ascii = passes (λ r. are_ascii (text_of r)) refl
 
 -- ---- what is read of a result
 

@@ -7,7 +7,7 @@ use Rattle.json.specs.Print.{escape_byte}
 use Rattle.serde_json.specs.Data.{string, array, object, no_items, item, no_members, member}
 use Rattle.sarif.specs.declared.known_results.Known.{Known}
 use Rattle.sarif.specs.Uris.{Bytes, uri_of, uri_bytes}
-use Rattle.sarif.specs.RuleTags.{rule_tagged}
+use Rattle.cc_base.specs.Rules.{rule_tagged}
 use Rattle.sarif.specs.Reports.{sarif_of}
 use Rattle.sarif.specs.Baselines.{position, baseline_of}
 use Rattle.sarif.specs.Comparing.{fresh_of}

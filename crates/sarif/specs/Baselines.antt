@@ -7,7 +7,7 @@ use Rattle.serde_json.specs.Find.{get, at, as_str, as_number, as_u64, as_array}
 use Rattle.serde_json.specs.Read.{read}
 use Rattle.sarif.specs.declared.known_results.Known.{Known}
 use Rattle.sarif.specs.Uris.{Bytes, file_of_uri}
-use Rattle.sarif.specs.RuleTags.{rule_tagged}
+use Rattle.cc_base.specs.Rules.{rule_tagged}
 
 -- a text at a key
 abbrev pub text_at : Bytes → Data → Option Bytes

@@ -1,5 +1,4 @@
 pub mod Uris
-pub mod RuleTags
 pub mod Reports
 pub mod Baselines
 pub mod Comparing

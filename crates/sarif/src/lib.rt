@@ -8,7 +8,6 @@ mod json_numbers;
 mod json_values;
 mod known_results;
 mod report;
-mod rule_tags;
 mod single_results;
 mod streamed_results;
 mod theorems;

@@ -4,7 +4,6 @@ ghost use Rattle.serde_json.specs.View.{view};
 ghost use Rattle.sarif.specs.Baselines.{text_at, position, position_at, location_of, uri_at, file_at, region_position, rule_of, known_from, known_at, known_of};
 
 use crate::known_results::Known;
-use crate::rule_tags::rule_tagged;
 use crate::uris::file_of_uri;
 use cc_base::{Rule, Text};
 use serde_json::Value;
@@ -76,7 +75,7 @@ fn rule_of(value: &Value) -> Option<Rule>
     ensures { result ≡ rule_of (view value.now) }
 {
     let tag = text_at(value, "ruleId")?;
-    rule_tagged(tag)
+    Rule::tagged(tag)
 }
 
 /// All four parts, or nothing.

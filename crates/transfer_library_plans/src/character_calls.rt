@@ -1,53 +1,15 @@
 //! The functions on characters (7.4 of ISO/IEC 9899:2011), in the "C" locale.
 ghost use Rattle.std.specs.Prelude.{◌≡◌};
-ghost use Rattle.transfer_library_plans.specs.Characters.{is_lower, is_upper, is_digit, is_space, has_class, meets, tested_number, raised, lowered, answer, plan_character};
+ghost use Rattle.transfer_library_plans.specs.Characters.{meets, tested_number, raised, lowered, answer, plan_character};
 ghost use Rattle.value_domain.specs.Values.LabelSets.{no_labels};
 ghost use Rattle.value_domain.specs.Values.ValueTables.{number_value};
 ghost use Rattle.cc_base.specs.IntegerDomains.{between_or_least};
 
 use crate::call_plans::{Effect, Plan, Trail, planned};
-use c_layout::LibFn;
+use c_layout::{LibFn, has_class, is_lower, is_upper};
 use cc_base::{IntDomain, Lattice, between_or_bottom, range_met};
 use transfer_checks::character_violations;
 use value_domain::values::{Labels, Value};
-
-fn is_lower(c: i128) -> bool
-    ensures { result ≡ is_lower c }
-{
-    97 <= c && c <= 122
-}
-
-fn is_upper(c: i128) -> bool
-    ensures { result ≡ is_upper c }
-{
-    65 <= c && c <= 90
-}
-
-fn is_digit(c: i128) -> bool
-    ensures { result ≡ is_digit c }
-{
-    48 <= c && c <= 57
-}
-
-fn is_space(c: i128) -> bool
-    ensures { result ≡ is_space c }
-{
-    c == 32 || (9 <= c && c <= 13)
-}
-
-/// Whether a character is of the class that a function tests.
-fn has_class(function: LibFn, c: i128) -> bool
-    ensures { result ≡ has_class function c }
-{
-    match function {
-        LibFn::Isalpha => is_lower(c) || is_upper(c),
-        LibFn::Isdigit => is_digit(c),
-        LibFn::Isspace => is_space(c),
-        LibFn::Isupper => is_upper(c),
-        LibFn::Islower => is_lower(c),
-        _ => is_lower(c) || is_upper(c) || is_digit(c),
-    }
-}
 
 /// The answer of a test of characters from `lo` to `hi`.
 fn tested<I: IntDomain>(function: LibFn, lo: i128, hi: i128) -> Value<I>

@@ -3,29 +3,16 @@ ghost use Rattle.std.specs.Prelude.{◌≡◌};
 ghost use Rattle.std.specs.List.{list_all};
 ghost use Rattle.analysis_preconditions.specs.Objects.Sites as spec;
 
-use c_layout::LibFn;
 use cfg::{BasicBlock, Flow, Instruction, Operation};
-
-fn allocates(name: LibFn) -> bool
-    ensures { result ≡ spec.allocates name }
-{
-    matches!(name, LibFn::Malloc | LibFn::Calloc | LibFn::Realloc)
-}
 
 /// Whether a call that allocates has a site.
 fn has_site(operation: &Operation) -> bool
     ensures { result ≡ spec.has_site operation.now }
 {
     match operation {
-        Operation::Library(_, name, _, site, _) => !allocates(*name) || site.is_some(),
+        Operation::Library(_, name, _, site, _) => !name.signature().allocates || site.is_some(),
         _ => true,
     }
-}
-
-fn is_fgets(name: LibFn) -> bool
-    ensures { result ≡ spec.is_fgets name }
-{
-    matches!(name, LibFn::Fgets)
 }
 
 /// Whether an operation is no call of `fgets` within a block.
@@ -33,7 +20,7 @@ fn reads_no_line(operation: &Operation) -> bool
     ensures { result ≡ spec.reads_no_line operation.now }
 {
     match operation {
-        Operation::Library(_, name, _, _, _) => !is_fgets(*name),
+        Operation::Library(_, name, _, _, _) => !name.signature().reads_line,
         _ => true,
     }
 }

@@ -4,18 +4,19 @@ use Rattle.std.specs.Prelude.{ℤ}
 use Rattle.std.proofs.lemmas.Bool.{true≢false}
 use Rattle.cc_base.specs.Lattices.{LatticeOf}
 use Rattle.cc_base.specs.IntegerDomains.{IntegersOf}
+use Rattle.c_layout.specs.LibrarySignatures.{signature_of}
 use Rattle.c_layout.specs.declared.library_functions.LibFn.{LibFn}
 use Rattle.c_layout.specs.declared.library_functions.LibFn.TheVariants as f
 use Rattle.cfg.specs.declared.machine_instructions.Operation.{Operation}
 use Rattle.cfg.specs.declared.machine_instructions.Operation.TheVariants as op
 use Rattle.cfg.specs.declared.programs.Flow.{Flow}
-use Rattle.analysis_preconditions.specs.Objects.Sites.{is_fgets, reads_no_line, ends_with_lines}
+use Rattle.analysis_preconditions.specs.Objects.Sites.{reads_no_line, ends_with_lines}
 use Rattle.transfer_sound.specs.Values.SoundSteps.{AreSound}
 use Rattle.transfer_sound.specs.Induction.SoundEnds.{IsDoneIn}
 use Rattle.analysis_sound.specs.Programs.OpenSteps.{IsOpenCall, IsOpenStep}
 use Rattle.analysis_sound.proofs.analyses.Instructions.{done_in}
 
-not_open : (name : LibFn) → not (is_fgets name) ≡ true → IsOpenCall name → ⊥
+not_open : (name : LibFn) → not (signature_of name).reads_line ≡ true → IsOpenCall name → ⊥
 not_open f.Fgets h c = true≢false (sym h)
 not_open _ h c = absurd c
 

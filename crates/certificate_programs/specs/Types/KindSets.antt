@@ -7,8 +7,10 @@ use Rattle.cc_base.specs.declared.int_types.IntType.{IntType}
 use Rattle.c_layout.specs.declared.data_model.Model.{Model}
 use Rattle.c_layout.specs.declared.leaf_lists.Class.{Class}
 use Rattle.c_layout.specs.declared.leaf_lists.Class.TheVariants.{Char, Short, Int, Long, LongLong, Pointer}
+use Rattle.c_layout.specs.LibrarySignatures.{signature_of}
 use Rattle.c_layout.specs.declared.library_functions.LibFn.{LibFn}
-use Rattle.c_layout.specs.declared.library_functions.LibFn.TheVariants.{Malloc, Calloc, Realloc, Memcpy, Memmove, Memset, Strlen, Strcpy, Strncpy, Strcat, Fgets}
+use Rattle.c_layout.specs.declared.library_signatures.Slot.{Slot}
+use Rattle.c_layout.specs.declared.library_signatures.Slot.TheVariants as slot
 use Rattle.cfg.specs.declared.machine_instructions.Scalar.{Scalar}
 use Rattle.cfg.specs.declared.machine_instructions.Scalar.TheVariants as scalar
 
@@ -55,19 +57,16 @@ leaves m LongLong signed = integers_of m.long_long signed
 leaves m Pointer signed = pointers
 
 -- what a library function gives
+abbrev pub of_slot : Model → Slot → ℕ
+of_slot m slot.Memory = pointers
+of_slot m slot.Text = pointers
+of_slot m slot.Stream = pointers
+of_slot m slot.Size = sizes m
+of_slot m slot.Int = int m
+of_slot m slot.Void = int m
+
 abbrev pub results : Model → LibFn → ℕ
-results m Malloc = pointers
-results m Calloc = pointers
-results m Realloc = pointers
-results m Memcpy = pointers
-results m Memmove = pointers
-results m Memset = pointers
-results m Strcpy = pointers
-results m Strncpy = pointers
-results m Strcat = pointers
-results m Fgets = pointers
-results m Strlen = sizes m
-results m _ = int m
+results m function = of_slot m (signature_of function).result
 
 -- ---- what is among the types
 

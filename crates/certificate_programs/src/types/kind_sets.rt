@@ -3,7 +3,7 @@ ghost use Rattle.std.specs.Prelude.{◌≡◌, true};
 ghost use Rattle.cc_base.specs.IntegerTypes.{is_size};
 ghost use Rattle.certificate_programs.specs.Types.KindSets as spec;
 
-use c_layout::{Class, LibFn, Model};
+use c_layout::{Class, LibFn, Model, Slot};
 use cc_base::IntType;
 use cfg::Scalar;
 
@@ -88,19 +88,10 @@ pub fn leaves(model: &Model, class: Class, signed: bool) -> Kinds
 pub fn results(model: &Model, name: LibFn) -> Kinds
     ensures { result ≡ spec.results model.now name }
 {
-    match name {
-        LibFn::Malloc
-        | LibFn::Calloc
-        | LibFn::Realloc
-        | LibFn::Memcpy
-        | LibFn::Memmove
-        | LibFn::Memset
-        | LibFn::Strcpy
-        | LibFn::Strncpy
-        | LibFn::Strcat
-        | LibFn::Fgets => POINTER,
-        LibFn::Strlen => sizes(model),
-        _ => int(model),
+    match name.signature().result {
+        Slot::Memory | Slot::Text | Slot::Stream => POINTER,
+        Slot::Size => sizes(model),
+        Slot::Int | Slot::Void => int(model),
     }
 }
 

@@ -8,8 +8,10 @@ use Rattle.cc_base.specs.NumberRanges.{Range}
 use Rattle.cc_base.specs.declared.int_types.IntType.{IntType}
 use Rattle.cc_base.specs.declared.integer_operators.IntOp.{IntOp}
 use Rattle.cc_base.specs.declared.integer_operators.IntOp.TheVariants.{Shl, Shr}
+use Rattle.c_layout.specs.LibrarySignatures.{signature_of}
 use Rattle.c_layout.specs.declared.library_functions.LibFn.{LibFn}
-use Rattle.c_layout.specs.declared.library_functions.LibFn.TheVariants as f
+use Rattle.c_layout.specs.declared.library_signatures.SizeArguments.{SizeArguments}
+use Rattle.c_layout.specs.declared.library_signatures.SizeArguments.TheVariants as sizes
 use Rattle.cfg.specs.declared.machine_instructions.Amount.{Amount}
 use Rattle.cfg.specs.declared.machine_instructions.Amount.TheVariants as amount
 use Rattle.cfg.specs.declared.machine_instructions.Instruction.{Instruction}
@@ -47,16 +49,14 @@ module _ {I : Type 0} where
   has_third_size l n flow row (first ∷ (second ∷ (third ∷ []))) = is_size_in l n flow row third
   has_third_size l n flow row arguments = true
 
+  abbrev pub are_sizes : LatticeOf I → IntegersOf I → Flow → List (Cell I) → SizeArguments → List ℕ → Bool
+  are_sizes l n flow row sizes.All arguments = list_all (is_size_in l n flow row) arguments
+  are_sizes l n flow row sizes.Third arguments = has_third_size l n flow row arguments
+  are_sizes l n flow row sizes.None arguments = true
+
   -- what a function takes as a size is one
   abbrev pub takes_size : LatticeOf I → IntegersOf I → Flow → List (Cell I) → LibFn → List ℕ → Bool
-  takes_size l n flow row f.Malloc arguments = list_all (is_size_in l n flow row) arguments
-  takes_size l n flow row f.Calloc arguments = list_all (is_size_in l n flow row) arguments
-  takes_size l n flow row f.Realloc arguments = list_all (is_size_in l n flow row) arguments
-  takes_size l n flow row f.Memset arguments = has_third_size l n flow row arguments
-  takes_size l n flow row f.Memcpy arguments = has_third_size l n flow row arguments
-  takes_size l n flow row f.Memmove arguments = has_third_size l n flow row arguments
-  takes_size l n flow row f.Strncpy arguments = has_third_size l n flow row arguments
-  takes_size l n flow row _ arguments = true
+  takes_size l n flow row function arguments = are_sizes l n flow row (signature_of function).sizes arguments
 
   -- the 1 of `++` and `--` is of each type
   abbrev pub is_amount_within : LatticeOf I → IntegersOf I → Flow → List (Cell I) → IntType → Amount → Bool

@@ -5,7 +5,7 @@ ghost use Rattle.cc_base.specs.IntegerTypes.{is_size};
 ghost use Rattle.diagnose.specs.Diagnostics.AdmittedRules.{instructions_of, reached_row, row_behind};
 ghost use Rattle.diagnose.specs.Operands.TypedRows as spec;
 
-use c_layout::LibFn;
+use c_layout::{LibFn, SizeArguments};
 use cc_base::{IntDomain, IntOp, IntType};
 use cfg::{Amount, Flow, Instruction, Operation, Scalar};
 use transfer_checks::temp_value;
@@ -74,12 +74,10 @@ fn has_third_size<I: IntDomain>(flow: &Flow, row: &[Cell<I>], temps: &[u32]) -> 
 fn takes_size<I: IntDomain>(flow: &Flow, row: &[Cell<I>], name: LibFn, temps: &[u32]) -> bool
     ensures { result ≡ spec.takes_size I.lattice I.numbers flow.now row.now name temps.now }
 {
-    match name {
-        LibFn::Malloc | LibFn::Calloc | LibFn::Realloc => are_sizes(flow, row, temps),
-        LibFn::Memset | LibFn::Memcpy | LibFn::Memmove | LibFn::Strncpy => {
-            has_third_size(flow, row, temps)
-        }
-        _ => true,
+    match name.signature().sizes {
+        SizeArguments::All => are_sizes(flow, row, temps),
+        SizeArguments::Third => has_third_size(flow, row, temps),
+        SizeArguments::None => true,
     }
 }
 

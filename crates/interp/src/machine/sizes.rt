@@ -11,8 +11,7 @@ ghost use Rattle.interp_stack.specs.StackViews.{standing};
 ghost use Rattle.interp_steps.specs.MachineItems.Asked.{type_size, entered_size, first_of, answers_yes, given_size, may_be_freed, called_size, IsMadeBy};
 ghost use Rattle.interp_steps.specs.MachineItems.MachineViews.{items_with, state_view};
 
-use c_layout::{Checked, LibFn};
-use cfg::type_bytes;
+use c_layout::{Checked, LibFn, type_bytes};
 use interp_accesses::{Halt, World7, most_size};
 use interp_memory::{InstKind, InstState, Pointer7, Value7};
 use interp_stack::{Item7, Operation7};

@@ -15,12 +15,11 @@ ghost use Rattle.interp.specs.declared.runs.outcomes.ReplayStop.TheVariants as s
 use crate::machine::begin;
 use crate::runs::outcomes::{End, Outcome, ReplayStop};
 use crate::runs::runs::{follow, no_outcome};
-use c_layout::Checked;
+use c_layout::{Checked, is_sound};
 use cc_base::{Diag, ordered_diagnostics};
 use interp_accesses::World7;
 use interp_memory::Memory7;
 use interp_starts::inputs::{MOST_BYTES, start};
-use interp_starts::starts::is_sound;
 use std::alloc::Global;
 
 /// What the run of a checked unit comes to (5.1.2.3 of ISO/IEC 9899:2011) that takes its numbers of the

@@ -1,87 +1,15 @@
 //! Functions on characters (7.4 of ISO/IEC 9899:2011) in the "C" locale.
-ghost use Rattle.std.specs.Prelude.{◌≡◌, ◌||◌, map};
+ghost use Rattle.std.specs.Prelude.{◌≡◌, map};
 ghost use Rattle.c_layout.specs.declared.library_functions.LibFn.TheVariants as f;
-ghost use Rattle.memory_model.specs.Effects.Characters as characters;
 ghost use Rattle.memory_model.specs.Effects.CharacterCalls as machine;
 ghost use Rattle.memory_model.specs.Effects.LibraryCalls as calls;
 ghost use Rattle.interp_memory.specs.ByteViews.{labels_view, scalar_view};
 ghost use Rattle.interp_accesses.specs.WorldViews.{world_view, ComesTo};
 
-use c_layout::LibFn;
+use c_layout::{LibFn, has_class, is_lower, is_upper, lies_in};
 use cc_base::Rule;
 use interp_accesses::{Cause, Halt, World7, truth_value};
 use interp_memory::{LabelSet, Value7};
-
-fn lies_in(least: i128, most: i128, c: i128) -> bool
-    ensures { result ≡ characters.lies_in least most c }
-{
-    least <= c && c <= most
-}
-
-fn is_lower(c: i128) -> bool
-    ensures { result ≡ characters.is_lower c }
-{
-    lies_in(97, 122, c)
-}
-
-fn is_upper(c: i128) -> bool
-    ensures { result ≡ characters.is_upper c }
-{
-    lies_in(65, 90, c)
-}
-
-fn is_digit(c: i128) -> bool
-    ensures { result ≡ characters.is_digit c }
-{
-    lies_in(48, 57, c)
-}
-
-fn is_space(c: i128) -> bool
-    ensures { result ≡ characters.is_space c }
-{
-    c == 32 || lies_in(9, 13, c)
-}
-
-fn is_alphanumeric(c: i128) -> bool
-    ensures { result ≡ (characters.is_lower c || (characters.is_upper c || characters.is_digit c)) }
-{
-    is_lower(c) || (is_upper(c) || is_digit(c))
-}
-
-// Whether a character is of the class that a function tests.
-fn has_class(function: LibFn, c: i128) -> bool
-    ensures { result ≡ characters.has_class function c }
-{
-    match function {
-        LibFn::Isalpha => is_lower(c) || is_upper(c),
-        LibFn::Isdigit => is_digit(c),
-        LibFn::Isspace => is_space(c),
-        LibFn::Isupper => is_upper(c),
-        LibFn::Islower => is_lower(c),
-        LibFn::Malloc
-        | LibFn::Calloc
-        | LibFn::Realloc
-        | LibFn::Free
-        | LibFn::Memcpy
-        | LibFn::Memmove
-        | LibFn::Memset
-        | LibFn::Strlen
-        | LibFn::Strcpy
-        | LibFn::Strncpy
-        | LibFn::Strcat
-        | LibFn::Strcmp
-        | LibFn::Isalnum
-        | LibFn::Toupper
-        | LibFn::Tolower
-        | LibFn::Getchar
-        | LibFn::Fgets
-        | LibFn::Putchar
-        | LibFn::Puts
-        | LibFn::Printf
-        | LibFn::Exit
-        | LibFn::Abort => is_alphanumeric(c),
-    }
-}
 
 fn raised(c: i128, labels: LabelSet) -> Value7
     ensures { scalar_view result ≡ machine.answer f.Toupper c (labels_view labels) }
@@ -110,31 +38,7 @@ fn answer(function: LibFn, c: i128, labels: LabelSet) -> Value7
     match function {
         LibFn::Toupper => raised(c, labels),
         LibFn::Tolower => lowered(c, labels),
-        LibFn::Malloc
-        | LibFn::Calloc
-        | LibFn::Realloc
-        | LibFn::Free
-        | LibFn::Memcpy
-        | LibFn::Memmove
-        | LibFn::Memset
-        | LibFn::Strlen
-        | LibFn::Strcpy
-        | LibFn::Strncpy
-        | LibFn::Strcat
-        | LibFn::Strcmp
-        | LibFn::Isalpha
-        | LibFn::Isdigit
-        | LibFn::Isspace
-        | LibFn::Isupper
-        | LibFn::Islower
-        | LibFn::Isalnum
-        | LibFn::Getchar
-        | LibFn::Fgets
-        | LibFn::Putchar
-        | LibFn::Puts
-        | LibFn::Printf
-        | LibFn::Exit
-        | LibFn::Abort => truth_value(has_class(function, c)),
+        _ => truth_value(has_class(function, c)),
     }
 }
 

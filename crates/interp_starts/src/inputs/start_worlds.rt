@@ -17,8 +17,7 @@ ghost use Rattle.interp_starts.specs.Starts.Rewrites.{objects_made, literals_mad
 use crate::inputs::input_parameters::with_parameters;
 use crate::inputs::instance_sums::{StartStop, may_make};
 use crate::starts::{literal_size, make_literal, make_object};
-use c_layout::{CType, Checked, LocalObject, StaticObject, StringLiteral};
-use cfg::type_bytes;
+use c_layout::{CType, Checked, LocalObject, StaticObject, StringLiteral, type_bytes};
 use interp_accesses::World7;
 
 // Whether another object of a type may be made.

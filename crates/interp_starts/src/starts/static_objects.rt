@@ -18,7 +18,7 @@ ghost use Rattle.interp_accesses.specs.WorldViews.{world_view, ComesTo, Leaves};
 ghost use Rattle.interp_starts.specs.Starts.Rewrites.{Becomes, rewritten, store_put, stores_put};
 
 use crate::starts::texts::spell_in;
-use crate::starts::whole_types::layout_of;
+use crate::starts::type_layouts::layout_of;
 use c_layout::{
     Checked, Class, Leaf, StaticBase, StaticObject, StaticStore, StaticValue, StringLiteral,
 };

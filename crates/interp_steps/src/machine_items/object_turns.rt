@@ -18,8 +18,7 @@ use crate::machine_items::machines::{
     Machine, function_at, instance_of, local_type, name_of, named, result_object, set_name, type_of,
 };
 use crate::operations::push_value;
-use c_layout::{Checked, Function, ObjectRef};
-use cfg::type_bytes;
+use c_layout::{Checked, Function, ObjectRef, type_bytes};
 use interp_accesses::{Cause, Halt, clear, enter, forget, leave};
 use interp_memory::{Pointer7, Value7};
 use interp_stack::{Change7, Item7, Use7, Way7, push_item};

@@ -10,8 +10,7 @@ ghost use Rattle.interp_stack.specs.ItemViews.{type_seen};
 ghost use Rattle.interp_steps.specs.Operations.Pending.{pending, Operates};
 
 use crate::operations::values::push_outcome;
-use c_layout::{CType, Checked, LibFn};
-use cfg::type_bytes;
+use c_layout::{CType, Checked, LibFn, type_bytes};
 use interp_accesses::{Halt, World7};
 use interp_library::calls::library;
 use interp_memory::Value7;

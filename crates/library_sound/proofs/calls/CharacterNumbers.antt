@@ -14,7 +14,7 @@ use Rattle.c_layout.specs.declared.library_functions.LibFn.{LibFn}
 use Rattle.c_layout.specs.declared.library_functions.LibFn.TheVariants as f
 use Rattle.transfer_checks.specs.IntegerChecks.{is_no_character}
 use Rattle.transfer_library_plans.specs.Characters as abstract
-use Rattle.memory_model.specs.Effects.Characters as machine
+use Rattle.c_layout.specs.CharacterClasses as classes
 use Rattle.domain_theorems.proofs.values.Numbers.{RangeHas, met_has}
 
 -- ---- tests of numbers
@@ -31,10 +31,10 @@ between_same a b c h p q = let e = eq_true a b h in omega (arith, ints)
 
 -- ---- letters
 
-lower_is : (c : ℤ) → machine.is_lower c ≡ true → (pos 97 ≤ℤ c) × (c ≤ℤ pos 122)
+lower_is : (c : ℤ) → classes.is_lower c ≡ true → (pos 97 ≤ℤ c) × (c ≤ℤ pos 122)
 lower_is c h = let p = and_parts (int_le (pos 97) c) (int_le c (pos 122)) h in (le_true (pos 97) c p.0, le_true c (pos 122) p.1)
 
-upper_is : (c : ℤ) → machine.is_upper c ≡ true → (pos 65 ≤ℤ c) × (c ≤ℤ pos 90)
+upper_is : (c : ℤ) → classes.is_upper c ≡ true → (pos 65 ≤ℤ c) × (c ≤ℤ pos 90)
 upper_is c h = let p = and_parts (int_le (pos 65) c) (int_le c (pos 90)) h in (le_true (pos 65) c p.0, le_true c (pos 90) p.1)
 
 -- where no letter of the range is met there is none
@@ -70,10 +70,10 @@ module _ {I : Type 0} {l : LatticeOf I} {n : IntegersOf I} {gamma : I → ℤ �
   one_truth false = q.one_stands (pos 0)
 
   -- a test of a character
-  pub tested : (function : LibFn) (lo hi c : ℤ) → lo ≤ℤ c → c ≤ℤ hi → gamma (abstract.tested_number l n function lo hi) (cond (abstract.has_class function c) (pos 1) (pos 0))
+  pub tested : (function : LibFn) (lo hi c : ℤ) → lo ≤ℤ c → c ≤ℤ hi → gamma (abstract.tested_number l n function lo hi) (cond (classes.has_class function c) (pos 1) (pos 0))
   tested function lo hi c h k = elim (cases_Bool (int_eq lo hi)) [
-    | inl e ↦ rw e (subst (λ z. gamma (cond (abstract.has_class function lo) (n.one (pos 1)) (n.one (pos 0))) (cond (abstract.has_class function z) (pos 1) (pos 0))) (sym (between_same lo hi c e h k)) (one_truth (abstract.has_class function lo)))
-    | inr e ↦ rw e (truth_number (abstract.has_class function c))
+    | inl e ↦ rw e (subst (λ z. gamma (cond (classes.has_class function lo) (n.one (pos 1)) (n.one (pos 0))) (cond (classes.has_class function z) (pos 1) (pos 0))) (sym (between_same lo hi c e h k)) (one_truth (classes.has_class function lo)))
+    | inr e ↦ rw e (truth_number (classes.has_class function c))
   ]
 
   -- ---- letters of the other case
@@ -99,43 +99,43 @@ module _ {I : Type 0} {l : LatticeOf I} {n : IntegersOf I} {gamma : I → ℤ �
   ]
 
   -- `toupper`
-  pub raised : (lo hi c : ℤ) → negsuc 0 ≤ℤ lo → hi ≤ℤ pos 255 → lo ≤ℤ c → c ≤ℤ hi → gamma (abstract.raised l n lo hi) (cond (machine.is_lower c) (c -ℤ pos 32) c)
-  raised lo hi c a b p k = choose (int_eq lo hi && machine.is_lower lo) (not (int_eq lo hi) && abstract.meets lo hi (pos 97) (pos 122)) _ _ _ (cond (machine.is_lower c) (c -ℤ pos 32) c)
-      (λ h. let t = and_parts (int_eq lo hi) (machine.is_lower lo) h in
+  pub raised : (lo hi c : ℤ) → negsuc 0 ≤ℤ lo → hi ≤ℤ pos 255 → lo ≤ℤ c → c ≤ℤ hi → gamma (abstract.raised l n lo hi) (cond (classes.is_lower c) (c -ℤ pos 32) c)
+  raised lo hi c a b p k = choose (int_eq lo hi && classes.is_lower lo) (not (int_eq lo hi) && abstract.meets lo hi (pos 97) (pos 122)) _ _ _ (cond (classes.is_lower c) (c -ℤ pos 32) c)
+      (λ h. let t = and_parts (int_eq lo hi) (classes.is_lower lo) h in
       let same = between_same lo hi c t.0 p k in
       let w = lower_is lo t.1 in
       let w0 = w.0 in
       let w1 = w.1 in
       let d = small_difference lo w0 w1 in
-      by_letter (machine.is_lower c) _ (c -ℤ pos 32) c (λ e. between_or (abstract.difference_of lo (pos 32)) (abstract.difference_of lo (pos 32)) (c -ℤ pos 32) (omega (arith, ints)) (omega (arith, ints)))
-      (λ e. absurd (true≢false (sym (subst (λ z. machine.is_lower z ≡ true) (sym same) t.1) ∙ e))))
-      (λ h g. by_letter (machine.is_lower c) _ (c -ℤ pos 32) c (λ e. let w = lower_is c e in let w0 = w.0 in between_or (int_min lo (pos 65)) hi (c -ℤ pos 32) (omega (arith, ints, clamps)) (omega (arith, ints)))
+      by_letter (classes.is_lower c) _ (c -ℤ pos 32) c (λ e. between_or (abstract.difference_of lo (pos 32)) (abstract.difference_of lo (pos 32)) (c -ℤ pos 32) (omega (arith, ints)) (omega (arith, ints)))
+      (λ e. absurd (true≢false (sym (subst (λ z. classes.is_lower z ≡ true) (sym same) t.1) ∙ e))))
+      (λ h g. by_letter (classes.is_lower c) _ (c -ℤ pos 32) c (λ e. let w = lower_is c e in let w0 = w.0 in between_or (int_min lo (pos 65)) hi (c -ℤ pos 32) (omega (arith, ints, clamps)) (omega (arith, ints)))
       (λ e. between_or (int_min lo (pos 65)) hi c (omega (arith, ints, clamps)) k))
-      (λ h g. by_letter (machine.is_lower c) _ (c -ℤ pos 32) c (λ e. absurd (none_turned machine.is_lower lo hi (pos 97) (pos 122) c h g p k (lower_is c) e)) (λ e. between_or lo hi c p k))
+      (λ h g. by_letter (classes.is_lower c) _ (c -ℤ pos 32) c (λ e. absurd (none_turned classes.is_lower lo hi (pos 97) (pos 122) c h g p k (lower_is c) e)) (λ e. between_or lo hi c p k))
 
   -- `tolower`
-  pub lowered : (lo hi c : ℤ) → negsuc 0 ≤ℤ lo → hi ≤ℤ pos 255 → lo ≤ℤ c → c ≤ℤ hi → gamma (abstract.lowered l n lo hi) (cond (machine.is_upper c) (c +ℤ pos 32) c)
-  lowered lo hi c a b p k = choose (int_eq lo hi && machine.is_upper lo) (not (int_eq lo hi) && abstract.meets lo hi (pos 65) (pos 90)) _ _ _ (cond (machine.is_upper c) (c +ℤ pos 32) c)
-      (λ h. let t = and_parts (int_eq lo hi) (machine.is_upper lo) h in
+  pub lowered : (lo hi c : ℤ) → negsuc 0 ≤ℤ lo → hi ≤ℤ pos 255 → lo ≤ℤ c → c ≤ℤ hi → gamma (abstract.lowered l n lo hi) (cond (classes.is_upper c) (c +ℤ pos 32) c)
+  lowered lo hi c a b p k = choose (int_eq lo hi && classes.is_upper lo) (not (int_eq lo hi) && abstract.meets lo hi (pos 65) (pos 90)) _ _ _ (cond (classes.is_upper c) (c +ℤ pos 32) c)
+      (λ h. let t = and_parts (int_eq lo hi) (classes.is_upper lo) h in
       let same = between_same lo hi c t.0 p k in
       let w = upper_is lo t.1 in
       let w0 = w.0 in
       let w1 = w.1 in
       let d = small_sum lo w0 w1 in
-      by_letter (machine.is_upper c) _ (c +ℤ pos 32) c (λ e. between_or (abstract.sum_of lo (pos 32)) (abstract.sum_of lo (pos 32)) (c +ℤ pos 32) (omega (arith, ints)) (omega (arith, ints)))
-      (λ e. absurd (true≢false (sym (subst (λ z. machine.is_upper z ≡ true) (sym same) t.1) ∙ e))))
-      (λ h g. by_letter (machine.is_upper c) _ (c +ℤ pos 32) c (λ e. let w = upper_is c e in let w1 = w.1 in between_or lo (int_max hi (pos 122)) (c +ℤ pos 32) (omega (arith, ints)) (omega (arith, ints, clamps)))
+      by_letter (classes.is_upper c) _ (c +ℤ pos 32) c (λ e. between_or (abstract.sum_of lo (pos 32)) (abstract.sum_of lo (pos 32)) (c +ℤ pos 32) (omega (arith, ints)) (omega (arith, ints)))
+      (λ e. absurd (true≢false (sym (subst (λ z. classes.is_upper z ≡ true) (sym same) t.1) ∙ e))))
+      (λ h g. by_letter (classes.is_upper c) _ (c +ℤ pos 32) c (λ e. let w = upper_is c e in let w1 = w.1 in between_or lo (int_max hi (pos 122)) (c +ℤ pos 32) (omega (arith, ints)) (omega (arith, ints, clamps)))
       (λ e. between_or lo (int_max hi (pos 122)) c p (omega (arith, ints, clamps))))
-      (λ h g. by_letter (machine.is_upper c) _ (c +ℤ pos 32) c (λ e. absurd (none_turned machine.is_upper lo hi (pos 65) (pos 90) c h g p k (upper_is c) e)) (λ e. between_or lo hi c p k))
+      (λ h g. by_letter (classes.is_upper c) _ (c +ℤ pos 32) c (λ e. absurd (none_turned classes.is_upper lo hi (pos 65) (pos 90) c h g p k (upper_is c) e)) (λ e. between_or lo hi c p k))
 
 -- ---- numbers of characters
 
 -- a number outside of -1 to 255 is told
-pub outside_told : (r : Range) (c : ℤ) → RangeHas r c → machine.lies_in (negsuc 0) (pos 255) c ≡ false → is_no_character r ≡ true
+pub outside_told : (r : Range) (c : ℤ) → RangeHas r c → classes.lies_in (negsuc 0) (pos 255) c ≡ false → is_no_character r ≡ true
 outside_told None c h e = absurd h
 outside_told (Some p) c h e = let h0 = h.0 in let h1 = h.1 in grind (arith, ints)
 
-pub inside_is : (c : ℤ) → machine.lies_in (negsuc 0) (pos 255) c ≡ true → (negsuc 0 ≤ℤ c) × (c ≤ℤ pos 255)
+pub inside_is : (c : ℤ) → classes.lies_in (negsuc 0) (pos 255) c ≡ true → (negsuc 0 ≤ℤ c) × (c ≤ℤ pos 255)
 inside_is c h = let p = and_parts (int_le (negsuc 0) c) (int_le c (pos 255)) h in (le_true (negsuc 0) c p.0, le_true c (pos 255) p.1)
 
 -- the part of a range that characters are in

@@ -45,7 +45,7 @@ use Rattle.transfer_sound.specs.Steps.{operate}
 use Rattle.memory_model.specs.Memory.Labels.{Labels, input_labels, no_labels}
 use Rattle.memory_model.specs.Memory.Scalars.{Scalar, integer, pointer}
 use Rattle.memory_model.specs.Effects.CharacterCalls as machine
-use Rattle.memory_model.specs.Effects.Characters.{lies_in, is_lower, is_upper, has_class}
+use Rattle.c_layout.specs.CharacterClasses.{lies_in, is_lower, is_upper, has_class}
 use Rattle.memory_model.specs.Effects.IntegerEffects.{truth}
 use Rattle.memory_model.specs.Effects.LibraryCalls.{int_type, with_result, getchar, putchar, character_call, library}
 use Rattle.memory_model.specs.Effects.ScalarBytes.{bits_in}
@@ -175,7 +175,7 @@ module _ {I : Type 0} {l : LatticeOf I} {n : IntegersOf I} {gamma : I → ℤ �
     characters_good function well (integer z la ∷ []) e = character_good function well z la (first_stands (integer z la) [] e)
 
     -- a test
-    test_well : (function : LibFn) (lo hi z : ℤ) (b : Bool) → b ≡ characters.has_class function z → lo ≤ℤ z → z ≤ℤ hi → IsResult q flow p naming s.world.memory (number_value l (characters.tested_number l n function lo hi) sets.no_labels) (truth b)
+    test_well : (function : LibFn) (lo hi z : ℤ) (b : Bool) → b ≡ has_class function z → lo ≤ℤ z → z ≤ℤ hi → IsResult q flow p naming s.world.memory (number_value l (characters.tested_number l n function lo hi) sets.no_labels) (truth b)
     test_well function lo hi z b e h k = number_result q flow p naming row s r to has newest (characters.tested_number l n function lo hi) sets.no_labels (cond b (pos 1) (pos 0)) no_labels (subst (λ y. gamma (characters.tested_number l n function lo hi) (cond y (pos 1) (pos 0))) (sym e) (tested o q function lo hi z h k)) refl (truth_near b)
 
     by_name : (name : LibFn) → GivesNumber name → (vs : List Scalar) → values_of s.temps items ≡ Some vs → GoodPlan q flow p naming row s r to has newest (plan_call l n name (call_of flow items wanted) row) (library flow.model wanted name vs s.world)

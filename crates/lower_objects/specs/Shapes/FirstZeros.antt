@@ -1,9 +1,9 @@
 -- The first zeros of an object: one for each of its arrays of characters that lies in no folded array.
-use Rattle.std.specs.Prelude.{ℕ, zero, suc, ◌+◌, ◌*◌, Bool, true, false, cond, nat_lt, List, [], ◌∷◌, ◌++◌, length, Option, Some, None}
+use Rattle.std.specs.Prelude.{ℕ, zero, suc, ◌+◌, ◌*◌, Bool, true, false, cond, nat_lt, List, [], ◌∷◌, ◌++◌, length, Some}
 use Rattle.c_layout.specs.Types.{Ty, Int, Pointer, Array, Struct, Void}
 use Rattle.c_layout.specs.StructViews.{FieldView, StructView, struct_at}
 use Rattle.c_layout.specs.Layout.{size_of_type}
-use Rattle.c_layout.specs.Leaves.{leaves_of}
+use Rattle.c_layout.specs.Leaves.{repeats, leaves_of}
 use Rattle.c_layout.specs.declared.shapes.ZeroPart.{ZeroPart}
 use Rattle.c_layout.specs.declared.shapes.Shape.{Shape}
 use Rattle.lower_objects.specs.Shapes.HeapBases.{is_character}
@@ -27,10 +27,6 @@ unit_count (Pointer t) = 1
 unit_count (Struct i) = 1
 unit_count Void = 1
 
-abbrev pub repeated : ℕ → ℕ → ℕ → (ℕ → List ZeroPart) → List ZeroPart
-repeated zero at step element = []
-repeated (suc n) at step element = element at ++ repeated n (at + step) step element
-
 abbrev pub of_fields : List FieldView → ℕ → (Ty → ℕ → List ZeroPart) → List ZeroPart
 of_fields [] at field = []
 of_fields (f ∷ fs) at field = field f.ctype (at + f.offset) ++ of_fields fs at field
@@ -50,7 +46,7 @@ unit_zeros structs member Void at = []
 abbrev pub zeros_within : ℕ → List StructView → ℕ → Ty → ℕ → List ZeroPart
 zeros_within zero structs pointer t at = []
 zeros_within (suc depth) structs pointer t at =
-    repeated (unit_count t) at (size_of_type structs pointer (unit_of t)) (unit_zeros structs (zeros_within depth structs pointer) (unit_of t))
+    repeats (unit_count t) at (size_of_type structs pointer (unit_of t)) (unit_zeros structs (zeros_within depth structs pointer) (unit_of t))
 
 -- the zeros of a complete type: structs nest at most as deep as there are structs
 unfoldable pub zeros_of : List StructView → ℕ → Ty → List ZeroPart

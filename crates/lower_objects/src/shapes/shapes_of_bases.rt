@@ -8,9 +8,9 @@ ghost use Rattle.lower_objects.specs.Shapes.HeapBases as spec;
 ghost use Rattle.lower_objects.specs.Shapes.FirstZeros.{object_shape, zeros_of};
 
 use crate::shapes::struct_zeros::{is_character, push_zeros};
-use crate::shapes::whole_types::{is_sound, is_whole};
 use c_layout::{
-    CType, Leaf, Leaves, Model, Shape, Structs, ZeroPart, ZeroParts, count_leaves, leaves,
+    CType, Leaf, Leaves, Model, Shape, Structs, ZeroPart, ZeroParts, count_leaves, is_sound,
+    is_whole, leaves,
 };
 use std::alloc::{AllocError, Global};
 

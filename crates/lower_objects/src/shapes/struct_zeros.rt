@@ -6,8 +6,7 @@ ghost use Rattle.c_layout.specs.Layout.{size_of_type};
 ghost use Rattle.lower_objects.specs.Shapes.HeapBases as heap;
 ghost use Rattle.lower_objects.specs.Shapes.FirstZeros as spec;
 
-use c_layout::{CType, Field, Structs, ZeroPart};
-use cfg::type_bytes;
+use c_layout::{CType, Field, Structs, ZeroPart, type_bytes};
 use std::alloc::AllocError;
 
 /// The most elements of an array that is not folded.

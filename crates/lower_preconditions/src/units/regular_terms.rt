@@ -10,7 +10,6 @@ ghost use Rattle.lower_preconditions.specs.Units.TermGroups.{is_simple, is_opera
 use c_layout::{
     CType, Checked, CheckedTerm, Function, LibFn, Lvalue, LvalueForm, ObjectRef, TermForm,
 };
-use lower_expressions::reads_line;
 use lower_templates::worklist::is_void;
 
 /// Whether so many temporaries behind some others have numbers.
@@ -53,16 +52,6 @@ fn has_literal(unit: &Checked, number: u32) -> bool
     (number as usize) < unit.literals.len()
 }
 
-/// Whether a library function gives a value.
-fn gives(function: LibFn) -> bool
-    ensures { result ≡ calls.gives function }
-{
-    match function {
-        LibFn::Free | LibFn::Exit | LibFn::Abort => false,
-        _ => true,
-    }
-}
-
 /// Whether a function may be called with so many arguments, and its value be taken or not.
 fn is_callable(unit: &Checked, used: bool, is_used: bool, count: usize, number: u32) -> bool
     ensures { result ≡ spec.is_callable used is_used count (slice_get (unit_view unit.now).functions number) }
@@ -80,7 +69,7 @@ fn is_callable(unit: &Checked, used: bool, is_used: bool, count: usize, number: 
 fn is_library_call(used: bool, count: usize, function: LibFn) -> bool
     ensures { result ≡ spec.is_library_call used count function }
 {
-    (!used || gives(function)) && (!reads_line(function) || count == 3)
+    (!used || function.gives()) && (!function.signature().reads_line || count == 3)
 }
 
 #[tactic(auto, using(crate::proofs::units::Arguments::arguments_counted))]

@@ -6,8 +6,8 @@ ghost use Rattle.lower_tables.specs.Bases.InitialBytes as spec;
 ghost use Rattle.lower_templates.specs.Views.ProgramViews.{initial};
 
 use crate::bases::program_bases::{BaseTable, known};
-use c_layout::{Checked, StaticBase, StaticObject, StringLiteral};
-use cfg::{InitialObject, InitialValue, type_bytes};
+use c_layout::{Checked, StaticBase, StaticObject, StringLiteral, type_bytes};
+use cfg::{InitialObject, InitialValue};
 use lower_templates::views::store_copies;
 use std::alloc::{AllocError, Global};
 

@@ -11,8 +11,8 @@ ghost use Rattle.lower_tables.specs.Bases.BaseTables.{table, named};
 
 use c_layout::{
     BaseInfo, BaseKind, CType, Checked, Function, Shape, StaticBase, StaticStore, StringLiteral,
+    type_bytes,
 };
-use cfg::type_bytes;
 use lower_functions::functions::BaseName;
 use lower_objects::counts::{all_pointed, literal_type, local_type};
 use lower_objects::shapes::{heap_shape, object_shape};

@@ -11,9 +11,9 @@ ghost use Rattle.lower_templates.specs.Worklist.Plans.{plan, with_work, with_nam
 use crate::worklist::pending_works::Work;
 use crate::worklist::scope_trees::ScopeTree;
 use crate::worklist::template_pieces::{BaseName, Exit, Piece};
-use c_layout::{CType, ObjectRef, Structs};
+use c_layout::{CType, ObjectRef, Structs, type_bytes};
 use cc_base::Place;
-use cfg::{Instruction, Operation, type_bytes};
+use cfg::{Instruction, Operation};
 use std::alloc::{AllocError, Global};
 
 /// What a function's template is made from.

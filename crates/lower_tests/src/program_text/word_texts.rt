@@ -63,33 +63,5 @@ pub fn kind_text(kind: BaseKind) -> &'static str {
 
 /// The name of a library function.
 pub fn function_text(function: LibFn) -> &'static str {
-    match function {
-        LibFn::Malloc => "malloc",
-        LibFn::Calloc => "calloc",
-        LibFn::Realloc => "realloc",
-        LibFn::Free => "free",
-        LibFn::Memcpy => "memcpy",
-        LibFn::Memmove => "memmove",
-        LibFn::Memset => "memset",
-        LibFn::Strlen => "strlen",
-        LibFn::Strcpy => "strcpy",
-        LibFn::Strncpy => "strncpy",
-        LibFn::Strcat => "strcat",
-        LibFn::Strcmp => "strcmp",
-        LibFn::Isalpha => "isalpha",
-        LibFn::Isdigit => "isdigit",
-        LibFn::Isspace => "isspace",
-        LibFn::Isupper => "isupper",
-        LibFn::Islower => "islower",
-        LibFn::Isalnum => "isalnum",
-        LibFn::Toupper => "toupper",
-        LibFn::Tolower => "tolower",
-        LibFn::Getchar => "getchar",
-        LibFn::Fgets => "fgets",
-        LibFn::Putchar => "putchar",
-        LibFn::Puts => "puts",
-        LibFn::Printf => "printf",
-        LibFn::Exit => "exit",
-        LibFn::Abort => "abort",
-    }
+    function.signature().name
 }

@@ -7,7 +7,7 @@ use Rattle.memory_model.specs.Memory.Labels.{Labels}
 use Rattle.memory_model.specs.Memory.Scalars.{Scalar, integer}
 use Rattle.memory_model.specs.Effects.Worlds.{World, Reply, goes, unless}
 use Rattle.memory_model.specs.Effects.IntegerEffects.{truth}
-use Rattle.memory_model.specs.Effects.Characters.{lies_in, is_lower, is_upper, has_class}
+use Rattle.c_layout.specs.CharacterClasses.{lies_in, is_lower, is_upper, has_class}
 
 abbrev pub answer : LibFn → ℤ → Labels → Scalar
 answer f.Toupper c labels = integer (cond (is_lower c) (c -ℤ pos 32) c) labels

@@ -54,7 +54,8 @@ use Rattle.transfer_library_writes.specs.declared.text_writes.ZeroRule.TheVarian
 use Rattle.transfer_library_plans.specs.Allocations.{products, instance_size, plan_malloc, plan_calloc, plan_realloc, plan_free}
 use Rattle.transfer_library_plans.specs.Arguments.{value_of_argument, argument_value}
 use Rattle.transfer_library_plans.specs.Calls.{Call}
-use Rattle.transfer_library_plans.specs.Characters.{is_lower, is_upper, has_class, meets, sum_of, difference_of, tested_number, raised, lowered, answer, plan_in, plan_character}
+use Rattle.c_layout.specs.CharacterClasses.{is_lower, is_upper, has_class}
+use Rattle.transfer_library_plans.specs.Characters.{meets, sum_of, difference_of, tested_number, raised, lowered, answer, plan_in, plan_character}
 use Rattle.transfer_library_writes.specs.CopyWrites.{is_read_class, no_bytes, with_cell, with_padding, with_leaf, with_leaves, with_class, with_class_cells, with_base, with_base_if, with_base_of, bytes_of_source}
 use Rattle.transfer_library.specs.Effects.{older_of, put_result, allocated, apply}
 use Rattle.transfer_library.specs.MemoryCalls.{lower_of, is_one_byte, room_trail, target_of, nothing_written, copy_in_window, both_given, copy_both, plan_copy, fill_in_window, fill_trail, fill_given, plan_fill}

@@ -14,7 +14,7 @@ use Rattle.memory_model.specs.Memory.Bytes.{MachinePointer, Content, number}
 use Rattle.memory_model.specs.Memory.Instances.{Memory}
 use Rattle.memory_model.specs.Memory.Scalars.{Scalar, integer, pointer}
 use Rattle.memory_model.specs.Effects.Worlds.{World, Reply, goes, stops, drawn, Left}
-use Rattle.memory_model.specs.Effects.Characters.{lies_in}
+use Rattle.c_layout.specs.CharacterClasses.{lies_in}
 use Rattle.memory_model.specs.Effects.CharacterCalls.{answer}
 use Rattle.memory_model.specs.Effects.LibraryChecks.{Reach, size_of, with_size, reached, string_length, fitting, writable}
 use Rattle.memory_model.specs.Effects.AllocationCalls.{malloc, calloc, realloc, free}

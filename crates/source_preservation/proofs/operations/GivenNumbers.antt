@@ -15,7 +15,7 @@ use Rattle.memory_model.specs.Effects.Worlds.{World, Reply, goes, stops, stopped
 use Rattle.memory_model.specs.Effects.ScalarBytes.{contents}
 use Rattle.memory_model.specs.Effects.IntegerEffects.{truth}
 use Rattle.memory_model.specs.Effects.LibraryChecks.{most_size, Reach, reached_by, reached, bytes_from, Scanned, ends, unended, broken, one_further, scanned, measured, string_length}
-use Rattle.memory_model.specs.Effects.Characters.{lies_in, is_lower, is_upper}
+use Rattle.c_layout.specs.CharacterClasses.{lies_in, is_lower, is_upper}
 use Rattle.memory_model.specs.Effects.CharacterCalls.{answer}
 use Rattle.memory_model.specs.Effects.AllocationCalls.{malloc, calloc, realloc, free}
 use Rattle.memory_model.specs.Effects.MemoryCalls.{memcpy, memmove, memset}

@@ -44,7 +44,7 @@ use Rattle.transfer_instructions.specs.Instructions.Steps.{operate}
 use Rattle.memory_model.specs.Memory.Labels.{Labels, no_labels}
 use Rattle.memory_model.specs.Memory.Scalars.{Scalar, integer, pointer}
 use Rattle.memory_model.specs.Effects.CharacterCalls as machine
-use Rattle.memory_model.specs.Effects.Characters.{lies_in, is_lower, is_upper, has_class}
+use Rattle.c_layout.specs.CharacterClasses.{lies_in, is_lower, is_upper, has_class}
 use Rattle.memory_model.specs.Effects.IntegerEffects.{truth}
 use Rattle.memory_model.specs.Effects.LibraryCalls.{with_result, putchar, character_call, library}
 use Rattle.memory_model.specs.Effects.ScalarBytes.{bits_in}
@@ -134,8 +134,8 @@ module _ {I : Type 0} {l : LatticeOf I} {n : IntegersOf I} {gamma : I → ℤ �
   one_truth true = q.one_bounds (pos 1)
   one_truth false = q.one_bounds (pos 0)
 
-  tested_one : (function : LibFn) (z : ℤ) → IsOne n (characters.tested_number l n function z z) (cond (characters.has_class function z) (pos 1) (pos 0))
-  tested_one function z = let e = same_self z in rw e (one_truth (characters.has_class function z))
+  tested_one : (function : LibFn) (z : ℤ) → IsOne n (characters.tested_number l n function z z) (cond (has_class function z) (pos 1) (pos 0))
+  tested_one function z = let e = same_self z in rw e (one_truth (has_class function z))
 
   turned : (b : Bool) (x y : I) (c d : ℤ) → (b ≡ true → IsOne n x c) → IsOne n y d → IsOne n (cond b x y) (cond b c d)
   turned true x y c d f g = f refl
@@ -242,7 +242,7 @@ module _ {I : Type 0} {l : LatticeOf I} {n : IntegersOf I} {gamma : I → ℤ �
       characters_good function well (integer z la ∷ []) e d = by_range function well z la (first_tells (integer z la) [] e) (lies_in (negsuc 0) (pos 255) z) refl d
 
       -- a test
-      test_well : (function : LibFn) (z : ℤ) (b : Bool) → b ≡ characters.has_class function z → IsExactResult q flow p s.bases s.world.memory (number_value l (characters.tested_number l n function z z) sets.no_labels) (truth b)
+      test_well : (function : LibFn) (z : ℤ) (b : Bool) → b ≡ has_class function z → IsExactResult q flow p s.bases s.world.memory (number_value l (characters.tested_number l n function z z) sets.no_labels) (truth b)
       test_well function z b e = number_result (characters.tested_number l n function z z) sets.no_labels (cond b (pos 1) (pos 0)) no_labels (subst (λ y. IsOne n (characters.tested_number l n function z z) (cond y (pos 1) (pos 0))) (sym e) (tested_one q function z)) refl (truth_near b)
 
       by_name : (name : LibFn) → IsPlainFunction name → (vs : List Scalar) → values_of s.temps items ≡ Some vs → GoodPlan (plan_call l n name (call_of flow items wanted) row) (library flow.model wanted name vs s.world)

@@ -22,7 +22,8 @@ use Rattle.domain_theorems.proofs.values.Ranges.{RangeBelow, met_monotone, bound
 use Rattle.store_monotone.proofs.operations.OwnValues.{one_within}
 use Rattle.transfer_checks.specs.IntegerChecks.{is_no_character}
 use Rattle.transfer_library_plans.specs.Arguments.{argument_value}
-use Rattle.transfer_library_plans.specs.Characters.{is_lower, is_upper, has_class, meets, sum_of, difference_of, tested_number, raised, lowered, answer, plan_in, plan_character}
+use Rattle.c_layout.specs.CharacterClasses.{is_lower, is_upper, has_class}
+use Rattle.transfer_library_plans.specs.Characters.{meets, sum_of, difference_of, tested_number, raised, lowered, answer, plan_in, plan_character}
 use Rattle.transfer_system.specs.Planning.{plan_call}
 use Rattle.transfer_system.specs.CallSteps.{call_of}
 use Rattle.transfer_monotone.specs.Values.RisingRows.{ValuesRise}

@@ -1,9 +1,8 @@
 use Rattle.std.proofs.Common.{Option, None, Some, ap}
 use Rattle.c_layout.specs.CheckedTrees.{term_tree}
-use Rattle.lower_conditions.specs.Conditions.{ReadView}
+use Rattle.lower_conditions.specs.Conditions.{ReadView, read_view_of}
 use Rattle.semantics.specs.SourceMachine.Items.{items_of}
 use Rattle.semantics.specs.SourceMachine.ConditionItems.{leaf_by}
-use Rattle.interp_stack.specs.ReadViews.{read_view_of}
 use Rattle.interp_stack.specs.StackViews.{with_items, standing}
 use Rattle.interp_stack.proofs.Sequels.{goes_on}
 use Rattle.interp_stack.proofs.condition_items.push_leaf.Goals as goal

@@ -1,4 +1,4 @@
-use Rattle.interp_stack.specs.ReadViews.{read_view_of}
+use Rattle.lower_conditions.specs.Conditions.{read_view_of}
 use Rattle.interp_stack.specs.StackViews.{standing}
 use Rattle.interp_stack.proofs.Conditions.{line_read}
 use Rattle.interp_stack.proofs.condition_items.push_read.Goals as goal

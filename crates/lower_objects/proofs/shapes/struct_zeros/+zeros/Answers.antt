@@ -2,7 +2,8 @@ use Rattle.std.proofs.Common.{arith, ◌-◌, ◌∙◌}
 use Rattle.c_layout.specs.Types.{view}
 use Rattle.c_layout.specs.StructViews.{structs_view}
 use Rattle.lower_objects.specs.Shapes.FirstZeros.{unit_zeros, zeros_within}
-use Rattle.lower_objects.proofs.shapes.Depths.{turn, all_turns, zeros_whole}
+use Rattle.c_layout.proofs.Depths.{turn, all_turns}
+use Rattle.lower_objects.proofs.shapes.Depths.{zeros_whole}
 use Rattle.lower_objects.proofs.shapes.struct_zeros.+zeros.Goals as goal
 
 pub push_zeros-loop-turn-preserved : goal.push_zeros-loop-turn-preserved

@@ -1,7 +1,8 @@
 use Rattle.std.proofs.Common.{◌≡◌, ◌++◌, ◌+◌, ◌*◌, ◌-◌, drop, map}
 use Rattle.c_layout.specs.Types.{view}
 use Rattle.c_layout.specs.StructViews.{field_view, structs_view}
-use Rattle.lower_objects.specs.Shapes.FirstZeros.{repeated, unit_zeros, zeros_within, of_fields}
+use Rattle.c_layout.specs.Leaves.{repeats}
+use Rattle.lower_objects.specs.Shapes.FirstZeros.{unit_zeros, zeros_within, of_fields}
 use Rattle.lower_objects.proofs.shapes.struct_zeros.+zeros.Given as goal
 
 abbrev pub decreases-push_zeros : goal.decreases-push_zeros
@@ -17,7 +18,7 @@ abbrev pub invariant-push_zeros-loop-turn : goal.invariant-push_zeros-loop-turn
 invariant-push_zeros-loop-turn l =
     let structs = structs_view l.structs in
     let unit = unit_zeros structs (zeros_within (l.depth - 1) structs l.pointer) (view l.unit) in
-    l.out.items ++ repeated (l.count - l._turn) l.from l.step unit ≡ l.initial.out.items ++ repeated l.count l.at l.step unit
+    l.out.items ++ repeats (l.count - l._turn) l.from l.step unit ≡ l.initial.out.items ++ repeats l.count l.at l.step unit
 
 abbrev pub invariant-push_fields-loop-index : goal.invariant-push_fields-loop-index
 invariant-push_fields-loop-index l =

@@ -2,11 +2,10 @@
 ghost use Rattle.std.specs.Prelude.{◌≡◌, map};
 ghost use Rattle.c_layout.specs.CheckedTrees.{term_tree, term_trees};
 ghost use Rattle.lower_conditions.specs.Conditions as spec;
-ghost use Rattle.interp_stack.specs.ReadViews.{line_call_view, read_view};
+ghost use Rattle.lower_conditions.specs.Conditions.{line_call_view, read_view};
 
 use c_layout::{BinaryOp, CheckedTerm, LibFn, TermForm};
 use cc_base::Place;
-use lower_expressions::reads_line;
 use lower_templates::worklist::{is_null_constant, peeled};
 
 /// A call of `fgets`: its place and its arguments.
@@ -24,7 +23,7 @@ fn line_call_of<'a>(
 ) -> Option<LineCall<'a>>
     ensures { line_call_view result ≡ spec.line_call_of place function (term_trees (map term_tree arguments.now)) }
 {
-    if reads_line(function) {
+    if function.signature().reads_line {
         Some(LineCall { place, arguments })
     } else {
         None

@@ -1,15 +1,13 @@
 //! Whether a type is complete.
 ghost use Rattle.std.specs.Prelude.{◌≡◌, true};
-ghost use Rattle.c_layout.specs.Models.{is_model, pointer_fits};
 ghost use Rattle.c_layout.specs.Types.{view};
 ghost use Rattle.c_layout.specs.StructViews.{structs_view};
 ghost use Rattle.c_layout.specs.Layout.{is_complete};
 
-use c_layout::{CType, Model, Structs};
-use cfg::type_bytes;
-
-/// The most bytes that a type may have.
-const MOST_BYTES: u64 = 1_073_741_824;
+use crate::sizes::type_bytes;
+use crate::struct_layouts::MOST_BYTES;
+use crate::struct_table::Structs;
+use crate::type_terms::CType;
 
 /// Whether a type is complete (6.2.5 of ISO/IEC 9899:2011) and not too large, in each of its parts.
 pub fn is_whole(t: &CType, structs: &Structs, pointer: u8) -> bool
@@ -34,22 +32,4 @@ pub fn is_whole(t: &CType, structs: &Structs, pointer: u8) -> bool
         },
         CType::Void => false,
     }
-}
-
-fn is_pointer_size(model: &Model) -> bool
-    ensures { result ≡ pointer_fits model.now.int model.now.long model.now.long_long model.now.pointer }
-{
-    let size = model.pointer;
-    (size == 4 || size == 8)
-        && ((size == model.int || size == model.long) || size == model.long_long)
-}
-
-/// Whether a model's sizes are such as a data model has.
-pub fn is_sound(model: &Model) -> bool
-    ensures { result ≡ is_model model.now }
-{
-    model.short == 2
-        && ((model.int == 2 || model.int == 4)
-            && ((model.long == 4 || model.long == 8)
-                && (model.long_long == 8 && is_pointer_size(model))))
 }
