@@ -3,7 +3,7 @@
 # make check                the whole gate: proofs, must-fail edits, tests (`rt ci`), except what it has kept
 # make check-tools          the tests of tools/, completion/ and packaging/: under three minutes
 # make docs                 links, names and examples of README.md and docs/ (tools/check-docs.sh), and the crates' lines
-#                           (tools/unused-edges, tools/check-citations)
+#                           (tools/unused-edges, tools/code-below-theorems, tools/check-citations)
 # make install PREFIX=DIR   the program, the tools, stub headers, manual pages, pages and examples; DIR from the root
 # make dist                 a tarball and a Debian package of all that, in out/dist/
 # make clean                what was made: the program is made anew only where it is not there
@@ -46,6 +46,7 @@ check-tools:
 docs: $(PROGRAM)
 	tools/check-docs.sh
 	tools/unused-edges
+	tools/code-below-theorems
 	tools/check-citations
 
 install: $(PROGRAM)

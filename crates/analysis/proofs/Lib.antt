@@ -1,8 +1,4 @@
 pub mod CheckedPrograms
+pub mod SolvedMaps
 mod Found
 mod VisitBounds
-pub use Rattle.system_monotone.proofs.systems.RegularSystems
-pub use Rattle.system_monotone.proofs.diagnostics.FewestPairs
-pub use Rattle.system_monotone.proofs.diagnostics.LeastMaps
-pub use Rattle.system_monotone.proofs.systems.WellFormed
-pub use Rattle.system_monotone.proofs.systems.RegularPrograms

@@ -1,9 +1,8 @@
 -- What the analysis of a control-flow program finds.
-use Rattle.std.specs.Prelude.{◌≡◌, ℤ, true, List, Option, Contains}
-use Rattle.std.specs.List.Sorted.{IsStrictlySortedBy}
-use Rattle.cc_base.specs.DiagnosticOrder.{diagnostic_compare}
+use Rattle.std.specs.Prelude.{◌≡◌, ℤ, true, List, Option}
+use Rattle.cc_base.specs.DiagnosticOrder.{IsOrderedSet}
 use Rattle.cc_base.specs.Lattices.{LatticeOf}
-use Rattle.cc_base.specs.Machine.{Machine}
+use Rattle.cc_base.specs.Machine.{Machine, IsMonotone}
 use Rattle.cc_base.specs.InductiveMap.{IsInductive, IsLeast}
 use Rattle.cc_base.specs.declared.diagnostics.Diag.{Diag}
 use Rattle.cfg.specs.declared.programs.Flow.{Flow}
@@ -30,23 +29,17 @@ machine_of flow list = flow_machine interval_lattice interval_numbers flow list
 abbrev pub admitted_pairs : Flow → List (Option (List (Cell Interval))) → List Diag
 admitted_pairs flow rows = map_pairs interval_lattice interval_numbers flow rows
 
--- every inductive map of the program's system admits the pair
-abbrev pub IsAdmitted : Flow → List ℤ → Diag → Type 0
-IsAdmitted flow list d = (rows : List (Option (List (Cell Interval)))) → IsInductive row_lattice (machine_of flow list) rows → Contains (admitted_pairs flow rows) d
-
--- the diagnostics are just the pairs that every inductive map of the program's system admits, in order and each once
+-- the diagnostics are just the pairs that an inductive map of the program's system admits, in order and each once; it is
+-- the least such map where the system is monotone
 pub record IsAnalysis (flow : Flow) (list : List ℤ) (found : List Diag) : Type 0 where
   -- there is a row of the entry, and rows of the program are cut in order
   pub started : has_start interval_lattice interval_numbers flow ≡ true
   pub regular : is_regular flow list ≡ true
   -- what soundness asks beside that
   pub checked : IsChecked flow list
-  -- the least inductive map
   pub rows : List (Option (List (Cell Interval)))
   pub inductive : IsInductive row_lattice (machine_of flow list) rows
-  pub least : IsLeast row_lattice (machine_of flow list) rows
+  pub least : IsMonotone row_lattice (machine_of flow list) → IsLeast row_lattice (machine_of flow list) rows
   -- by its rows operands lie within the types that instructions name
   pub typed : is_typed_map interval_lattice interval_numbers flow rows ≡ true
-  pub ascending : IsStrictlySortedBy diagnostic_compare found
-  pub kept : (d : Diag) → IsAdmitted flow list d → Contains found d
-  pub made : (d : Diag) → Contains found d → IsAdmitted flow list d
+  pub pairs : IsOrderedSet (admitted_pairs flow rows) found

@@ -146,9 +146,9 @@ fn analysed_from<L: Ledger>(
     analyse_counted(alloc, flow, list, &mut steps)
 }
 
-/// The pairs of place and rule that the program may break: just those that every inductive map of its
-/// system admits, with intervals whose bounds are rounded to the numbers of a list at heads; in order
-/// of places and then of rules, each once.
+/// The pairs of place and rule that the program may break: just those that an inductive map of its
+/// system admits, the least one where the system is monotone, with intervals whose bounds are rounded to
+/// the numbers of a list at heads; in order of places and then of rules, each once.
 ///
 /// # Errors
 ///

@@ -1,4 +1,9 @@
-pub use Rattle.analysis.proofs.RegularPrograms
-pub use Rattle.analysis.proofs.RegularSystems
-pub use Rattle.analysis.proofs.WellFormed
-pub use Rattle.analysis.proofs.LeastMaps
+pub mod analysis_views
+pub mod least_maps
+pub mod program_views
+pub mod syntactic_pairs
+pub mod unrolled_diagnostics
+pub mod unrolled_runs
+pub use Rattle.system_monotone.proofs.systems.RegularPrograms
+pub use Rattle.system_monotone.proofs.systems.RegularSystems
+pub use Rattle.system_monotone.proofs.systems.WellFormed

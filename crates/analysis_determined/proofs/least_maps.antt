@@ -1,4 +1,5 @@
 pub mod OrderedSets
+pub mod ExactAnalyses
 pub mod LeastAnalyses
 pub mod CountedSteps
 mod WrongTables

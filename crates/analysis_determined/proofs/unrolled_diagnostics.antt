@@ -1,7 +1,8 @@
 pub mod SameOperations
+pub mod SameInstructions
 pub mod SameEdges
 pub mod SameStarts
 pub mod UnrolledPrograms
-mod UnrolledMaps
-mod UnrolledPairs
-mod UnrolledAnalyses
+pub mod UnrolledMaps
+pub mod UnrolledPairs
+pub mod UnrolledAnalyses

@@ -1,2 +1,3 @@
+pub mod ExactAnalyses
 pub mod LeastAnalyses
 pub mod CountedSteps

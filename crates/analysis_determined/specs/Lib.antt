@@ -1,3 +1,4 @@
+pub mod Theorems
 pub mod SyntacticPairs
 pub mod ProgramViews
 pub mod UnrolledRuns

@@ -1,6 +1,6 @@
 pub mod SoundUnits
 pub mod CheckedUnits
-mod WorkedProgram
+pub mod WorkedProgram
 mod WorkedOperands
-mod MetPremises
+pub mod MetPremises
 pub mod UnrolledSound

@@ -1,3 +1,4 @@
+pub mod Theorems
 pub mod Programs
 pub mod Analyses
 pub mod Units

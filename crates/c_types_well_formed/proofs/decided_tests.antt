@@ -6,4 +6,4 @@ mod NamedOperands
 mod IntegerSides
 mod PointerSides
 pub mod MadeTests
-mod SwitchOperands
+pub mod SwitchOperands

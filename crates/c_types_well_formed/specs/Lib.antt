@@ -1,3 +1,4 @@
+pub mod Theorems
 pub mod Layouts
 pub mod ConstantFolding
 pub mod WellFormed

@@ -1,14 +1,12 @@
 //! Theorems: typing makes well-formed terms, initializers and statements.
 #![tactic(auto)]
 
-pub mod constant_folding;
-pub mod decided_tests;
-pub mod initializers;
-pub mod layouts;
-pub mod operators;
-pub mod rules;
-pub mod statements;
-pub mod stores;
-pub mod terms;
-pub mod types;
-pub mod well_formed;
+mod theorems;
+
+pub use theorems::{
+    bodies_are_well_typed, conversions_give, declarations_are_well_typed, declarators_keep,
+    declarators_lay, expressions_are_made, expressions_keep, expressions_lay, folds_as_computed,
+    heads_keep, initializers_are_well_typed, lengths_keep, operators_make, specifiers_keep,
+    specifiers_lay, static_stores_are_proper, stores_are_near, switches_select, unused_is_well_typed,
+    values_are_made,
+};

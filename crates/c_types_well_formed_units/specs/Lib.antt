@@ -1,3 +1,4 @@
+pub mod Theorems
 pub mod Parameters
 pub mod Scoped
 pub mod ScopedBodies

@@ -1,11 +1,10 @@
 //! Theorems: each checked unit is well formed, scoped, and fits into memory.
 #![tactic(auto)]
 
-pub mod heads;
-pub mod parameters;
-pub mod scoped;
-pub mod scoped_bodies;
-pub mod scoped_units;
-pub mod sizes;
-pub mod trees;
-pub mod units;
+mod theorems;
+
+pub use theorems::{
+    bodies_are_scoped, bodies_keep_types, checks_are_well_typed, checks_are_scoped, checks_are_small,
+    expressions_are_scoped, heads_make_objects, initializers_are_scoped, trees_are_proper,
+    trees_declare_in_blocks, units_have_heads,
+};

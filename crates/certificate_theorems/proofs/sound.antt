@@ -5,4 +5,4 @@ pub mod FittedRows
 pub mod CertifiedMaps
 pub mod SoundCertificates
 pub mod WorkedCertificate
-mod WorkedAnalysis
+pub mod WorkedAnalysis

@@ -1,3 +1,4 @@
+pub mod Theorems
 pub mod Lines
 pub mod Reading
 pub mod RoundTrip

@@ -1,3 +1,3 @@
 mod SameAccesses
-mod ShownRuns
-mod VerifiedRuns
+pub mod ShownRuns
+pub mod VerifiedRuns

@@ -1,4 +1,4 @@
-mod OutcomeKinds
-mod FileChoices
-mod OneLine
-mod WorkedAnswers
+pub mod OutcomeKinds
+pub mod FileChoices
+pub mod OneLine
+pub mod WorkedAnswers

@@ -1,3 +1,3 @@
 mod TextPlaces
-mod WorkedRuns
-mod WorkedReport
+pub mod WorkedRuns
+pub mod WorkedReport

@@ -1,6 +1,6 @@
 mod Cutting
-mod Expanding
-mod Parsing
-mod Checking
+pub mod Expanding
+pub mod Parsing
+pub mod Checking
 pub mod Built
 pub mod WorkedValues

@@ -1,3 +1,4 @@
+pub mod Theorems
 pub mod Units
 pub mod Outcomes
 pub mod Analyses

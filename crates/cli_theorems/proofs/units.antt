@@ -4,5 +4,6 @@ pub mod Grammar
 pub mod NotRefused
 pub mod GivenModels
 pub mod OneUnit
+pub mod RefusalStages
 pub mod Told
 pub mod ToldLoad

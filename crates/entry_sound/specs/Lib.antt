@@ -1,3 +1,4 @@
+pub mod Theorems
 pub mod Cells
 pub mod Starts
 pub mod Memory

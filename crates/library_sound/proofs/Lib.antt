@@ -1,3 +1,12 @@
+pub mod appends
+pub mod bounded_texts
+pub mod calls
+pub mod fills
+pub mod lines
+pub mod prints
+pub mod spelling
+pub mod strings
+pub mod texts
 pub use Rattle.transfer_sound.proofs.enter.GrownMemory
 pub use Rattle.transfer_sound.proofs.memory.LoadSteps
 pub use Rattle.transfer_sound.proofs.values.Admitted

@@ -1,12 +1,11 @@
 //! Theorems: transfer functions of string and input calls are sound.
 #![tactic(auto)]
 
-pub mod appends;
-pub mod bounded_texts;
-pub mod calls;
-pub mod fills;
-pub mod lines;
-pub mod prints;
-pub mod spelling;
-pub mod strings;
-pub mod texts;
+mod theorems;
+
+pub use theorems::{
+    append_calls_are_sound, append_writes_are_sound, bounded_text_calls_are_sound,
+    fill_calls_are_sound, followed_arrays_are_characters, line_ends_are_sound,
+    print_calls_are_sound, result_calls_are_sound, spell_steps_are_sound, string_calls_are_sound,
+    text_calls_are_sound, text_writes_are_sound, well_formed_programs_have_apart_texts,
+};

@@ -1,3 +1,7 @@
+pub mod allocations
+pub mod frees
+pub mod moves
+pub mod reallocations
 pub use Rattle.library_sound.proofs.LoadSteps
 pub use Rattle.library_sound.proofs.MachineReplies
 pub use Rattle.library_sound.proofs.Admitted

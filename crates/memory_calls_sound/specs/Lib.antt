@@ -1,3 +1,4 @@
+pub mod Theorems
 pub mod Frees
 pub mod Moves
 pub mod Allocations

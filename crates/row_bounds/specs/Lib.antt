@@ -1,3 +1,4 @@
+pub mod Theorems
 pub mod Stores
 pub mod Steps
 pub mod Edges

@@ -1,3 +1,7 @@
+pub mod entries
+pub mod runs
+pub mod struct_copies
+mod structs
 pub use Rattle.analysis_sound.proofs.analyses.FoundRuns
 pub use Rattle.analysis_sound.proofs.analyses.ScalarTests
 pub use Rattle.analysis_sound.proofs.analyses.SoundAnalyses

@@ -1,1 +1,1 @@
-mod Jumps
+pub mod Jumps

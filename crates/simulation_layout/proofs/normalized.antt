@@ -1,6 +1,6 @@
 pub mod NormalizedPieces
 pub mod QuietFunctions
 pub mod SameActs
-mod NormalizedSteps
+pub mod NormalizedSteps
 mod QuietRuns
 pub mod NormalizedReturns

@@ -1,3 +1,4 @@
+pub mod Theorems
 pub mod JumpChecks
 pub mod InlinedLayout
 pub mod Inlining

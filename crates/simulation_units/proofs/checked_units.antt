@@ -1,1 +1,1 @@
-mod LookedRuns
+pub mod LookedRuns

@@ -1,3 +1,3 @@
 mod FewerObjects
-mod SuitedStatements
+pub mod SuitedStatements
 mod SuitedTerms

@@ -4,4 +4,4 @@ mod Replies
 mod Jumps
 mod Starts
 mod Turns
-mod Runs
+pub mod Runs

@@ -4,4 +4,4 @@ mod Accessing
 mod Computing
 mod GivenNumbers
 mod Calling
-mod Performing
+pub mod Performing

@@ -5,4 +5,4 @@ mod Calls
 mod Objects
 mod Conditions
 mod Switches
-mod Turns
+pub mod Turns

@@ -1,3 +1,4 @@
+pub mod Theorems
 pub mod ValueTyping
 pub mod Liveness
 pub mod Memory

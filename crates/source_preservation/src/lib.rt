@@ -1,16 +1,10 @@
 //! Theorems of progress and preservation for the source semantics.
 #![tactic(auto)]
 
-pub mod checks;
-pub mod initial_memory;
-pub mod items;
-pub mod liveness;
-pub mod memory;
-pub mod operations;
-pub mod ranges;
-pub mod safety;
-pub mod small_steps;
-pub mod tests;
-pub mod unit_checks;
-pub mod value_typing;
-pub mod well_typed;
+mod theorems;
+
+pub use theorems::{
+    expanded_items_do, functions_do, labels_do, lines_keep_marks, looks_mark,
+    looks_mark_conditions, looks_mark_terms, looks_scope, looks_stand, objects_live_where_named,
+    operations_keep_marks, runs_are_never_stuck, runs_keep_marks, turns_keep_marks,
+};

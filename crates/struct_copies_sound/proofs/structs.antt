@@ -1,4 +1,4 @@
 pub mod FewLeaves
 pub mod ListedStructs
-mod LostLeaves
+pub mod LostLeaves
 mod WorkedTables

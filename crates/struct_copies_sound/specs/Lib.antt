@@ -1,3 +1,4 @@
+pub mod Theorems
 pub mod Spans
 pub mod Cells
 pub mod Leaves

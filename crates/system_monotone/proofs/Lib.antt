@@ -1,3 +1,7 @@
+pub mod diagnostics
+mod library_writes
+mod struct_copies
+pub mod systems
 pub use Rattle.transfer_monotone.proofs.edges.FilledSteps
 pub use Rattle.transfer_monotone.proofs.edges.FittedOrder
 pub use Rattle.transfer_monotone.proofs.edges.MemorySteps

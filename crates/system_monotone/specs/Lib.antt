@@ -1,3 +1,4 @@
+pub mod Theorems
 pub mod LibraryWrites
 pub mod StructCopies
 pub mod Systems

@@ -1,3 +1,14 @@
+pub mod clear
+pub mod edges
+pub mod enter
+pub mod induction
+pub mod invariant_maps
+pub mod leave
+pub mod memory
+pub mod objects
+pub mod operands
+pub mod tests
+pub mod values
 pub use Rattle.row_bounds.proofs.RegularPrograms
 pub use Rattle.row_bounds.proofs.entries.RegularStarts
 pub use Rattle.row_bounds.proofs.ViolationOrder

@@ -1,3 +1,4 @@
+pub mod Theorems
 pub mod Values
 pub mod Objects
 pub mod Clear

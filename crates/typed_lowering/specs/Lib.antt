@@ -1,3 +1,4 @@
+pub mod Theorems
 pub mod LoopedUnits
 pub mod Conversions
 pub mod InlinedPrograms

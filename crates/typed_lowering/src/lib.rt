@@ -1,13 +1,12 @@
 //! Theorems: lowering keeps plain units plain and typed units typed.
 #![tactic(auto)]
 
-pub mod bases;
-pub mod conversions;
-pub mod inlined_programs;
-pub mod looped_templates;
-pub mod looped_units;
-pub mod plain_programs;
-pub mod starts;
-pub mod templates;
-pub mod units;
-pub mod worklists;
+mod theorems;
+
+pub use theorems::{
+    first_objects_are_typed, looped_locals_are_own, looped_templates_are_calm, names_are_typed,
+    plain_units_have_plain_programs, normalized_templates_are_calm, normalized_templates_are_typed,
+    short_types_are_own, typed_names_make_typed_inlinings, typed_objects_are_typed,
+    typed_units_have_typed_accesses, typed_works_make_typed_templates,
+    types_stand_where_they_begin, works_are_typed,
+};

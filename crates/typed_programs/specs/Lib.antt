@@ -1,3 +1,4 @@
+pub mod Theorems
 pub mod PlainUnits
 pub mod PlainWorklists
 pub mod PlainTemplates

@@ -1,2 +1,2 @@
 pub mod NoCalls
-mod LoopSimulates
+pub mod LoopSimulates

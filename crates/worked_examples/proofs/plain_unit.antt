@@ -1,1 +1,1 @@
-mod PlainDivision
+pub mod PlainDivision

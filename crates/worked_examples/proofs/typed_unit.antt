@@ -1,2 +1,2 @@
-mod TypedDivision
-mod ExcludedPointers
+pub mod TypedDivision
+pub mod ExcludedPointers

@@ -1,1 +1,1 @@
-mod WorkedLoop
+pub mod WorkedLoop

@@ -1,3 +1,4 @@
+pub mod Theorems
 pub mod SourceRuns
 pub mod OneLoop
 pub mod WrongTemplates

@@ -10,7 +10,9 @@ use Rattle.value_domain.specs.declared.values.row_cells.Cell.{Cell}
 use Rattle.interval_domain.specs.declared.intervals.intervals.Interval.{Interval}
 use Rattle.interval_domain.specs.Intervals.IntervalLattice.{interval_lattice}
 use Rattle.interval_domain.specs.Intervals.IntervalNumbers.{interval_numbers}
-use Rattle.analysis.specs.Analyses.{row_lattice, machine_of, admitted_pairs, IsAdmitted, IsAnalysis}
+use Rattle.analysis.specs.Analyses.{row_lattice, machine_of, admitted_pairs, IsAnalysis}
+use Rattle.analysis_determined.specs.LeastMaps.ExactAnalyses.{IsAdmitted}
+use Rattle.analysis_determined.proofs.least_maps.ExactAnalyses.{exact_analysis}
 use Rattle.analysis_determined.proofs.least_maps.OrderedSets.{one_list}
 use Rattle.analysis_determined.proofs.analysis_views.SameSystems.{system_same}
 use Rattle.analysis_determined.proofs.analysis_views.SamePairs.{map_same}
@@ -28,4 +30,6 @@ admitted_same f g h list d a rows i =
 
 pub one_analysis : (f g : Flow) → flow_view f ≡ flow_view g → (list : List ℤ) (found pairs : List Diag) → IsAnalysis f list found → IsAnalysis g list pairs → found ≡ pairs
 one_analysis f g h list found pairs p q =
-    one_list found pairs p.ascending q.ascending (λ d e. q.kept d (admitted_same f g h list d (p.made d e))) (λ d e. p.kept d (admitted_same g f (sym h) list d (q.made d e)))
+    let one = exact_analysis f list found p in
+    let two = exact_analysis g list pairs q in
+    one_list found pairs one.ascending two.ascending (λ d e. two.kept d (admitted_same f g h list d (one.made d e))) (λ d e. one.kept d (admitted_same g f (sym h) list d (two.made d e)))

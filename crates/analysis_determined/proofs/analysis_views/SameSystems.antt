@@ -1,12 +1,11 @@
 -- Programs with the same view have the same system.
-use Rattle.std.specs.Prelude.{◌≡◌, ℕ, ℤ, Option, Some, None, List, [], ◌∷◌, map, option_map, length, slice_get, replicate, refl}
+use Rattle.std.specs.Prelude.{◌≡◌, ℕ, ℤ, Option, Some, None, List, option_map, length, slice_get, replicate, refl}
 use Rattle.std.proofs.Common.{sym, ap, ap₂, ◌∙◌}
 use Rattle.cc_base.specs.Lattices.{LatticeOf}
 use Rattle.cc_base.specs.IntegerDomains.{IntegersOf}
 use Rattle.cfg.specs.declared.programs.Flow.{Flow}
 use Rattle.cfg.specs.declared.flow_edges.Edge.{Edge}
-use Rattle.cfg.specs.declared.machine_instructions.Instruction.{Instruction}
-use Rattle.lower_templates.specs.Worklist.Acts.{Step, step}
+use Rattle.lower_templates.specs.Worklist.Acts.{step}
 use Rattle.lower_templates.specs.Views.ProgramViews.{EdgeView, edge, flow_view}
 use Rattle.value_domain.specs.declared.values.row_cells.Cell.{Cell}
 use Rattle.value_domain.specs.declared.values.row_cells.Cell.TheVariants.{Nothing}
@@ -17,19 +16,13 @@ use Rattle.transfer_system.specs.BoundedRows.FittedRows.{row_fit, reached_fit}
 use Rattle.transfer_system.specs.BoundedRows.BaseRooms.{spare_bases}
 use Rattle.transfer_system.specs.BoundedRows.CellKinds.{all_kinds}
 use Rattle.transfer_system.specs.BoundedRows.RowRooms.{row_room, row_height}
-use Rattle.transfer_system.specs.System.BlockPasses.{instructions_of, row_behind, rows_behind, block_end, edge_behind, edge_end}
+use Rattle.transfer_system.specs.System.BlockPasses.{instructions_of, block_end, edge_behind, edge_end}
 use Rattle.transfer_system.specs.System.FlowMachines.{edge_at, known_start, start_of, through, flow_machine}
 use Rattle.analysis_determined.specs.UnrolledDiagnostics.SameParts.{SameParts}
-use Rattle.analysis_determined.proofs.unrolled_diagnostics.SameOperations.{operate_same}
+use Rattle.analysis_determined.proofs.unrolled_diagnostics.SameInstructions.{rows_same}
 use Rattle.analysis_determined.proofs.unrolled_diagnostics.SameEdges.{follow_same}
 use Rattle.analysis_determined.proofs.unrolled_diagnostics.SameStarts.{start_same}
 use Rattle.analysis_determined.proofs.analysis_views.SameBlocks.{same_parts, block_count, steps_same, last_same, head_same, edge_count, edge_same, edge_view_same}
-
-pub first_same : (s t : Step) (ss ts : List Step) → ◌≡◌ {A = List Step} (s ∷ ss) (t ∷ ts) → s ≡ t
-first_same s t ss ts e = cc
-
-pub others_same : (s t : Step) (ss ts : List Step) → ◌≡◌ {A = List Step} (s ∷ ss) (t ∷ ts) → ss ≡ ts
-others_same s t ss ts e = cc
 
 one_edge : (v w : EdgeView) → Some v ≡ Some w → v ≡ w
 one_edge v w e = cc
@@ -40,21 +33,9 @@ module _ {I : Type 0} (l : LatticeOf I) (n : IntegersOf I) (f g : Flow) (h : flo
 
   -- ---- rows behind blocks and edges
 
-  pub behind_same : (i j : Instruction) → step i ≡ step j → (x : Option (List (Cell I))) → row_behind l n g j x ≡ row_behind l n f i x
-  behind_same i j e None = refl
-  behind_same i j e (Some row) = operate_same l n f g same row i.operation j.operation (ap (λ (s : Step). s.does) e)
-
-  rows_same : (is js : List Instruction) → map step is ≡ map step js → (x : Option (List (Cell I))) → rows_behind l n g x js ≡ rows_behind l n f x is
-  rows_same [] [] e x = refl
-  rows_same [] (j ∷ js) e x = absurd (cc)
-  rows_same (i ∷ is) [] e x = absurd (cc)
-  rows_same (i ∷ is) (j ∷ js) e x =
-      rows_same is js (others_same (step i) (step j) (map step is) (map step js) e) (row_behind l n g j x)
-      ∙ ap (λ z. rows_behind l n f z is) (behind_same i j (first_same (step i) (step j) (map step is) (map step js) e) x)
-
   block_end_same : (number : ℕ) (row : List (Cell I)) → block_end l n g number row ≡ block_end l n f number row
   unfolding block_end
-  block_end_same number row = rows_same (instructions_of f number) (instructions_of g number) (steps_same f g h number) (Some row)
+  block_end_same number row = rows_same l n f g same (instructions_of f number) (instructions_of g number) (steps_same f g h number) (Some row)
 
   follow_one : (x y : Edge) → edge x ≡ edge y → (row : List (Cell I)) → edges.follow l n g row y.from y.kind ≡ edges.follow l n f row x.from x.kind
   follow_one x y e row =

@@ -11,7 +11,7 @@ use Rattle.transfer_system.specs.declared.bounded_rows.cell_kinds.CellKind.{Cell
 use Rattle.transfer_system.specs.declared.bounded_rows.cell_kinds.CellKind.TheVariants as kind
 use Rattle.transfer_system.specs.BoundedRows.CellKinds.{before, state_before, values_of, run_before, all_kinds}
 use Rattle.transfer_system.specs.System.FlowMachines.{is_head_at}
-use Rattle.analysis.proofs.WellFormed.{laid_out}
+use Rattle.system_monotone.proofs.systems.WellFormed.{laid_out}
 use Rattle.analysis.specs.StepBounds.{growths, row_growths, most_edges}
 use Rattle.analysis_determined.specs.LeastMaps.CountedSteps.{all_zeros, all_states, visits}
 

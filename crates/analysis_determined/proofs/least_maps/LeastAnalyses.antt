@@ -10,10 +10,9 @@ use Rattle.interval_domain.specs.declared.intervals.intervals.Interval.{Interval
 use Rattle.interval_domain.specs.Intervals.IntervalLattice.{interval_order}
 use Rattle.value_domain.specs.declared.values.row_cells.Cell.{Cell}
 use Rattle.value_domain.specs.Values.Cells.{cell_order}
-use Rattle.transfer_system.specs.System.RegularPrograms.{is_regular}
-use Rattle.analysis.proofs.LeastMaps.{regular_admits_least}
 use Rattle.analysis.specs.Analyses.{row_lattice, admitted_pairs, IsAnalysis}
-use Rattle.analysis_determined.specs.LeastMaps.LeastAnalyses.{IsLeastMap, IsLeastAnalysis, AdmitsExactly, AreAlike}
+use Rattle.analysis_determined.specs.LeastMaps.LeastAnalyses.{IsLeastMap, IsLeastAnalysis, AreAlike}
+use Rattle.analysis_determined.proofs.least_maps.ExactAnalyses.{least_map, exact_analysis}
 use Rattle.analysis_determined.proofs.least_maps.OrderedSets.{one_list}
 
 abbrev Map : Type 0
@@ -46,13 +45,10 @@ module _ (flow : Flow) (list : List ℤ) where
       record { same = e; there = λ d h. subst (λ m. Contains (admitted_pairs flow m) d) e h; back = λ d h. subst (λ m. Contains (admitted_pairs flow m) d) (sym e) h }
 
   pub one_answer : (found other : List Diag) → IsAnalysis flow list found → IsAnalysis flow list other → found ≡ other
-  one_answer found other p q = one_list found other p.ascending q.ascending (λ d h. q.kept d (p.made d h)) (λ d h. p.kept d (q.made d h))
-
-  pub exact_map : is_regular flow list ≡ true → (rows : Map) → IsLeastMap flow list rows → AdmitsExactly flow list rows
-  exact_map h rows p = record {
-    made = λ d e other q. regular_admits_least flow list h rows other p.inductive p.least q d e;
-    kept = λ d e. e rows p.inductive;
-  }
+  one_answer found other p q =
+      let one = exact_analysis flow list found p in
+      let two = exact_analysis flow list other q in
+      one_list found other one.ascending two.ascending (λ d h. two.kept d (one.made d h)) (λ d h. one.kept d (two.made d h))
 
   pub least_analysis : (found : List Diag) (a : IsAnalysis flow list found) → IsLeastAnalysis flow list found a.rows
-  least_analysis found a = record { least = a.least; fewest = a.made }
+  least_analysis found a = record { least = (least_map flow list found a).least; fewest = (exact_analysis flow list found a).made }

@@ -11,7 +11,7 @@ use Rattle.std.proofs.lemmas.Cmp.{nat_cmp_total}
 use Rattle.cc_base.specs.DiagnosticOrder.{rule_rank, place_compare, diagnostic_compare}
 use Rattle.cc_base.specs.declared.diagnostics.Diag.{Diag}
 use Rattle.cc_base.specs.declared.diagnostics.Place.{Place}
-use Rattle.analysis.proofs.FewestPairs.{In, AreIn, in_from, contains_in}
+use Rattle.system_monotone.proofs.diagnostics.FewestPairs.{In, AreIn, in_from, contains_in}
 
 -- ---- the order has two directions
 

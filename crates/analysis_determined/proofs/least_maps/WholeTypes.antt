@@ -10,7 +10,6 @@ use Rattle.cc_base.specs.declared.integer_operators.IntOp.TheVariants.{Add}
 use Rattle.cc_base.specs.declared.integer_operators.Rel.{Rel}
 use Rattle.cc_base.specs.declared.integer_operators.Rel.TheVariants.{Lt}
 use Rattle.interval_domain.specs.declared.intervals.spans.Span.{Span}
-use Rattle.interval_domain.specs.declared.intervals.intervals.Interval.{Interval}
 use Rattle.interval_domain.specs.declared.intervals.intervals.Interval.TheVariants.{Of}
 use Rattle.interval_domain.specs.Intervals.Spans.{between_or_empty, Stands}
 use Rattle.interval_domain.specs.Intervals.IntervalOrder.{interval_leq}

@@ -11,7 +11,7 @@ use Rattle.interval_domain.specs.Intervals.Spans.{interval_bounds}
 use Rattle.interval_domain.specs.Intervals.IntervalOrder.{interval_leq}
 use Rattle.transfer_checks.specs.declared.violation_sets.Violations.{Violations}
 use Rattle.transfer_checks.specs.ViolationSets.{no_violations}
-use Rattle.analysis.specs.ViolationsBelow.{ViolationsBelow}
+use Rattle.system_monotone.specs.ViolationsBelow.{ViolationsBelow}
 
 abbrev one : Interval
 one = Of (record { lo = pos 1; hi = pos 1; ordered = le_z_yes tt })

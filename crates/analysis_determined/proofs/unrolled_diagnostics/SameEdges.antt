@@ -28,31 +28,8 @@ deciding_act (acts.Switch temp int_type) = Some temp
 deciding_act _ = None
 
 deciding_is : (p : Operation) → deciding_operand p ≡ deciding_act (act p)
-deciding_is (op.Constant to number kind) = refl
-deciding_is (op.Binary to o left right kind) = refl
-deciding_is (op.Unary to o operand kind) = refl
-deciding_is (op.Compare to rel left right) = refl
-deciding_is (op.Not to operand kind) = refl
-deciding_is (op.Convert to operand from kind) = refl
-deciding_is (op.Address to base offset) = refl
-deciding_is (op.Narrow to pointer offset size) = refl
-deciding_is (op.Shift to pointer amount scale backwards) = refl
-deciding_is (op.Difference to left right size) = refl
-deciding_is (op.ComparePointers to rel left right) = refl
-deciding_is (op.Load to pointer kind) = refl
-deciding_is (op.Store pointer value kind kept) = refl
-deciding_is (op.Copy to from index) = refl
-deciding_is (op.Library to function arguments newest wanted) = refl
-deciding_is (op.ReadLine to line count stream) = refl
-deciding_is (op.Enter base) = refl
-deciding_is (op.Leave base) = refl
-deciding_is (op.Forget base) = refl
-deciding_is (op.Clear base) = refl
-deciding_is (op.Spell base offset room text) = refl
-deciding_is op.Jump = refl
-deciding_is (op.Branch temp kind) = refl
-deciding_is (op.Switch temp kind) = refl
 deciding_is op.Stop = refl
+deciding_is _ = refl
 
 abbrev deciding_step : Option Step → Option ℕ
 deciding_step None = None
@@ -84,59 +61,13 @@ module _ {I : Type 0} (l : LatticeOf I) (n : IntegersOf I) where
 
   line_is : (flow : Flow) (row : List (Cell I)) (p : Operation) → line_edge l n flow row (line_of p) ≡ line_act flow row (act p)
   unfolding line_edge
-  line_is flow row (op.Constant to number kind) = refl
-  line_is flow row (op.Binary to o left right kind) = refl
-  line_is flow row (op.Unary to o operand kind) = refl
-  line_is flow row (op.Compare to rel left right) = refl
-  line_is flow row (op.Not to operand kind) = refl
-  line_is flow row (op.Convert to operand from kind) = refl
-  line_is flow row (op.Address to base offset) = refl
-  line_is flow row (op.Narrow to pointer offset size) = refl
-  line_is flow row (op.Shift to pointer amount scale backwards) = refl
-  line_is flow row (op.Difference to left right size) = refl
-  line_is flow row (op.ComparePointers to rel left right) = refl
-  line_is flow row (op.Load to pointer kind) = refl
-  line_is flow row (op.Store pointer value kind kept) = refl
-  line_is flow row (op.Copy to from index) = refl
-  line_is flow row (op.Library to function arguments newest wanted) = refl
-  line_is flow row (op.ReadLine to line count stream) = refl
-  line_is flow row (op.Enter base) = refl
-  line_is flow row (op.Leave base) = refl
-  line_is flow row (op.Forget base) = refl
-  line_is flow row (op.Clear base) = refl
-  line_is flow row (op.Spell base offset room text) = refl
-  line_is flow row op.Jump = refl
-  line_is flow row (op.Branch temp kind) = refl
-  line_is flow row (op.Switch temp kind) = refl
   line_is flow row op.Stop = refl
+  line_is flow row _ = refl
 
   no_line_is : (flow : Flow) (row : List (Cell I)) (p : Operation) → no_line_edge l flow row (line_of p) ≡ no_line_act flow row (act p)
   unfolding no_line_edge
-  no_line_is flow row (op.Constant to number kind) = refl
-  no_line_is flow row (op.Binary to o left right kind) = refl
-  no_line_is flow row (op.Unary to o operand kind) = refl
-  no_line_is flow row (op.Compare to rel left right) = refl
-  no_line_is flow row (op.Not to operand kind) = refl
-  no_line_is flow row (op.Convert to operand from kind) = refl
-  no_line_is flow row (op.Address to base offset) = refl
-  no_line_is flow row (op.Narrow to pointer offset size) = refl
-  no_line_is flow row (op.Shift to pointer amount scale backwards) = refl
-  no_line_is flow row (op.Difference to left right size) = refl
-  no_line_is flow row (op.ComparePointers to rel left right) = refl
-  no_line_is flow row (op.Load to pointer kind) = refl
-  no_line_is flow row (op.Store pointer value kind kept) = refl
-  no_line_is flow row (op.Copy to from index) = refl
-  no_line_is flow row (op.Library to function arguments newest wanted) = refl
-  no_line_is flow row (op.ReadLine to line count stream) = refl
-  no_line_is flow row (op.Enter base) = refl
-  no_line_is flow row (op.Leave base) = refl
-  no_line_is flow row (op.Forget base) = refl
-  no_line_is flow row (op.Clear base) = refl
-  no_line_is flow row (op.Spell base offset room text) = refl
-  no_line_is flow row op.Jump = refl
-  no_line_is flow row (op.Branch temp kind) = refl
-  no_line_is flow row (op.Switch temp kind) = refl
   no_line_is flow row op.Stop = refl
+  no_line_is flow row _ = refl
 
   line_of_is : (flow : Flow) (row : List (Cell I)) (i : Option Instruction) → line_edge l n flow row (line_call_of i) ≡ line_step flow row (option_map step i)
   unfolding line_edge
@@ -168,31 +99,8 @@ module _ {I : Type 0} (l : LatticeOf I) (n : IntegersOf I) where
 
   module _ (f g : Flow) (h : SameParts f g) where
     line_act_core : (row : List (Cell I)) (a : Act) → line_act (core f g h) row a ≡ line_act f row a
-    line_act_core row (acts.Constant to number kind) = refl
-    line_act_core row (acts.Binary to o left right kind) = refl
-    line_act_core row (acts.Unary to o operand kind) = refl
-    line_act_core row (acts.Compare to rel left right) = refl
-    line_act_core row (acts.Not to operand kind) = refl
-    line_act_core row (acts.Convert to operand from kind) = refl
-    line_act_core row (acts.Address to base offset) = refl
-    line_act_core row (acts.Narrow to pointer offset size) = refl
-    line_act_core row (acts.Shift to pointer amount scale backwards) = refl
-    line_act_core row (acts.Difference to left right size) = refl
-    line_act_core row (acts.ComparePointers to rel left right) = refl
-    line_act_core row (acts.Load to pointer kind) = refl
-    line_act_core row (acts.Store pointer value kind kept) = refl
-    line_act_core row (acts.Copy to from index) = refl
-    line_act_core row (acts.Library to function arguments newest wanted) = refl
     line_act_core row (acts.ReadLine to line count stream) = write_core l n f g h row to line count stream
-    line_act_core row (acts.Enter base) = refl
-    line_act_core row (acts.Leave base) = refl
-    line_act_core row (acts.Forget base) = refl
-    line_act_core row (acts.Clear base) = refl
-    line_act_core row (acts.Spell base offset room text) = refl
-    line_act_core row acts.Jump = refl
-    line_act_core row (acts.Branch temp kind) = refl
-    line_act_core row (acts.Switch temp kind) = refl
-    line_act_core row acts.Stop = refl
+    line_act_core row _ = refl
 
     line_core : (row : List (Cell I)) (last : Option Step) → line_step (core f g h) row last ≡ line_step f row last
     line_core row None = refl
@@ -200,12 +108,8 @@ module _ {I : Type 0} (l : LatticeOf I) (n : IntegersOf I) where
 
     go_core : (row : List (Cell I)) (last : Option Step) (w : Way) → go (core f g h) row last w ≡ go f row last w
     unfolding branch_edge behind_test refine_if put_kept case_edge refine_object refine refine_case refine_integers refine_values refine_sides refine_one refine_two put_side refine_pointer refine_named
-    go_core row last ways.Always = refl
-    go_core row last (ways.When truth test kept) = refl
-    go_core row last (ways.Case test) = refl
-    go_core row last (ways.Other labels) = refl
-    go_core row last ways.NoLine = refl
     go_core row last ways.Line = line_core row last
+    go_core row last _ = refl
 
     -- behind blocks whose last instructions are alike, edges that are alike make the same of a row
     pub follow_same : (row : List (Cell I)) (from source : ℕ) (k j : EdgeKind) → way k ≡ way j → option_map step (last_instruction f from) ≡ option_map step (last_instruction g source) → follow l n g row source j ≡ follow l n f row from k

@@ -8,7 +8,7 @@ use mathlib.Core.HLevel.{Σ_prop_path}
 use Rattle.cc_base.specs.Lattices.{LatticeOf}
 use Rattle.cc_base.specs.IntegerDomains.{IntegersOf}
 use Rattle.cc_base.specs.declared.integer_operators.Rel.{Rel}
-use Rattle.cc_base.specs.declared.integer_operators.Rel.TheVariants.{Lt, Le, Gt, Ge, Eq, Ne}
+use Rattle.cc_base.specs.declared.integer_operators.Rel.TheVariants.{Ne}
 use Rattle.c_layout.specs.StructViews.{StructView, struct_view}
 use Rattle.c_layout.specs.declared.struct_table.StructType.{StructType}
 use Rattle.c_layout.specs.declared.library_functions.LibFn.{LibFn}
@@ -107,31 +107,8 @@ module _ {I : Type 0} (l : LatticeOf I) (n : IntegersOf I) where
 
   perform_is : (flow : Flow) (row : List (Cell I)) (p : Operation) → operate l n flow row p ≡ perform flow row (act p)
   unfolding operate
-  perform_is flow row (op.Constant to number kind) = refl
-  perform_is flow row (op.Binary to o left right kind) = refl
-  perform_is flow row (op.Unary to o operand kind) = refl
-  perform_is flow row (op.Compare to rel left right) = refl
-  perform_is flow row (op.Not to operand kind) = refl
-  perform_is flow row (op.Convert to operand from kind) = refl
-  perform_is flow row (op.Address to base offset) = refl
-  perform_is flow row (op.Narrow to pointer offset size) = refl
-  perform_is flow row (op.Shift to pointer amount scale backwards) = refl
-  perform_is flow row (op.Difference to left right size) = refl
-  perform_is flow row (op.ComparePointers to rel left right) = refl
-  perform_is flow row (op.Load to pointer kind) = refl
-  perform_is flow row (op.Store pointer value kind kept) = refl
-  perform_is flow row (op.Copy to from index) = refl
-  perform_is flow row (op.Library to function arguments newest wanted) = refl
-  perform_is flow row (op.ReadLine to line count stream) = refl
-  perform_is flow row (op.Enter base) = refl
-  perform_is flow row (op.Leave base) = refl
-  perform_is flow row (op.Forget base) = refl
-  perform_is flow row (op.Clear base) = refl
-  perform_is flow row (op.Spell base offset room text) = refl
-  perform_is flow row op.Jump = refl
-  perform_is flow row (op.Branch temp kind) = refl
-  perform_is flow row (op.Switch temp kind) = refl
   perform_is flow row op.Stop = refl
+  perform_is flow row _ = refl
 
   abbrev violated : Flow → List (Cell I) → Act → Violations
   violated flow row (acts.Binary to o left right kind) = binary_checks l n flow row o left right kind
@@ -149,31 +126,8 @@ module _ {I : Type 0} (l : LatticeOf I) (n : IntegersOf I) where
 
   violated_is : (flow : Flow) (row : List (Cell I)) (p : Operation) → operation_violations l n flow row p ≡ violated flow row (act p)
   unfolding operation_violations
-  violated_is flow row (op.Constant to number kind) = refl
-  violated_is flow row (op.Binary to o left right kind) = refl
-  violated_is flow row (op.Unary to o operand kind) = refl
-  violated_is flow row (op.Compare to rel left right) = refl
-  violated_is flow row (op.Not to operand kind) = refl
-  violated_is flow row (op.Convert to operand from kind) = refl
-  violated_is flow row (op.Address to base offset) = refl
-  violated_is flow row (op.Narrow to pointer offset size) = refl
-  violated_is flow row (op.Shift to pointer amount scale backwards) = refl
-  violated_is flow row (op.Difference to left right size) = refl
-  violated_is flow row (op.ComparePointers to rel left right) = refl
-  violated_is flow row (op.Load to pointer kind) = refl
-  violated_is flow row (op.Store pointer value kind kept) = refl
-  violated_is flow row (op.Copy to from index) = refl
-  violated_is flow row (op.Library to function arguments newest wanted) = refl
-  violated_is flow row (op.ReadLine to line count stream) = refl
-  violated_is flow row (op.Enter base) = refl
-  violated_is flow row (op.Leave base) = refl
-  violated_is flow row (op.Forget base) = refl
-  violated_is flow row (op.Clear base) = refl
-  violated_is flow row (op.Spell base offset room text) = refl
-  violated_is flow row op.Jump = refl
-  violated_is flow row (op.Branch temp kind) = refl
-  violated_is flow row (op.Switch temp kind) = refl
   violated_is flow row op.Stop = refl
+  violated_is flow row _ = refl
 
   module _ (f g : Flow) (h : SameParts f g) where
     abbrev mid : Flow
@@ -183,33 +137,8 @@ module _ {I : Type 0} (l : LatticeOf I) (n : IntegersOf I) where
 
     plan_core : (function : LibFn) (arguments : List ℕ) (wanted : Option ℕ) (row : List (Cell I)) → plan_call l n function (call_of mid arguments wanted) row ≡ plan_call l n function (call_of f arguments wanted) row
     unfolding plan_call argument_value plan_malloc plan_calloc plan_realloc plan_free plan_copy plan_fill plan_puts plan_printf plan_strlen plan_strcmp plan_strcpy plan_strncpy plan_strcat
-    plan_core fn_of.Malloc arguments wanted row = refl
-    plan_core fn_of.Calloc arguments wanted row = refl
-    plan_core fn_of.Realloc arguments wanted row = refl
-    plan_core fn_of.Free arguments wanted row = refl
-    plan_core fn_of.Memcpy arguments wanted row = refl
-    plan_core fn_of.Memmove arguments wanted row = refl
-    plan_core fn_of.Memset arguments wanted row = refl
-    plan_core fn_of.Strlen arguments wanted row = refl
-    plan_core fn_of.Strcpy arguments wanted row = refl
-    plan_core fn_of.Strncpy arguments wanted row = refl
-    plan_core fn_of.Strcat arguments wanted row = refl
-    plan_core fn_of.Strcmp arguments wanted row = refl
-    plan_core fn_of.Getchar arguments wanted row = refl
-    plan_core fn_of.Putchar arguments wanted row = refl
-    plan_core fn_of.Puts arguments wanted row = refl
-    plan_core fn_of.Printf arguments wanted row = refl
-    plan_core fn_of.Fgets arguments wanted row = refl
-    plan_core fn_of.Exit arguments wanted row = refl
-    plan_core fn_of.Abort arguments wanted row = refl
-    plan_core fn_of.Isalpha arguments wanted row = refl
-    plan_core fn_of.Isdigit arguments wanted row = refl
-    plan_core fn_of.Isspace arguments wanted row = refl
-    plan_core fn_of.Isupper arguments wanted row = refl
-    plan_core fn_of.Islower arguments wanted row = refl
-    plan_core fn_of.Isalnum arguments wanted row = refl
-    plan_core fn_of.Toupper arguments wanted row = refl
     plan_core fn_of.Tolower arguments wanted row = refl
+    plan_core _ arguments wanted row = refl
 
     line_core : (line count stream : ℕ) (row : List (Cell I)) → planned_line l n mid row line count stream ≡ planned_line l n f row line count stream
     unfolding argument_value plan_fgets
@@ -263,70 +192,25 @@ module _ {I : Type 0} (l : LatticeOf I) (n : IntegersOf I) where
 
     perform_core : (row : List (Cell I)) (a : Act) → perform mid row a ≡ perform f row a
     unfolding constant_step binary_step unary_step compare_step not_step put_converted convert_value convert_step address_step narrow_touched narrow_step put_moved shift_by shift_step difference_step relation_step put_number put_truth put_pointer put_read load_step move_temp store_to store_step
-    perform_core row (acts.Constant to number kind) = refl
-    perform_core row (acts.Binary to o left right kind) = refl
-    perform_core row (acts.Unary to o operand kind) = refl
-    perform_core row (acts.Compare to rel left right) = refl
-    perform_core row (acts.Not to operand kind) = refl
-    perform_core row (acts.Convert to operand from kind) = refl
-    perform_core row (acts.Address to base offset) = refl
-    perform_core row (acts.Narrow to pointer offset size) = refl
-    perform_core row (acts.Shift to pointer amount scale backwards) = refl
-    perform_core row (acts.Difference to left right size) = refl
-    perform_core row (acts.ComparePointers to rel left right) = refl
-    perform_core row (acts.Load to pointer kind) = refl
-    perform_core row (acts.Store pointer value kind kept) = refl
     perform_core row (acts.Copy to from index) = copy_core row to from index
     perform_core row (acts.Library to function arguments newest wanted) = call_core row to function arguments newest wanted
     perform_core row (acts.ReadLine to line count stream) = ap (λ (p : Plan I). cond (goes_on p.effect) (Some row) None) (line_core line count stream row)
-    perform_core row (acts.Enter base) = refl
-    perform_core row (acts.Leave base) = refl
-    perform_core row (acts.Forget base) = refl
-    perform_core row (acts.Clear base) = refl
-    perform_core row (acts.Spell base offset room text) = refl
-    perform_core row acts.Jump = refl
-    perform_core row (acts.Branch temp kind) = refl
-    perform_core row (acts.Switch temp kind) = refl
-    perform_core row acts.Stop = refl
+    perform_core row _ = refl
 
     pub operate_same : (row : List (Cell I)) (p q : Operation) → act p ≡ act q → operate l n g row q ≡ operate l n f row p
     operate_same row p q e =
         ap (λ z. operate l n z row q) (sym (core_is f g h)) ∙ (perform_is mid row q ∙ (perform_core row (act q) ∙ (ap (perform f row) (sym e) ∙ sym (perform_is f row p))))
 
     relation_core : (row : List (Cell I)) (rel : Rel) (left right : ℕ) → relation_violations l n mid row rel left right ≡ relation_violations l n f row rel left right
-    relation_core row Lt left right = refl
-    relation_core row Le left right = refl
-    relation_core row Gt left right = refl
-    relation_core row Ge left right = refl
-    relation_core row Eq left right = refl
     relation_core row Ne left right = refl
+    relation_core row _ left right = refl
 
     violated_core : (row : List (Cell I)) (a : Act) → violated mid row a ≡ violated f row a
-    violated_core row (acts.Constant to number kind) = refl
-    violated_core row (acts.Binary to o left right kind) = refl
-    violated_core row (acts.Unary to o operand kind) = refl
-    violated_core row (acts.Compare to rel left right) = refl
-    violated_core row (acts.Not to operand kind) = refl
-    violated_core row (acts.Convert to operand from kind) = refl
-    violated_core row (acts.Address to base offset) = refl
-    violated_core row (acts.Narrow to pointer offset size) = refl
-    violated_core row (acts.Shift to pointer amount scale backwards) = refl
-    violated_core row (acts.Difference to left right size) = refl
     violated_core row (acts.ComparePointers to rel left right) = relation_core row rel left right
-    violated_core row (acts.Load to pointer kind) = refl
-    violated_core row (acts.Store pointer value kind kept) = refl
     violated_core row (acts.Copy to from index) = copies_core row to from index
     violated_core row (acts.Library to function arguments newest wanted) = ap (λ (p : Plan I). p.violations) (plan_core function arguments wanted row)
     violated_core row (acts.ReadLine to line count stream) = ap (λ (p : Plan I). p.violations) (line_core line count stream row)
-    violated_core row (acts.Enter base) = refl
-    violated_core row (acts.Leave base) = refl
-    violated_core row (acts.Forget base) = refl
-    violated_core row (acts.Clear base) = refl
-    violated_core row (acts.Spell base offset room text) = refl
-    violated_core row acts.Jump = refl
-    violated_core row (acts.Branch temp kind) = refl
-    violated_core row (acts.Switch temp kind) = refl
-    violated_core row acts.Stop = refl
+    violated_core row _ = refl
 
     pub violations_same : (row : List (Cell I)) (p q : Operation) → act p ≡ act q → operation_violations l n g row q ≡ operation_violations l n f row p
     violations_same row p q e =

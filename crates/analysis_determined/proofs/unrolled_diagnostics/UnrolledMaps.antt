@@ -1,5 +1,5 @@
 -- A map of a program, put at every copy, is one of the program with turns unrolled.
-use Rattle.std.specs.Prelude.{◌≡◌, ℕ, zero, suc, ◌*◌, ◌<◌, ◌≤◌, ℤ, Bool, true, nat_lt, Option, Some, None, List, [], ◌∷◌, map, option_map, length, slice_get, replicate, refl}
+use Rattle.std.specs.Prelude.{◌≡◌, ℕ, zero, suc, ◌*◌, ◌<◌, ◌≤◌, ℤ, Bool, true, nat_lt, Option, Some, None, List, [], ◌∷◌, option_map, length, slice_get, replicate, refl}
 use Rattle.std.specs.List.{list_all}
 use Rattle.std.proofs.Common.{arith, sym, subst, subst₂, ap, ap₂, ◌∙◌, inl, inr}
 use Rattle.std.proofs.lemmas.Bool.{cases_lt, and_parts, ltb-true}
@@ -12,8 +12,7 @@ use Rattle.cc_base.specs.InductiveMap as maps
 use Rattle.cc_base.specs.Rows.{reached_leq}
 use Rattle.cfg.specs.declared.programs.Flow.{Flow}
 use Rattle.cfg.specs.declared.flow_edges.Edge.{Edge}
-use Rattle.cfg.specs.declared.machine_instructions.Instruction.{Instruction}
-use Rattle.lower_templates.specs.Worklist.Acts.{Step, step}
+use Rattle.lower_templates.specs.Worklist.Acts.{step}
 use Rattle.lower_templates.specs.Views.ProgramViews.{EdgeView, block, edge, flow_view}
 use Rattle.value_domain.specs.declared.values.row_cells.Cell.{Cell}
 use Rattle.value_domain.specs.declared.values.row_cells.Cell.TheVariants.{Nothing}
@@ -22,22 +21,16 @@ use Rattle.transfer_system.specs.StartRows.{start_row}
 use Rattle.transfer_system.specs.Edges as edges
 use Rattle.transfer_system.specs.BoundedRows.OwnRows.{is_own_row}
 use Rattle.transfer_system.specs.BoundedRows.FittedRows.{row_fit, reached_fit}
-use Rattle.transfer_system.specs.System.BlockPasses.{instructions_of, row_behind, rows_behind, block_end, edge_behind, edge_end}
+use Rattle.transfer_system.specs.System.BlockPasses.{instructions_of, block_end, edge_behind, edge_end}
 use Rattle.transfer_system.specs.System.FlowMachines.{edge_at, known_start, start_of, through, flow_machine, is_head_at}
 use Rattle.transfer_system.specs.System.SystemChecks.{is_sound_edge, is_in_order, is_few, is_system}
 use Rattle.loop_unrolling.specs.Turns.{copies, last_copy, number_in, copy_behind, all_copies, split}
 use Rattle.analysis_determined.specs.UnrolledDiagnostics.SameParts.{SameParts}
 use Rattle.analysis_determined.proofs.unrolled_runs.CopiedLists.{placed, copies_length, copy_at}
-use Rattle.analysis_determined.proofs.unrolled_diagnostics.SameOperations.{operate_same}
+use Rattle.analysis_determined.proofs.unrolled_diagnostics.SameInstructions.{rows_same}
 use Rattle.analysis_determined.proofs.unrolled_diagnostics.SameEdges.{follow_same}
 use Rattle.analysis_determined.proofs.unrolled_diagnostics.SameStarts.{start_same}
 use Rattle.analysis_determined.proofs.unrolled_diagnostics.UnrolledPrograms.{same_parts, size, edge_size, block_count, steps_same, last_same, head_there, edge_count, EdgeCopy, edge_of, behind_below}
-
-pub step_same : (s t : Step) (ss ts : List Step) → ◌≡◌ {A = List Step} (s ∷ ss) (t ∷ ts) → s ≡ t
-step_same s t ss ts e = cc
-
-pub steps_behind : (s t : Step) (ss ts : List Step) → ◌≡◌ {A = List Step} (s ∷ ss) (t ∷ ts) → ss ≡ ts
-steps_behind s t ss ts e = cc
 
 all_at : {X : Type 0} (f : X → Bool) (xs : List X) → list_all f xs ≡ true → (i : ℕ) (x : X) → slice_get xs i ≡ Some x → f x ≡ true
 all_at f [] h i x e = absurd (cc)
@@ -56,21 +49,9 @@ module _ {I : Type 0} (l : LatticeOf I) (n : IntegersOf I) (list : List ℤ) (tu
 
   -- ---- rows behind blocks and edges
 
-  rows_same : (is js : List Instruction) → map step is ≡ map step js → (x : Option (List (Cell I))) → rows_behind l n g x js ≡ rows_behind l n f x is
-  rows_same [] [] e x = refl
-  rows_same [] (j ∷ js) e x = absurd (cc)
-  rows_same (i ∷ is) [] e x = absurd (cc)
-  rows_same (i ∷ is) (j ∷ js) e x =
-      rows_same is js (steps_behind (step i) (step j) (map step is) (map step js) e) (row_behind l n g j x)
-      ∙ ap (λ z. rows_behind l n f z is) (one x)
-    where
-      one : (x : Option (List (Cell I))) → row_behind l n g j x ≡ row_behind l n f i x
-      one None = refl
-      one (Some row) = operate_same l n f g same row i.operation j.operation (ap (λ (s : Step). s.does) (step_same (step i) (step j) (map step is) (map step js) e))
-
   block_same : (k j : ℕ) → k < copies turns → j < many → (row : List (Cell I)) → block_end l n g (number_in many k j) row ≡ block_end l n f j row
   unfolding block_end
-  block_same k j p q row = rows_same (instructions_of f j) (instructions_of g (number_in many k j)) (steps_same turns f g h k j p q) (Some row)
+  block_same k j p q row = rows_same l n f g same (instructions_of f j) (instructions_of g (number_in many k j)) (steps_same turns f g h k j p q) (Some row)
 
   module _ (valid : is_system f ≡ true) where
     sound_at : (j : ℕ) (x : Edge) → slice_get f.edges.items j ≡ Some x → is_sound_edge f.blocks.items x ≡ true

@@ -1,24 +1,22 @@
 -- What the copies of a map admit of a program with turns unrolled, the map admits of the program.
-use Rattle.std.specs.Prelude.{◌≡◌, ℕ, zero, suc, ◌+◌, ◌<◌, Option, Some, None, List, [], ◌∷◌, ◌++◌, map, length, Contains, refl}
-use Rattle.std.proofs.Common.{arith, sym, subst, ap, ap₂, ◌∙◌, inl, inr}
+use Rattle.std.specs.Prelude.{◌≡◌, ℕ, zero, suc, ◌+◌, ◌<◌, Option, Some, None, List, [], ◌∷◌, length, Contains, refl}
+use Rattle.std.proofs.Common.{arith, subst, ap, ◌∙◌, inl, inr}
 use Rattle.cc_base.specs.Lattices.{LatticeOf}
 use Rattle.cc_base.specs.IntegerDomains.{IntegersOf}
 use Rattle.cc_base.specs.InductiveMap.{row_at}
 use Rattle.cc_base.specs.declared.diagnostics.Diag.{Diag}
 use Rattle.cfg.specs.declared.programs.Flow.{Flow}
-use Rattle.cfg.specs.declared.machine_instructions.Instruction.{Instruction}
-use Rattle.lower_templates.specs.Worklist.Acts.{Step, step}
 use Rattle.lower_templates.specs.Views.ProgramViews.{flow_view}
 use Rattle.value_domain.specs.declared.values.row_cells.Cell.{Cell}
-use Rattle.diagnose.specs.Diagnostics.AdmittedRules.{pairs_of, instructions_of, pairs_at, row_behind, pairs_from, instruction_pairs, block_pairs, entry_pairs, rows_pairs, map_pairs}
-use Rattle.analysis.proofs.FewestPairs.{In, AreIn, in_left, in_right, in_either, in_from, contains_in}
+use Rattle.system_monotone.specs.AdmittedRules.{instructions_of, instruction_pairs, block_pairs, entry_pairs, rows_pairs, map_pairs}
+use Rattle.system_monotone.proofs.diagnostics.FewestPairs.{In, AreIn, in_left, in_right, in_either, in_from, contains_in}
 use Rattle.loop_unrolling.specs.Turns.{copies, number_in, split}
 use Rattle.analysis_determined.specs.UnrolledDiagnostics.SameParts.{SameParts}
 use Rattle.analysis_determined.specs.UnrolledDiagnostics.CopiedMaps.{copied_map}
 use Rattle.analysis_determined.proofs.unrolled_runs.CopiedLists.{placed, copies_length}
-use Rattle.analysis_determined.proofs.unrolled_diagnostics.SameOperations.{operate_same, violations_same}
+use Rattle.analysis_determined.proofs.unrolled_diagnostics.SameInstructions.{pairs_same}
 use Rattle.analysis_determined.proofs.unrolled_diagnostics.UnrolledPrograms.{same_parts, size, steps_same}
-use Rattle.analysis_determined.proofs.unrolled_diagnostics.UnrolledMaps.{step_same, steps_behind, row_of}
+use Rattle.analysis_determined.proofs.unrolled_diagnostics.UnrolledMaps.{row_of}
 
 module _ {I : Type 0} (l : LatticeOf I) (n : IntegersOf I) where
   -- a pair of a map is one of a block
@@ -48,27 +46,10 @@ module _ {I : Type 0} (l : LatticeOf I) (n : IntegersOf I) where
     abbrev many : ℕ
     many = size turns f g h
 
-    one_pairs : (i j : Instruction) → step i ≡ step j → (x : Option (List (Cell I))) → pairs_at l n g j x ≡ pairs_at l n f i x
-    one_pairs i j e None = refl
-    one_pairs i j e (Some row) = ap₂ (λ (s : Step) v. pairs_of s.at v) (sym e) (violations_same l n f g same row i.operation j.operation (ap (λ (s : Step). s.does) e))
-
-    one_behind : (i j : Instruction) → step i ≡ step j → (x : Option (List (Cell I))) → row_behind l n g j x ≡ row_behind l n f i x
-    one_behind i j e None = refl
-    one_behind i j e (Some row) = operate_same l n f g same row i.operation j.operation (ap (λ (s : Step). s.does) e)
-
-    from_same : (is js : List Instruction) → map step is ≡ map step js → (x : Option (List (Cell I))) → pairs_from l n g x js ≡ pairs_from l n f x is
-    from_same [] [] e x = refl
-    from_same [] (j ∷ js) e x = absurd (cc)
-    from_same (i ∷ is) [] e x = absurd (cc)
-    from_same (i ∷ is) (j ∷ js) e x =
-        let s = step_same (step i) (step j) (map step is) (map step js) e in
-        ap₂ (λ a c. a ++ c) (one_pairs i j s x)
-        (from_same is js (steps_behind (step i) (step j) (map step is) (map step js) e) (row_behind l n g j x) ∙ ap (λ z. pairs_from l n f z is) (one_behind i j s x))
-
     entry_same : (k j : ℕ) → k < copies turns → j < many → (x : Option (List (Cell I))) → entry_pairs l n g (number_in many k j) x ≡ entry_pairs l n f j x
     unfolding block_pairs instruction_pairs
     entry_same k j p q None = refl
-    entry_same k j p q (Some row) = from_same (instructions_of f j) (instructions_of g (number_in many k j)) (steps_same turns f g h k j p q) (Some row)
+    entry_same k j p q (Some row) = pairs_same l n f g same (instructions_of f j) (instructions_of g (number_in many k j)) (steps_same turns f g h k j p q) (Some row)
 
     module _ (rows : List (Option (List (Cell I)))) (long : length rows ≡ many) where
       map_same : AreIn (map_pairs l n g (copied_map turns rows)) (map_pairs l n f rows)

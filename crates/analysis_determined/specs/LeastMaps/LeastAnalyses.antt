@@ -5,7 +5,8 @@ use Rattle.cc_base.specs.declared.diagnostics.Diag.{Diag}
 use Rattle.cfg.specs.declared.programs.Flow.{Flow}
 use Rattle.value_domain.specs.declared.values.row_cells.Cell.{Cell}
 use Rattle.interval_domain.specs.declared.intervals.intervals.Interval.{Interval}
-use Rattle.analysis.specs.Analyses.{row_lattice, machine_of, admitted_pairs, IsAdmitted}
+use Rattle.analysis.specs.Analyses.{row_lattice, machine_of, admitted_pairs}
+use Rattle.analysis_determined.specs.LeastMaps.ExactAnalyses.{IsAdmitted}
 
 -- the least one of the inductive maps of a program's system
 pub record IsLeastMap (flow : Flow) (list : List ℤ) (rows : List (Option (List (Cell Interval)))) : Type 0 where

@@ -74,4 +74,4 @@ module _ (flow : Flow) (list : List ℤ) (known : is_regular flow list ≡ true)
 
 module _ (flow : Flow) (list : List ℤ) (found : List Diag) (a : IsAnalysis flow list found) (suffices : Suffices flow list) (u : UnitView) (start : EntryInGamma interval_lattice interval_numbers Stands flow list u) (typed : HasTypedRuns flow u) where
   pub each_pair : (v : Violation) → IsViolatedIn flow u v → Contains found (record { place = v.at; rule = v.rule })
-  each_pair v there = a.kept (record { place = v.at; rule = v.rule }) (λ rows closed. (covered flow list a.regular suffices u start typed rows closed there.draws there.steps).all v there.there)
+  each_pair v there = a.pairs.kept (record { place = v.at; rule = v.rule }) ((covered flow list a.regular suffices u start typed a.rows a.inductive there.draws there.steps).all v there.there)

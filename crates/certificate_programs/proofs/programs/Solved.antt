@@ -1,8 +1,5 @@
 -- The text of a map that was found is a certificate.
 use Rattle.std.specs.Prelude.{◌≡◌, ℤ, true, List, Option, Result, Ok, Err, IfOk}
-use Rattle.std.proofs.Common.{subst}
-use Rattle.cc_base.specs.Machine.{IsMonotone}
-use Rattle.cc_base.specs.InductiveMap.{IsInductive, IsLeast}
 use Rattle.cfg.specs.declared.programs.Flow.{Flow}
 use Rattle.value_domain.specs.declared.values.row_cells.Cell.{Cell}
 use Rattle.interval_domain.specs.declared.intervals.intervals.Interval.{Interval}
@@ -10,22 +7,12 @@ use Rattle.interval_domain.specs.Intervals.IntervalLattice.{interval_lattice}
 use Rattle.interval_domain.specs.Intervals.IntervalNumbers.{interval_numbers}
 use Rattle.transfer_system.specs.System.FlowMachines.{has_start}
 use Rattle.transfer_system.specs.System.RegularPrograms.{is_regular}
-use Rattle.analysis.proofs.RegularSystems.{regular_monotone}
 use Rattle.diagnose.specs.Operands.TypedRows.{is_typed_map}
-use Rattle.analysis.specs.Analyses.{row_lattice, machine_of}
 use Rattle.analysis.specs.CheckedPrograms.{IsChecked}
+use Rattle.analysis.proofs.SolvedMaps.{IsSolved}
 use Rattle.certificate_text.specs.Lines.LineWords.{Bytes}
 use Rattle.certificate_text.specs.Maps.MapTexts.{text_of_map}
 use Rattle.certificate_programs.specs.Programs.Certificates.{IsCertificate}
-
--- a map of a program's system with numbers of a list
-pub record IsSolved (flow : Flow) (list : List ℤ) (rows : List (Option (List (Cell Interval)))) : Type 0 where
-  pub inductive : IsInductive row_lattice (machine_of flow list) rows
-  pub least : IsMonotone row_lattice (machine_of flow list) → IsLeast row_lattice (machine_of flow list) rows
-
-pub solved_as : (flow flow' : Flow) (list list' : List ℤ) (rows : List (Option (List (Cell Interval)))) → flow ≡ flow' → list ≡ list' → IsInductive row_lattice (machine_of flow list) rows → (IsMonotone row_lattice (machine_of flow list) → IsLeast row_lattice (machine_of flow list) rows) → IsSolved flow' list' rows
-solved_as flow flow' list list' rows e f i l =
-    subst (λ z. IsSolved flow' z rows) f (subst (λ z. IsSolved z list rows) e (record { inductive = i; least = l }))
 
 module _ (flow : Flow) (list : List ℤ) (rows : List (Option (List (Cell Interval)))) (start : has_start interval_lattice interval_numbers flow ≡ true) (regular : is_regular flow list ≡ true) (checked : IsChecked flow list) (s : IsSolved flow list rows) where
   certificate_of : (text : Bytes) → is_typed_map interval_lattice interval_numbers flow rows ≡ true → text ≡ text_of_map flow rows → IsCertificate flow list text
@@ -35,7 +22,7 @@ module _ (flow : Flow) (list : List ℤ) (rows : List (Option (List (Cell Interv
     regular = regular;
     checked = checked;
     inductive = s.inductive;
-    least = s.least (regular_monotone flow list regular);
+    least = s.least;
     typed = typed;
     is_text = is;
   }

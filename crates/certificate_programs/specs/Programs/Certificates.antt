@@ -2,6 +2,7 @@
 use Rattle.std.specs.Prelude.{◌≡◌, ◌-◌, ◌^◌, ℤ, pos, negsuc, true, List, [], ◌∷◌, Option}
 use Rattle.cc_base.specs.DiagnosticOrder.{IsOrderedSet}
 use Rattle.cc_base.specs.InductiveMap.{IsInductive, IsLeast}
+use Rattle.cc_base.specs.Machine.{IsMonotone}
 use Rattle.cc_base.specs.declared.diagnostics.Diag.{Diag}
 use Rattle.cfg.specs.declared.programs.Flow.{Flow}
 use Rattle.value_domain.specs.declared.values.row_cells.Cell.{Cell}
@@ -21,9 +22,9 @@ use Rattle.certificate_check.specs.Verdicts.Verdicts.{IsVerdictOn}
 use Rattle.certificate_programs.specs.declared.programs.checked_maps.Verified.{Verified}
 use Rattle.certificate_programs.specs.declared.programs.checked_maps.Verified.TheVariants.{Found, Refused}
 
--- the text is that of the least inductive map of the program, with bounds rounded to the numbers of a list at
--- heads; the program is such as soundness asks, and by the rows of the map operands lie within the types that
--- instructions name
+-- the text is that of an inductive map of the program, with bounds rounded to the numbers of a list at heads; it is the
+-- least such map where the system is monotone; the program is such as soundness asks, and by the rows of the map operands
+-- lie within the types that instructions name
 pub record IsCertificate (flow : Flow) (list : List ℤ) (text : Bytes) : Type 0 where
   pub rows : List (Option (List (Cell Interval)))
   -- there is a row of the entry, and rows of the program are cut in order
@@ -32,7 +33,7 @@ pub record IsCertificate (flow : Flow) (list : List ℤ) (text : Bytes) : Type 0
   -- what soundness asks beside that
   pub checked : IsChecked flow list
   pub inductive : IsInductive row_lattice (machine_of flow list) rows
-  pub least : IsLeast row_lattice (machine_of flow list) rows
+  pub least : IsMonotone row_lattice (machine_of flow list) → IsLeast row_lattice (machine_of flow list) rows
   pub typed : is_typed_map interval_lattice interval_numbers flow rows ≡ true
   pub is_text : text ≡ text_of_map flow rows
 

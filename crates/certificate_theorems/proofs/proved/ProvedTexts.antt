@@ -3,6 +3,7 @@ use Rattle.std.specs.Prelude.{◌≡◌, ◌&&◌, ℤ, true, List, None, refl}
 use Rattle.std.proofs.Common.{sym, subst}
 use Rattle.std.proofs.lemmas.Bool.{and_parts, and_from}
 use Rattle.cc_base.specs.DiagnosticOrder.{IsOrderedSet}
+use Rattle.cc_base.specs.InductiveMap.{IsLeast}
 use Rattle.cc_base.specs.Standard.{standard_limits}
 use Rattle.cc_base.specs.declared.diagnostics.Diag.{Diag}
 use Rattle.cfg.specs.WellFormed.{is_well_formed}
@@ -11,10 +12,10 @@ use Rattle.interval_domain.specs.Intervals.IntervalLattice.{interval_lattice}
 use Rattle.interval_domain.specs.Intervals.IntervalNumbers.{interval_numbers}
 use Rattle.transfer_system.specs.System.RegularPrograms.{has_scalars, has_initial_bytes, has_apart_members, is_near_list, is_regular}
 use Rattle.diagnose.specs.Operands.TypedRows.{is_typed_map}
-use Rattle.analysis_determined.specs.Analyses.{admitted_pairs, IsAnalysis}
+use Rattle.analysis_determined.specs.Analyses.{row_lattice, machine_of, admitted_pairs, IsAnalysis}
 use Rattle.analysis_determined.specs.CheckedPrograms.{IsChecked}
-use Rattle.analysis_determined.specs.LeastMaps.LeastAnalyses.{AdmitsExactly}
-use Rattle.analysis_determined.proofs.least_maps.LeastAnalyses.{exact_map, one_answer}
+use Rattle.analysis_determined.proofs.RegularSystems.{regular_monotone}
+use Rattle.analysis_determined.proofs.least_maps.LeastAnalyses.{one_answer}
 use Rattle.certificate_text.specs.Lines.LineWords.{Bytes}
 use Rattle.certificate_check.specs.Reading.MapReading.{map_rows}
 use Rattle.certificate_theorems.proofs.verdicts.VerdictProofs.{one_verdict_alone}
@@ -52,8 +53,8 @@ module _ (flow : Flow) (list : List ℤ) (text : Bytes) (c : IsCertificate flow 
   pub not_cut : (told : Told) → IsToldOf flow text told → told.smaller ≡ None
   not_cut told h = h.kept (subst (λ rs. is_typed_map interval_lattice interval_numbers flow rs ≡ true) (sym (rows_are flow list text c)) c.typed)
 
-  exactly : AdmitsExactly flow list c.rows
-  exactly = exact_map flow list c.regular c.rows (record { inductive = c.inductive; least = c.least })
+  pub least_map : IsLeast row_lattice (machine_of flow list) c.rows
+  least_map = c.least (regular_monotone flow list c.regular)
 
   analysis_by : (found : List Diag) → IsOrderedSet (admitted_pairs flow c.rows) found → IsAnalysis flow list found
   analysis_by found pairs = record {
@@ -64,9 +65,7 @@ module _ (flow : Flow) (list : List ℤ) (text : Bytes) (c : IsCertificate flow 
     inductive = c.inductive;
     least = c.least;
     typed = c.typed;
-    ascending = pairs.ascending;
-    kept = λ d every. pairs.kept d (exactly.kept d every);
-    made = λ d here. exactly.made d (pairs.made d here);
+    pairs = pairs;
   }
 
   pub analysis_read : (found : List Diag) → IsOrderedSet (admitted_pairs flow (map_rows flow text)) found → IsAnalysis flow list found

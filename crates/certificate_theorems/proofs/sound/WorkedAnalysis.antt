@@ -23,7 +23,6 @@ use Rattle.transfer_instructions.specs.Values.ResultTemps.{put_number}
 use Rattle.transfer_system.specs.System.FlowMachines.{start_of}
 use Rattle.row_bounds.specs.Entries.CutStarts.{type_list}
 use Rattle.diagnose.specs.Diagnostics.AdmittedRules.{pairs_of, instruction_pairs, block_pairs, map_pairs}
-use Rattle.analysis_determined.proofs.LeastMaps.{regular_admits_least}
 use Rattle.analysis_determined.specs.Analyses.{row_lattice, machine_of, admitted_pairs, IsAnalysis}
 use Rattle.certificate_theorems.specs.Sound.WorkedCertificates.{IsAcceptedBeyond}
 use Rattle.certificate_theorems.proofs.sound.WorkedCertificate.{text, row, start, program, unit, rows, starts, started, inductive, typed, regular, diagnostic, found, rows_are, verified, beyond, violation, violated}
@@ -57,11 +56,13 @@ module _ (some : Flow) where
     checked = record { parts = refl; structs = refl; reaches = refl };
     rows = rows some;
     inductive = inductive some;
-    least = least;
+    least = λ m. least;
     typed = typed some;
-    ascending = one_ascends;
-    kept = λ d e. subst (λ ps. Contains ps d) pairs_are (e (rows some) (inductive some));
-    made = λ d e other closed. regular_admits_least (program some) type_list (regular some) (rows some) other (inductive some) least closed d (subst (λ ps. Contains ps d) (sym pairs_are) e);
+    pairs = record {
+      ascending = one_ascends;
+      kept = λ d e. subst (λ ps. Contains ps d) pairs_are e;
+      made = λ d e. subst (λ ps. Contains ps d) (sym pairs_are) e;
+    };
   }
 
   pub accepted : IsAcceptedBeyond (program some) type_list text (found some) (unit some) (violation some)

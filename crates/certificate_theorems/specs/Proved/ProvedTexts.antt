@@ -1,8 +1,9 @@
 -- What the texts that are written as certificates come to.
 use Rattle.std.specs.Prelude.{◌≡◌, ℤ, List, None}
+use Rattle.cc_base.specs.InductiveMap.{IsLeast}
 use Rattle.cc_base.specs.declared.diagnostics.Diag.{Diag}
 use Rattle.cfg.specs.declared.programs.Flow.{Flow}
-use Rattle.analysis_determined.specs.Analyses.{IsAnalysis}
+use Rattle.analysis_determined.specs.Analyses.{row_lattice, machine_of, IsAnalysis}
 use Rattle.certificate_text.specs.Lines.LineWords.{Bytes}
 use Rattle.certificate_check.specs.declared.verdicts.verdicts.Verdict.TheVariants.{Yes}
 use Rattle.certificate_check.specs.Verdicts.Verdicts.{IsVerdictOn}
@@ -11,6 +12,10 @@ use Rattle.certificate_programs.specs.declared.programs.checked_maps.Verified.{V
 use Rattle.certificate_programs.specs.declared.programs.checked_maps.Verified.TheVariants.{Found, Refused}
 use Rattle.certificate_programs.specs.Programs.Certificates.{IsCertificate, IsLookedAt, IsShown, IsVerified}
 use Rattle.certificate_programs.specs.Programs.ReadMaps.{IsToldOf}
+
+-- they are those of least inductive maps
+abbrev pub CertificatesAreLeast : Type 0
+CertificatesAreLeast = (flow : Flow) (list : List ℤ) (text : Bytes) (c : IsCertificate flow list text) → IsLeast row_lattice (machine_of flow list) c.rows
 
 -- they have the verdict yes
 abbrev pub CertificatesAreAccepted : Type 0

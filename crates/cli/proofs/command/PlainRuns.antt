@@ -10,7 +10,7 @@ use Rattle.c_layout.specs.DeclarationTrees.{unit_tree}
 use Rattle.c_layout.specs.StructViews.{structs_view}
 use Rattle.cfg.specs.declared.programs.Flow.{Flow}
 use Rattle.analysis.specs.Analyses.{IsAnalysis}
-use Rattle.entry_sound.specs.Checked.CheckedStarts.{IsUnitOf}
+use Rattle.unit_exact.specs.CheckedStarts.{IsUnitOf}
 use Rattle.typed_lowering.specs.SingleRuns.{HasTypedAccesses, IsSingleProgram}
 use Rattle.unit_exact.specs.Units.SingleUnits.{RunViolates, FindsJustUnitRuns}
 use Rattle.typed_lowering.specs.PlainPrograms.PlainPrograms.{IsPlainFlow, PlainUnitsHavePlainPrograms}

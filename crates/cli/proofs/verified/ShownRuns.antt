@@ -11,7 +11,7 @@ use Rattle.analysis.specs.Analyses.{IsAnalysis}
 use Rattle.typed_lowering.specs.PlainPrograms.PlainPrograms.{PlainUnitsHavePlainPrograms}
 use Rattle.typed_lowering.specs.Conversions.TypedUnits.{is_typed_unit}
 use Rattle.typed_lowering.specs.Units.TypedUnitLaws.{TypedUnitsHaveTypedAccesses}
-use Rattle.entry_sound.specs.Checked.CheckedStarts.{IsUnitOf}
+use Rattle.unit_exact.specs.CheckedStarts.{IsUnitOf}
 use Rattle.typed_lowering.specs.SingleRuns.{IsSingleProgram, HasTypedAccesses}
 use Rattle.unit_exact.specs.Units.SingleUnits.{FindsJustUnitRuns}
 use Rattle.cli_units.specs.Judging.{IsLowered}

@@ -44,7 +44,6 @@ use Rattle.analysis.specs.Analyses.{row_lattice, machine_of, admitted_pairs, IsA
 use Rattle.cli_examples.specs.Units.WorkedPlaces.{at, division}
 use Rattle.cli_examples.specs.Units.WorkedTrees.{int}
 use Rattle.cli_examples.proofs.units.Built.{made, none}
-use Rattle.analysis_determined.specs.LeastMaps.LeastAnalyses.{IsLeastMap, AdmitsExactly}
 use Rattle.cli_examples.specs.Analyses.WorkedAnalyses.{Map, thresholds, IsLarger, IsFoundAlone}
 
 -- ---- longer maps
@@ -188,7 +187,6 @@ module _ (some : Flow) where
   ascends = (tt, tt)
 
   module _
-      (exact : (flow : Flow) (list : List ℤ) → is_regular flow list ≡ true → (rows : Map) → IsLeastMap flow list rows → AdmitsExactly flow list rows)
       (agree : (flow : Flow) (list : List ℤ) (found other : List Diag) → IsAnalysis flow list found → IsAnalysis flow list other → found ≡ other) where
     analysed : IsAnalysis program thresholds (division 24 ∷ [])
     analysed = record {
@@ -197,11 +195,13 @@ module _ (some : Flow) where
       checked = record { parts = refl; structs = refl; reaches = refl };
       rows = rows;
       inductive = inductive;
-      least = least;
+      least = λ m. least;
       typed = typed;
-      ascending = ascends;
-      kept = λ d e. subst (λ ps. Contains ps d) pairs_are (e rows inductive);
-      made = λ d e. (exact program thresholds regular rows (record { inductive = inductive; least = least })).made d (subst (λ ps. Contains ps d) (sym pairs_are) e);
+      pairs = record {
+        ascending = ascends;
+        kept = λ d e. subst (λ ps. Contains ps d) pairs_are e;
+        made = λ d e. subst (λ ps. Contains ps d) (sym pairs_are) e;
+      };
     }
 
     alone : (found : List Diag) → IsAnalysis program thresholds found → found ≡ division 24 ∷ []

@@ -12,7 +12,7 @@ use Rattle.c_layout.specs.declared.syntax_tree.declarations.Tree7.{Tree7}
 use Rattle.c_layout.specs.declared.checked_tree.checked_units.Checked.{Checked}
 use Rattle.c_types.specs.Units.UnitChecks.{check}
 use Rattle.lower.specs.Inlining.Lowerings as lowering
-use Rattle.lower.specs.Inlining.Lowerings.{IsLowering, IsRefusal}
+use Rattle.lower.specs.Inlining.Lowerings.{IsLowering}
 use Rattle.lower.proofs.inlining.OneLowering.{no_refusal}
 use Rattle.cfg.specs.declared.programs.Flow.{Flow}
 use Rattle.lower_templates.specs.Views.ProgramViews.{FlowView, flow_view}

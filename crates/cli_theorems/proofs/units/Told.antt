@@ -3,8 +3,6 @@ use Rattle.std.proofs.Common.{◌≡◌, ◌∙◌, ◌⊎◌, ℕ, List, Option
 use Rattle.cc_base.specs.Outside.{Files, Lacks, Rose, file_at}
 use Rattle.cc_base.specs.declared.diagnostics.Diag.{Diag}
 use Rattle.cc_base.specs.declared.refusals.Fault.{Fault}
-use Rattle.cc_base.specs.declared.refusals.Refusal.{Refusal}
-use Rattle.cc_base.specs.declared.refusals.Refusal.TheVariants as refusal
 use Rattle.cc_base.specs.declared.refusals.Stop.TheVariants as stop
 use Rattle.c_layout.specs.declared.data_model.Model.{Model}
 use Rattle.c_layout.specs.declared.unit_tokens.Unit7.{Unit7}
@@ -19,11 +17,12 @@ use Rattle.cli_units.specs.Stages.{stage_of}
 use Rattle.cli_units.specs.Judging.{SettingView, RefusesUnit}
 use Rattle.cli_answers.specs.Outcomes.{Took, PutOnce, Outcome, told, read_fault, write_fault, no_memory, status_at, Happened, Answers}
 use Rattle.cli_answers.specs.Verdicts as verdict
-use Rattle.cli_answers.specs.Verdicts.{Verdict, reported, report_status, report_in, status_of, text_of, Tells, Gives, FromFiles, IsExpanded, IsReport, IsLaterRefusal, IsStaged, IsRefusal, AnswersUnit, Under, IsVerdict, check_setting}
+use Rattle.cli_answers.specs.Verdicts.{Verdict, reported, status_of, text_of, Tells, FromFiles, IsReport, IsLaterRefusal, IsStaged, IsRefusal, AnswersUnit, Under, IsVerdict, check_setting}
 use Rattle.cli_theorems.specs.Units.Told.{IsTaken, IsAcceptedCheck, IsItsReport, ToldReport}
 use Rattle.cli_theorems.proofs.units.GivenModels.{model_had, model_same}
 use Rattle.cli_theorems.proofs.units.OneUnit.{one_unit}
 use Rattle.cli_theorems.proofs.units.NotRefused.{accepted_not_refused}
+use Rattle.cli_theorems.proofs.units.RefusalStages.{not_staged}
 
 -- ---- a unit that files give is held
 
@@ -46,22 +45,6 @@ later_never held dirs main s names why taken later =
 early_never : (held : Files) (dirs : List Bytes) (main : Bytes) (s : SettingView) (names : List Bytes) (why : Fault) → IsTaken (FromFiles (Some held) dirs s.model main) s → FromFiles (Some held) dirs s.model main names (Err (stop.Refused why)) → ⊥
 early_never held dirs main s names why taken given = not_both (taken.is_expanded.gives held refl) (given held refl)
 
-staged_never : (held : Files) (dirs : List Bytes) (main : Bytes) (s : SettingView) (names : List Bytes) (why : Fault) (r : Refusal) → IsTaken (FromFiles (Some held) dirs s.model main) s → IsStaged (FromFiles (Some held) dirs s.model main) s names why (stage_of r) → ⊥
-staged_never held dirs main s names why refusal.NumberForm taken (inl h) = early_never held dirs main s names why taken h
-staged_never held dirs main s names why refusal.NumberForm taken (inr h) = later_never held dirs main s names why taken h
-staged_never held dirs main s names why (refusal.Unsupported word) taken h = later_never held dirs main s names why taken h
-staged_never held dirs main s names why refusal.Syntax taken h = later_never held dirs main s names why taken h
-staged_never held dirs main s names why refusal.Undeclared taken h = later_never held dirs main s names why taken h
-staged_never held dirs main s names why refusal.Redeclared taken h = later_never held dirs main s names why taken h
-staged_never held dirs main s names why refusal.TypeFault taken h = later_never held dirs main s names why taken h
-staged_never held dirs main s names why refusal.PointerInteger taken h = later_never held dirs main s names why taken h
-staged_never held dirs main s names why refusal.ConstantNeeded taken h = later_never held dirs main s names why taken h
-staged_never held dirs main s names why refusal.FormatFault taken h = later_never held dirs main s names why taken h
-staged_never held dirs main s names why refusal.NoEntry taken h = later_never held dirs main s names why taken h
-staged_never held dirs main s names why refusal.Recursion taken h = later_never held dirs main s names why taken h
-staged_never held dirs main s names why (refusal.TooLarge what count limit) taken h = later_never held dirs main s names why taken h
-staged_never held dirs main s names why _ taken h = early_never held dirs main s names why taken h
-
 -- ---- what is told
 
 made_report : (seen : Seen) (c : CommandView) (m : Model) (form : Format) (names : List Bytes) (unit : Bytes) (diags : List Diag) → form ≡ c.format → unit ≡ c.unit → IsReport (FromFiles seen.files c.dirs m c.unit) (check_setting c m) names diags → IsItsReport seen c m (reported form names unit diags)
@@ -73,7 +56,7 @@ lacks_not (Some files) held dirs m main s reason is taken lacks = is_held files 
 
 pub refusal_not : (files : Option Files) (held : Files) (dirs : List Bytes) (main : Bytes) (s : SettingView) (seen : Seen) (unit file : Bytes) (why : Fault) → files ≡ Some held → IsTaken (FromFiles (Some held) dirs s.model main) s → IsRefusal (FromFiles files dirs s.model main) seen dirs s unit file why → ⊥
 refusal_not files held dirs main s seen unit file why is taken r =
-    staged_never held dirs main s r.names why why.refusal taken (subst (λ (fs : Option Files). IsStaged (FromFiles fs dirs s.model main) s r.names why (stage_of why.refusal)) is r.staged)
+    not_staged (FromFiles (Some held) dirs s.model main) s r.names why (stage_of why.refusal) (early_never held dirs main s r.names why taken) (later_never held dirs main s r.names why taken) (subst (λ (fs : Option Files). IsStaged (FromFiles fs dirs s.model main) s r.names why (stage_of why.refusal)) is r.staged)
 
 unit_told : (seen : Seen) (held : Files) (c : CommandView) (m : Model) → seen.files ≡ Some held → IsTaken (FromFiles (Some held) c.dirs m c.unit) (check_setting c m) → (v : Verdict) → AnswersUnit seen c m v → IsItsReport seen c m v
 unit_told seen held c m is taken (verdict.absent name) (same, lacks) =

@@ -3,8 +3,6 @@ use Rattle.std.proofs.Common.{◌≡◌, ◌∙◌, ℕ, List, [], Option, Some,
 use Rattle.cc_base.specs.Outside.{Files}
 use Rattle.cc_base.specs.declared.diagnostics.Diag.{Diag}
 use Rattle.cc_base.specs.declared.refusals.Fault.{Fault}
-use Rattle.cc_base.specs.declared.refusals.Refusal.{Refusal}
-use Rattle.cc_base.specs.declared.refusals.Refusal.TheVariants as refusal
 use Rattle.cc_base.specs.declared.refusals.Stop.TheVariants as stop
 use Rattle.c_layout.specs.declared.data_model.Model.{Model}
 use Rattle.c_layout.specs.declared.unit_tokens.Unit7.{Unit7}
@@ -21,6 +19,7 @@ use Rattle.cli_answers.specs.Verdicts.{Verdict, summed, FromBytes, IsExpanded, I
 use Rattle.cli_theorems.specs.Units.Told.{IsTaken}
 use Rattle.cli_theorems.specs.Units.ToldLoad.{IsAcceptedLoad, IsItsSummary}
 use Rattle.cli_theorems.proofs.units.NotRefused.{accepted_not_refused}
+use Rattle.cli_theorems.proofs.units.RefusalStages.{not_staged}
 use Rattle.cli_theorems.proofs.units.GivenModels.{model_had, model_same}
 use Rattle.cli_theorems.proofs.units.OneUnit.{same_unit}
 
@@ -43,25 +42,9 @@ later_never held main bytes s names why taken later =
 early_never : (held : Files) (main bytes : Bytes) (s : SettingView) (names : List Bytes) (why : Fault) → IsTaken (FromBytes (Some held) s.model main bytes) s → FromBytes (Some held) s.model main bytes names (Err (stop.Refused why)) → ⊥
 early_never held main bytes s names why taken given = not_both (taken.is_expanded.gives held refl) (given held refl)
 
-staged_never : (held : Files) (main bytes : Bytes) (s : SettingView) (names : List Bytes) (why : Fault) (r : Refusal) → IsTaken (FromBytes (Some held) s.model main bytes) s → IsStaged (FromBytes (Some held) s.model main bytes) s names why (stage_of r) → ⊥
-staged_never held main bytes s names why refusal.NumberForm taken (inl h) = early_never held main bytes s names why taken h
-staged_never held main bytes s names why refusal.NumberForm taken (inr h) = later_never held main bytes s names why taken h
-staged_never held main bytes s names why (refusal.Unsupported word) taken h = later_never held main bytes s names why taken h
-staged_never held main bytes s names why refusal.Syntax taken h = later_never held main bytes s names why taken h
-staged_never held main bytes s names why refusal.Undeclared taken h = later_never held main bytes s names why taken h
-staged_never held main bytes s names why refusal.Redeclared taken h = later_never held main bytes s names why taken h
-staged_never held main bytes s names why refusal.TypeFault taken h = later_never held main bytes s names why taken h
-staged_never held main bytes s names why refusal.PointerInteger taken h = later_never held main bytes s names why taken h
-staged_never held main bytes s names why refusal.ConstantNeeded taken h = later_never held main bytes s names why taken h
-staged_never held main bytes s names why refusal.FormatFault taken h = later_never held main bytes s names why taken h
-staged_never held main bytes s names why refusal.NoEntry taken h = later_never held main bytes s names why taken h
-staged_never held main bytes s names why refusal.Recursion taken h = later_never held main bytes s names why taken h
-staged_never held main bytes s names why (refusal.TooLarge what count limit) taken h = later_never held main bytes s names why taken h
-staged_never held main bytes s names why _ taken h = early_never held main bytes s names why taken h
-
 refusal_not : (files : Option Files) (held : Files) (main bytes : Bytes) (s : SettingView) (seen : Seen) (unit file : Bytes) (why : Fault) → files ≡ Some held → IsTaken (FromBytes (Some held) s.model main bytes) s → IsRefusal (FromBytes files s.model main bytes) seen [] s unit file why → ⊥
 refusal_not files held main bytes s seen unit file why is taken r =
-    staged_never held main bytes s r.names why why.refusal taken (subst (λ (fs : Option Files). IsStaged (FromBytes fs s.model main bytes) s r.names why (stage_of why.refusal)) is r.staged)
+    not_staged (FromBytes (Some held) s.model main bytes) s r.names why (stage_of why.refusal) (early_never held main bytes s r.names why taken) (later_never held main bytes s r.names why taken) (subst (λ (fs : Option Files). IsStaged (FromBytes fs s.model main bytes) s r.names why (stage_of why.refusal)) is r.staged)
 
 made_summary : (seen : Seen) (c : CommandView) (m : Model) (unit : Bytes) (names : List Bytes) (bases cells : ℕ) (diags : List Diag) → unit ≡ c.unit → IsSummary (FromBytes seen.files m c.unit (load_of c.seed c.count)) (load_setting m) names bases cells diags → IsItsSummary seen c m (summed unit bases cells diags)
 made_summary seen c m unit names bases cells diags named is = record { names = names; bases = bases; cells = cells; diags = diags; sums = ap (λ (u : Bytes). summed u bases cells diags) named; is_summary = is }

@@ -5,7 +5,7 @@ use Rattle.c_layout.specs.CheckedUnits.{UnitView}
 use Rattle.c_layout.specs.DeclarationTrees.{ExternalTree}
 use Rattle.c_layout.specs.StructViews.{structs_view}
 use Rattle.c_layout.specs.declared.data_model.Model.{Model}
-use Rattle.c_types.specs.Units.UnitChecks.{check}
+use Rattle.c_types_theorems.specs.UnitChecks.{check}
 use Rattle.analysis_preconditions.specs.StructNesting.OrderedStructs.{are_ordered}
 use Rattle.cfg.specs.declared.programs.Flow.{Flow}
 use Rattle.lower_templates.specs.Views.ProgramViews.{flow_view}

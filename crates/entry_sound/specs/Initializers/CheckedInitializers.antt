@@ -5,7 +5,7 @@ use Rattle.c_layout.specs.declared.data_model.Model.{Model}
 use Rattle.c_layout.specs.CheckedUnits.{UnitView}
 use Rattle.c_layout.specs.DeclarationTrees.{ExternalTree}
 use Rattle.c_layout.specs.Models.{is_model}
-use Rattle.c_types.specs.Units.UnitChecks.{check}
+use Rattle.c_types_theorems.specs.UnitChecks.{check}
 use Rattle.lower_preconditions.specs.Objects.PlainObjects.{has_plain_objects}
 use Rattle.store_structs.specs.LaidApart.{are_laid_apart}
 use Rattle.analysis_preconditions.specs.StructNesting.OrderedStructs.{are_ordered}

@@ -5,7 +5,7 @@ use Rattle.std.proofs.lemmas.Option.{slice_get_past}
 use Rattle.c_layout.specs.DeclarationTrees.{ExternalTree}
 use Rattle.c_layout.specs.CheckedUnits.{LocalView, FunctionView, UnitView}
 use Rattle.c_layout.specs.declared.data_model.Model.{Model}
-use Rattle.c_types.specs.Units.UnitChecks.{check}
+use Rattle.c_types_theorems.specs.UnitChecks.{check}
 use Rattle.c_types_theorems.specs.Entries.IntegerEntries.{TakesIntegers}
 use Rattle.c_types_theorems.proofs.entries.Entries.{entries_take_integers}
 

@@ -3,7 +3,7 @@ use Rattle.std.specs.Prelude.{◌≡◌, ◌≤◌, ℕ, Some, List, Ok, length,
 use Rattle.c_layout.specs.DeclarationTrees.{ExternalTree}
 use Rattle.c_layout.specs.CheckedUnits.{FunctionView, UnitView}
 use Rattle.c_layout.specs.declared.data_model.Model.{Model}
-use Rattle.c_types.specs.Units.UnitChecks.{check}
+use Rattle.c_types_theorems.specs.UnitChecks.{check}
 
 -- the entry of a checked unit has no more parameters than local objects
 abbrev pub EntriesHaveLocals : Type 0

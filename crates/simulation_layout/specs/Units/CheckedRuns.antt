@@ -5,7 +5,7 @@ use Rattle.c_layout.specs.DeclarationTrees.{ExternalTree}
 use Rattle.c_layout.specs.CheckedTrees.{statement_trees}
 use Rattle.c_layout.specs.CheckedUnits.{FunctionView, UnitView}
 use Rattle.c_layout.specs.declared.data_model.Model.{Model}
-use Rattle.c_types.specs.Units.UnitChecks.{check}
+use Rattle.c_types_theorems.specs.UnitChecks.{check}
 use Rattle.cfg.specs.declared.programs.Flow.{Flow}
 use Rattle.cfg.specs.WellFormed.{is_well_formed}
 use Rattle.lower_templates.specs.Views.ProgramViews.{flow_view}

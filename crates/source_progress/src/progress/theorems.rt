@@ -4,7 +4,7 @@ ghost use Rattle.source_progress.specs.Progress.Progress.{TurnsHaveSteps, RunsHa
 
 use crate::stack_kinds::runs_keep_kinds;
 use source_items::operations::{lines_have_steps, operations_have_steps, stores_have_steps};
-use source_preservation::liveness::objects_live_where_named;
+use source_preservation::objects_live_where_named;
 
 /// A turn from a state whose values have their kinds, and whose functions name just the objects that live where they
 /// stand, is stuck at most at a condition with a test, a switch on a named object, or where a number other than 0 is

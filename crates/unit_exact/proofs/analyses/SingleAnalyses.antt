@@ -39,6 +39,7 @@ use Rattle.transfer_system.specs.System.RegularPrograms.{has_scalars, has_initia
 use Rattle.analysis_determined.proofs.WellFormed.{laid_out, all_named}
 use Rattle.analysis_determined.proofs.RegularPrograms.{Regular, regular_of}
 use Rattle.analysis_determined.proofs.RegularSystems.{regular_rising}
+use Rattle.analysis_determined.proofs.least_maps.ExactAnalyses.{exact_analysis}
 use Rattle.row_bounds.proofs.edges.OwnEdges.{fit_nothing, leaves_own}
 use Rattle.struct_copies_sound.specs.Structs.StructTables.{HasStructs}
 use Rattle.struct_copies_sound.proofs.ordered_structs.OrderedStructs.{has_structs}
@@ -194,7 +195,7 @@ module _ (flow : Flow) (list : List ℤ) (found : List Diag) (a : IsAnalysis flo
         ((flow-laws interval_order interval_rounding interval_heights interval_bounding interval_ends flow list (well_formed_system standard_limits flow regular.well_formed)).start_attained)
         structs enough.texts (objects single.plain) apart u typed rights unstuck single begin (begins single.parameters)
         (both interval_lattice interval_numbers flow Stands (Some (start_of interval_lattice interval_numbers flow list)) begin behind (record { row = start_of interval_lattice interval_numbers flow list; is = refl; tells = tells single }))
-        d.place d.rule (λ rows closed. a.made d there rows closed)
+        d.place d.rule (λ rows closed. (exact_analysis flow list found a).made d there rows closed)
 
     pub finds_run : FindsJustRunOf flow found u
     finds_run apart unstuck single d = (λ there. only_run apart unstuck single d there, λ v. finds_each_pair flow list found a u stand (record { at = d.place; rule = d.rule }) (record { draws = []; steps = v.count; there = v.there }))

@@ -1,6 +1,7 @@
 use Rattle.fixpoint.specs.Solver.RowMap.{rows_in}
 use Rattle.analysis.proofs.VisitBounds.{followed}
-use Rattle.analysis.proofs.Found.{solved_as, analysed}
+use Rattle.analysis.proofs.SolvedMaps.{solved_as}
+use Rattle.analysis.proofs.Found.{analysed}
 use Rattle.analysis.proofs.program_analysis.found_by.Goals as goal
 
 pub returns-clause-found : goal.returns-clause-found

@@ -1,5 +1,6 @@
 use Rattle.fixpoint.specs.Solver.RowMap.{rows_in}
-use Rattle.certificate_programs.proofs.programs.Solved.{solved_as, certified}
+use Rattle.analysis.proofs.SolvedMaps.{solved_as}
+use Rattle.certificate_programs.proofs.programs.Solved.{certified}
 use Rattle.certificate_programs.proofs.programs.solved_maps.text_by.Goals as goal
 
 pub returns-clause-text : goal.returns-clause-text

@@ -1,0 +1,3 @@
+pub mod analyses
+pub mod programs
+pub mod units

@@ -1,5 +1,0 @@
-use Rattle.c_types_well_formed.proofs.initializers.Initializing.{initializer_goes}
-use Rattle.c_types_well_formed.proofs.initializers.theorems.initializers_are_well_typed.Goals as goal
-
-pub returns : goal.returns
-returns c = initializer_goes

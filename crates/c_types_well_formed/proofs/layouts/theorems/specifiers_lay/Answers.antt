@@ -1,5 +1,0 @@
-use Rattle.c_types_well_formed.proofs.layouts.Specifying.{specifiers_lay}
-use Rattle.c_types_well_formed.proofs.layouts.theorems.specifiers_lay.Goals as goal
-
-pub returns : goal.returns
-returns c = specifiers_lay

@@ -1,5 +1,0 @@
-use Rattle.c_types_well_formed.proofs.terms.Expressions.{lengths_keep}
-use Rattle.c_types_well_formed.proofs.terms.theorems.lengths_keep.Goals as goal
-
-pub returns : goal.returns
-returns c = lengths_keep

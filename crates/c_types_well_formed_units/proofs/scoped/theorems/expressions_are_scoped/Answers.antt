@@ -1,5 +1,0 @@
-use Rattle.c_types_well_formed_units.proofs.scoped.Typed.{typed_yields}
-use Rattle.c_types_well_formed_units.proofs.scoped.theorems.expressions_are_scoped.Goals as goal
-
-pub returns : goal.returns
-returns c = typed_yields

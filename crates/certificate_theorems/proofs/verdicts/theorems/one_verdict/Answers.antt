@@ -1,5 +1,0 @@
-use Rattle.certificate_theorems.proofs.verdicts.VerdictProofs.{one_verdict_alone}
-use Rattle.certificate_theorems.proofs.verdicts.theorems.one_verdict.Goals as goal
-
-pub returns : goal.returns
-returns c = one_verdict_alone

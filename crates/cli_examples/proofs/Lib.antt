@@ -1,0 +1,4 @@
+mod analyses
+mod outcomes
+mod reports
+mod units

@@ -1,5 +1,0 @@
-use Rattle.cli_examples.proofs.units.Parsing.{parsed_to}
-use Rattle.cli_examples.proofs.units.theorems.tokens_are_parsed.Goals as goal
-
-pub returns : goal.returns
-returns c = parsed_to c.one_tree.ensures

@@ -1,0 +1,3 @@
+pub mod certificates
+mod reports
+pub mod units

@@ -1,5 +1,0 @@
-use Rattle.entry_sound.proofs.entries.EntryRows.{entry_stands}
-use Rattle.entry_sound.proofs.entries.theorems.entry_rows_stand.Goals as goal
-
-pub returns : goal.returns
-returns c = λ flow list. entry_stands flow list

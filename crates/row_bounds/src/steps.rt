@@ -1,5 +1,0 @@
-//! Laws of the abstract steps: lower bounds of the numbers and offsets in rows.
-
-mod theorems;
-
-pub use theorems::steps_keep_floors;

@@ -1,1 +1,0 @@
-//! Copies of structs on rows that tell the state.

@@ -1,5 +1,0 @@
-use Rattle.simulation_layout.proofs.function_checks.SwitchedIntegers.{switched_integers}
-use Rattle.simulation_layout.proofs.function_checks.theorems.switches_are_on_integers.Goals as goal
-
-pub returns : goal.returns
-returns c = switched_integers

@@ -1,1 +1,0 @@
-//! Copies that were opened are laid out in the finished program: lemmas for the runs of a unit's program.

@@ -1,5 +1,0 @@
-//! Jumps of the functions of a regular unit.
-
-mod theorems;
-
-pub use theorems::regular_jumps_stand;

@@ -1,5 +1,0 @@
-use Rattle.simulation_units.proofs.preconditions.SuitedStatements.{function_suits}
-use Rattle.simulation_units.proofs.preconditions.theorems.regular_functions_suit.Goals as goal
-
-pub returns : goal.returns
-returns c = function_suits

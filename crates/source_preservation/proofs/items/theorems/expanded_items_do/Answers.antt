@@ -1,5 +1,0 @@
-use Rattle.source_preservation.proofs.items.Expanding.{expanded_do}
-use Rattle.source_preservation.proofs.items.theorems.expanded_items_do.Goals as goal
-
-pub returns : goal.returns
-returns c = expanded_do

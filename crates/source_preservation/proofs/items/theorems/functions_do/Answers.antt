@@ -1,5 +1,0 @@
-use Rattle.source_preservation.proofs.items.Expanding.{functions_do}
-use Rattle.source_preservation.proofs.items.theorems.functions_do.Goals as goal
-
-pub returns : goal.returns
-returns c = functions_do

@@ -1,5 +1,0 @@
-use Rattle.source_preservation.proofs.items.Expanding.{labels_do}
-use Rattle.source_preservation.proofs.items.theorems.labels_do.Goals as goal
-
-pub returns : goal.returns
-returns c = labels_do

@@ -1,5 +1,0 @@
-use Rattle.source_preservation.proofs.unit_checks.LookedUnits.{looks_mark}
-use Rattle.source_preservation.proofs.unit_checks.theorems.looks_mark.Goals as goal
-
-pub returns : goal.returns
-returns c = looks_mark

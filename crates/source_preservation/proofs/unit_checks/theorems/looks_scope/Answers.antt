@@ -1,5 +1,0 @@
-use Rattle.source_preservation.proofs.unit_checks.LookedScopes.{looks_scope}
-use Rattle.source_preservation.proofs.unit_checks.theorems.looks_scope.Goals as goal
-
-pub returns : goal.returns
-returns c = looks_scope

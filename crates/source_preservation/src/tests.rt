@@ -1,1 +1,0 @@
-//! Values that decide a test or select a case agree with memory.

@@ -1,1 +1,0 @@
-//! Units whose terms have operands of the marks that their operators take, and what items do to marks: definitions.

@@ -1,5 +1,0 @@
-use Rattle.struct_copies_sound.proofs.spans.SpanBytes.{spans_see}
-use Rattle.struct_copies_sound.proofs.spans.theorems.spans_see_bytes.Goals as goal
-
-pub returns : goal.returns
-returns g m = spans_see m

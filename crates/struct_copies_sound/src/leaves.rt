@@ -1,1 +1,0 @@
-//! Reads of leaves of copied structs.

@@ -1,6 +1,0 @@
-use Rattle.transfer_sound.proofs.invariant_maps.CarriedMaps.{map_carried}
-use Rattle.transfer_sound.proofs.invariant_maps.theorems.inductive_maps_are_carried.Goals as goal
-
-pub returns : goal.returns
-returns g c = λ mono flow list near reaches laid named rising rows closed.
-    map_carried g.met.I.Lattice.order g.met.I.Lattice.rounding g.met.I.Lattice.heights g.met.I.IntDomain.bounding mono g.met.I.IntDomain.ranges g.met.I.Bounded.ends flow list near reaches laid named rising rows closed

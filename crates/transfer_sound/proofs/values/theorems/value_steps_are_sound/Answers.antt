@@ -1,5 +1,0 @@
-use Rattle.transfer_sound.proofs.values.ValueSteps.{value_step_sound}
-use Rattle.transfer_sound.proofs.values.theorems.value_steps_are_sound.Goals as goal
-
-pub returns : goal.returns
-returns g c = λ flow sound p naming row s i is fits typed r. value_step_sound g.met.I.IntDomain.bounding sound g.met.I.IntDomain.ranges flow p naming row s r i is fits typed

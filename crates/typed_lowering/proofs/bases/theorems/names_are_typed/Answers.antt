@@ -1,5 +1,0 @@
-use Rattle.typed_lowering.proofs.bases.NamedTypes.{names_typed}
-use Rattle.typed_lowering.proofs.bases.theorems.names_are_typed.Goals as goal
-
-pub returns : goal.returns
-returns c = names_typed

@@ -1,5 +1,0 @@
-use Rattle.typed_lowering.proofs.templates.TypedTemplates.{templates_are_typed}
-use Rattle.typed_lowering.proofs.templates.theorems.typed_works_make_typed_templates.Goals as goal
-
-pub returns : goal.returns
-returns c = templates_are_typed

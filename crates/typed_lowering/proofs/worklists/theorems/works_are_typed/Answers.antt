@@ -1,5 +1,0 @@
-use Rattle.typed_lowering.proofs.worklists.AllWorks.{works_typed}
-use Rattle.typed_lowering.proofs.worklists.theorems.works_are_typed.Goals as goal
-
-pub returns : goal.returns
-returns c = works_typed

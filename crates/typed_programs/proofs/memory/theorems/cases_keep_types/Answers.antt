@@ -1,5 +1,0 @@
-use Rattle.typed_programs.proofs.memory.Tests.{cases}
-use Rattle.typed_programs.proofs.memory.theorems.cases_keep_types.Goals as goal
-
-pub returns : goal.returns
-returns c = cases

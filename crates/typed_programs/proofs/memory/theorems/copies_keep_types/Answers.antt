@@ -1,5 +1,0 @@
-use Rattle.typed_programs.proofs.memory.Copies.{copies}
-use Rattle.typed_programs.proofs.memory.theorems.copies_keep_types.Goals as goal
-
-pub returns : goal.returns
-returns c = copies

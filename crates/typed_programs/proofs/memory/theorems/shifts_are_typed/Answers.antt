@@ -1,5 +1,0 @@
-use Rattle.typed_programs.proofs.memory.Pointers.{shifts}
-use Rattle.typed_programs.proofs.memory.theorems.shifts_are_typed.Goals as goal
-
-pub returns : goal.returns
-returns c = shifts

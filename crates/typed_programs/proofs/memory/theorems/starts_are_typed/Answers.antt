@@ -1,5 +1,0 @@
-use Rattle.typed_programs.proofs.memory.Starts.{starts}
-use Rattle.typed_programs.proofs.memory.theorems.starts_are_typed.Goals as goal
-
-pub returns : goal.returns
-returns c = starts

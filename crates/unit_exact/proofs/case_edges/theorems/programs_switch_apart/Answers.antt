@@ -1,5 +1,0 @@
-use Rattle.unit_exact.proofs.case_edges.ApartPrograms.{edges_apart}
-use Rattle.unit_exact.proofs.case_edges.theorems.programs_switch_apart.Goals as goal
-
-pub returns : goal.returns
-returns c = edges_apart

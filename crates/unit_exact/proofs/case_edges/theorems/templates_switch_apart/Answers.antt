@@ -1,5 +1,0 @@
-use Rattle.unit_exact.proofs.case_edges.ApartTemplates.{template_apart}
-use Rattle.unit_exact.proofs.case_edges.theorems.templates_switch_apart.Goals as goal
-
-pub returns : goal.returns
-returns c = template_apart

@@ -1,5 +1,0 @@
-use Rattle.unit_exact.proofs.case_labels.Units.{cases_are_distinct}
-use Rattle.unit_exact.proofs.case_labels.theorems.checked_cases_are_distinct.Goals as goal
-
-pub returns : goal.returns
-returns c = cases_are_distinct

@@ -1,0 +1,9 @@
+mod looped_units
+mod one_loop
+mod plain_unit
+mod refused_tables
+mod source_runs
+mod template_runs
+mod typed_unit
+mod unrolled_unit
+mod wrong_templates

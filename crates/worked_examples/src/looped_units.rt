@@ -1,1 +1,0 @@
-//! Worked rows of the look at units with loops.

@@ -1,1 +1,0 @@
-//! Worked rows of soundness: tables that what rows stand for refuses.

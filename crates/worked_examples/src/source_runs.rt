@@ -1,1 +1,0 @@
-//! Worked rows of the two machines: small units and their control-flow programs come to the same.
