@@ -7,6 +7,7 @@ pub mod WellMadeBases
 pub mod WellMadeEdges
 pub mod WellMadeHeads
 pub mod WellMadeRuns
+pub mod NamedAside
 pub mod EdgesLead
 mod InliningRows
 pub mod PieceExtents

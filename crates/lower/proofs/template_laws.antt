@@ -1,7 +1,5 @@
 pub mod PieceLists
 pub mod PlainWorks
-pub mod PlainConditions
-pub mod PlainStatements
 pub mod TemplateOrder
 pub mod NormalizedOrder
 pub mod NamedLists

@@ -1,5 +1,6 @@
 pub mod Growth
 pub mod GrowingTerms
-pub mod GrowingConditions
 pub mod GrowingStatements
 pub mod GrowingWorks
+pub mod NameTables
+pub mod PlannedPieces

@@ -1,4 +1,1 @@
-pub mod StartingWorks
-pub mod StartingConditions
-pub mod StartingStatements
 pub mod StartingTemplates

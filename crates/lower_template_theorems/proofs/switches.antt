@@ -1,4 +1,2 @@
-pub mod SendingWorks
-pub mod SendingConditions
-pub mod SendingStatements
+pub mod SendingPieces
 pub mod SendingTemplates

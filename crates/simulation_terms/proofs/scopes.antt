@@ -1,7 +1,5 @@
 pub mod Positions
 pub mod KeptScopes
-pub mod KeptByTerms
-pub mod KeptByConditions
 pub mod ScopesOfTerms
 pub mod Ways
 pub mod InScopes

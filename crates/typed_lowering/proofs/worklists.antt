@@ -9,8 +9,6 @@ pub mod Places
 pub mod Assignments
 pub mod Sequences
 pub mod LowKnowledge
-pub mod NamingTests
-pub mod PlainReads
 pub mod TypedConditions
 pub mod TypedBranches
 pub mod Calls

@@ -1,3 +1,4 @@
 pub mod LeadingWorks
 pub mod LeadingTerms
+pub mod PlainReads
 pub mod LeadingConditions

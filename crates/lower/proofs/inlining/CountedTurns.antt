@@ -1,12 +1,9 @@
 -- Every turn of an opening adds what was counted of its piece.
-use Rattle.std.proofs.Common.{◌≡◌, ◌≤◌, ℕ, zero, suc, ◌+◌, ◌-◌, ◌^◌, Bool, true, false, cond, min, List, [], ◌∷◌, ◌++◌, length, Option, Some, None, refl, arith, ap, sym, subst, ◌∙◌, length-append}
+use Rattle.std.proofs.Common.{◌≡◌, ◌≤◌, ℕ, zero, suc, ◌+◌, ◌-◌, ◌^◌, Bool, true, false, cond, min, List, [], ◌∷◌, ◌++◌, length, Option, refl, arith, ap, sym, subst, ◌∙◌, length-append}
 use Rattle.cc_base.specs.declared.diagnostics.Place.{Place}
 use Rattle.c_layout.specs.CheckedUnits.{UnitView}
-use Rattle.cfg.specs.declared.flow_edges.Side.{Side}
-use Rattle.cfg.specs.declared.flow_edges.Side.TheVariants as side
-use Rattle.cfg.specs.declared.flow_edges.Test.{Test}
 use Rattle.lower_templates.specs.Worklist.Acts.{Act, Jump, Step}
-use Rattle.lower_templates.specs.Worklist.Pieces.{Way, Always, When, Case, Other, NoLine, Line, ExitView, PieceView, Do, DoIfUsed, End, Mark, Call, TemplateView}
+use Rattle.lower_templates.specs.Worklist.Pieces.{Way, Always, ExitView, PieceView, Do, DoIfUsed, End, Mark, Call, TemplateView}
 use Rattle.lower_templates.specs.declared.worklist.template_pieces.OwnCall.{OwnCall}
 use Rattle.lower_objects.specs.declared.counts.function_counts.BlockExtent.{BlockExtent}
 use Rattle.lower_objects.specs.declared.counts.function_counts.FunctionCounts.{FunctionCounts}
@@ -17,6 +14,7 @@ use Rattle.lower_templates.specs.Views.ProgramViews.{BlockView}
 use Rattle.lower.specs.Inlining.MovedActs.{own_base}
 use Rattle.lower.specs.Inlining.Inlinings as o
 use Rattle.lower.specs.Inlining.Inlinings.{Made, CopyView, Placed, Inlined, placed, inlined, is_none}
+use Rattle.lower.proofs.inlining.NamedAside.{along_own, along_way}
 use Rattle.lower.specs.Inlining.AsCounted.{all_instructions}
 use Rattle.lower.proofs.inlining.PieceExtents.{same_extent, capped_left, IsCapped, at_cond, done_piece, done_pieces, done_call}
 use Rattle.lower.proofs.inlining.CountedCalls.{CalledIs, AllCalled, IsKnown, known}
@@ -50,25 +48,10 @@ same_base : (u : UnitView) (n : ℕ) (p : Placed) → Same p (o.with_base u n p)
 same_base u n p = record { extent = refl; rest = refl; used = refl }
 
 same_own : (u : UnitView) (n : Option ℕ) (p : Placed) → Same p (o.with_own u n p)
-same_own u None p = stays p
-same_own u (Some n) p = same_base u n p
-
-same_side : (u : UnitView) (s : Side) (p : Placed) → Same p (o.with_side u s p)
-same_side u (side.Object n kind) p = same_base u n p
-same_side u (side.Number n) p = stays p
-same_side u side.Null p = stays p
-
-same_test : (u : UnitView) (t : Option Test) (p : Placed) → Same p (o.with_test u t p)
-same_test u None p = stays p
-same_test u (Some t) p = both p (o.with_side u t.left p) (o.with_side u t.right (o.with_side u t.left p)) (same_side u t.left p) (same_side u t.right (o.with_side u t.left p))
+same_own u n p = along_own u Same stays both (same_base u) n p
 
 same_way : (u : UnitView) (w : Way) (p : Placed) → Same p (o.with_way u w p)
-same_way u Always p = stays p
-same_way u (When truth test puts) p = same_test u test p
-same_way u (Case c) p = same_own u c.object p
-same_way u (Other values) p = stays p
-same_way u NoLine p = stays p
-same_way u Line p = stays p
+same_way u w p = along_way u Same stays both (same_base u) w p
 
 same_exit : (u : UnitView) (from : ℕ) (e : ExitView) (p : Placed) → Same p (o.with_exit u from e p)
 same_exit u from e p = let w = same_way u e.taken p in record { extent = w.extent; rest = w.rest; used = w.used }

@@ -5,11 +5,8 @@ use Rattle.std.proofs.lemmas.Bool.{eq-eqb}
 use Rattle.cc_base.specs.declared.diagnostics.Place.{Place}
 use Rattle.cc_base.specs.declared.limit_table.Limits.{Limits}
 use Rattle.c_layout.specs.CheckedUnits.{FunctionView, UnitView}
-use Rattle.cfg.specs.declared.flow_edges.Side.{Side}
-use Rattle.cfg.specs.declared.flow_edges.Side.TheVariants as side
-use Rattle.cfg.specs.declared.flow_edges.Test.{Test}
 use Rattle.lower_templates.specs.Worklist.Acts.{Act, Jump, Step}
-use Rattle.lower_templates.specs.Worklist.Pieces.{Way, Always, When, Case, Other, NoLine, Line, ExitView, PieceView, Do, DoIfUsed, End, Mark, Call, TemplateView}
+use Rattle.lower_templates.specs.Worklist.Pieces.{Way, Always, ExitView, PieceView, Do, DoIfUsed, End, Mark, Call, TemplateView}
 use Rattle.lower_templates.specs.declared.worklist.template_pieces.OwnCall.{OwnCall}
 use Rattle.lower_objects.specs.declared.counts.function_counts.FunctionCounts.{FunctionCounts}
 use Rattle.lower_tables.specs.Counts.Preparations.{begun, IsPrepared}
@@ -23,6 +20,7 @@ use Rattle.lower.specs.Inlining.Inlinings as o
 use Rattle.lower.specs.Inlining.Inlinings.{Made, CopyView, Placed, Inlined, placed, is_none}
 use Rattle.lower.specs.Inlining.Lowerings.{IsLowering}
 use Rattle.lower.specs.Inlining.WellMade.{AllLead}
+use Rattle.lower.proofs.inlining.NamedAside.{along_own, along_way}
 use Rattle.lower.proofs.inlining.WellMadeEdges.{cond_keeps}
 use Rattle.lower.proofs.inlining.WellMadeHeads.{length_heads}
 use Rattle.lower.proofs.inlining.CountedCalls.{IsKnown, known}
@@ -75,25 +73,10 @@ same_base : (u : UnitView) (n : ℕ) (p : Placed) → Same p (o.with_base u n p)
 same_base u n p = record { blocks = refl; labels = refl; rest = refl }
 
 same_own : (u : UnitView) (n : Option ℕ) (p : Placed) → Same p (o.with_own u n p)
-same_own u None p = stays p
-same_own u (Some n) p = same_base u n p
+same_own u n p = along_own u Same stays both (same_base u) n p
 
-same_side : (u : UnitView) (s : Side) (p : Placed) → Same p (o.with_side u s p)
-same_side u (side.Object n kind) p = same_base u n p
-same_side u (side.Number n) p = stays p
-same_side u side.Null p = stays p
-
-same_test : (u : UnitView) (t : Option Test) (p : Placed) → Same p (o.with_test u t p)
-same_test u None p = stays p
-same_test u (Some t) p = both p (o.with_side u t.left p) (o.with_side u t.right (o.with_side u t.left p)) (same_side u t.left p) (same_side u t.right (o.with_side u t.left p))
-
-same_way : (u : UnitView) (x : Way) (p : Placed) → Same p (o.with_way u x p)
-same_way u Always p = stays p
-same_way u (When truth test puts) p = same_test u test p
-same_way u (Case c) p = same_own u c.object p
-same_way u (Other values) p = stays p
-same_way u NoLine p = stays p
-same_way u Line p = stays p
+same_way : (u : UnitView) (w : Way) (p : Placed) → Same p (o.with_way u w p)
+same_way u w p = along_way u Same stays both (same_base u) w p
 
 same_exit : (u : UnitView) (from : ℕ) (e : ExitView) (p : Placed) → Same p (o.with_exit u from e p)
 same_exit u from e p = let s = same_way u e.taken p in record { blocks = s.blocks; labels = s.labels; rest = s.rest }

@@ -6,7 +6,7 @@ use Rattle.cc_base.specs.declared.int_types.IntType.{IntType}
 use Rattle.c_layout.specs.Types.{Ty}
 use Rattle.c_layout.specs.CheckedTrees as tree
 use Rattle.c_layout.specs.CheckedTrees.{TermTree, FormTree, Typed}
-use Rattle.lower_conditions.specs.Conditions.{condition, condition_of_form, leaf_of, test_if, tested_branch, known_by, read_by, ReadView}
+use Rattle.lower_conditions.specs.Conditions.{condition, test_if, tested_branch, known_by}
 use Rattle.lower_conditions.specs.Tests.{Tested, named, constant_of, MaybeSided, side_of, right_side, object_test, test_with, turned_object_test, turned_test, relation_test_of, named_or_assigned, compared_with_null, null_test, zero_test_of, own_test_of, operator_test, test_of_form, test_of, opposite_of}
 use Rattle.lower_conditions.specs.declared.branch_tests.NamedObject.{NamedObject}
 use Rattle.cfg.specs.declared.flow_edges.Side.{Side}
@@ -24,9 +24,11 @@ use Rattle.lower_templates.specs.declared.worklist.pending_works.Decision.{Decis
 use Rattle.lower_templates.specs.declared.worklist.term_kinds.OperatorMeaning.{OperatorMeaning}
 use Rattle.lower_templates.specs.declared.worklist.term_kinds.OperatorMeaning.TheVariants.{Number, Truth}
 use Rattle.lower_expressions.specs.Branches.{branch_exits}
+use Rattle.lower_functions.proofs.TermPlans.{kept_value}
+use Rattle.lower_functions.proofs.ConditionPlans.{kept_on_leaves}
 use Rattle.lower.specs.TemplateLaws.NamedBases.{named_in_side, named_in_test, named_on_exits}
 use Rattle.lower.proofs.template_laws.NamedLists.{IsKnown, known_none, known_append, known_name, known_fresh, known_work, Balanced, bal_known, bal_name}
-use Rattle.lower.proofs.template_laws.NamedWorks.{bal_argued, bal_value, object_site, works}
+use Rattle.lower.proofs.template_laws.NamedWorks.{balanced, object_site}
 
 -- what is planned behind a test, whose bases are known
 record TestKnown (w : Option Ty → ℕ) (start : List NameView) (t : Tested) : Type 0 where
@@ -112,22 +114,12 @@ both_known : (w : Option Ty → ℕ) (names : List NameView) (t : Option Test) �
 both_known w names t known = known_append w names (named_in_test t) _ known (subst (IsKnown w names) (sym (append-nil (named_in_test (opposite_of t)))) (subst (IsKnown w names) (sym (same_opposite t)) known))
 
 bal_tested : {w : Option Ty → ℕ} {start : List NameView} (e : TermTree) (d : Decision) (found : Tested) → TestKnown w start found → Balanced w start (tested_branch e d found)
-bal_tested {w = w} e d found t =
+bal_tested {w = w} {start = start} e d found t =
     let valued = with_work (jobs.Value e d.depth) found.after in
     let exits = branch_exits d.targets (known_by found.test) in
     bal_known (jobs.Ready (End (record { at = term_at e; does = Branch d.depth (scalar_of (term_type e)) }) exits)) valued
     (known_work (jobs.Value e d.depth) (named_on_exits exits) found.after (both_known w found.after.names found.test t.known))
-    (bal_value e d.depth found.after t.after)
-
-bal_leaf : {w : Option Ty → ℕ} {start : List NameView} (s : SettingView) (e : TermTree) (d : Decision) (r : Option ReadView) (p : Plan) → Balanced w start p → Balanced w start (leaf_of s e d r p)
-bal_leaf s e d (Some r) p bal = search (works, bal_argued) depth 30
-bal_leaf s e d None p bal = bal_tested e d (test_if s e d.is_test p) (test_if_known s e d.is_test p bal)
-
-bal_condition_form : {w : Option Ty → ℕ} {start : List NameView} (s : SettingView) (e : TermTree) (form : FormTree) (d : Decision) (p : Plan) → Balanced w start p → Balanced w start (condition_of_form s e form d p)
-bal_condition_form s e (tree.Logical sign left right) d p bal = search works depth 30
-bal_condition_form s e (tree.Not inner) d p bal = search works depth 30
-bal_condition_form s e (tree.Conditional test first second) d p bal = search works depth 30
-bal_condition_form s e _ d p bal = bal_leaf s e d (read_by e) p bal
+    (kept_value (balanced w start) e d.depth found.after t.after)
 
 pub bal_condition_works : {w : Option Ty → ℕ} {start : List NameView} (s : SettingView) (e : TermTree) (d : Decision) (p : Plan) → Balanced w start p → Balanced w start (condition s e d p)
-bal_condition_works s (Typed at t parens constant form) d p bal = bal_condition_form s (Typed at t parens constant form) form d p bal
+bal_condition_works {w = w} {start = start} s e d p bal = kept_on_leaves (balanced w start) (λ t c x q b. bal_tested c x (test_if t c x.is_test q) (test_if_known t c x.is_test q b)) s e d p bal

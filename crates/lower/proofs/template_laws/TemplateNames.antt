@@ -1,5 +1,5 @@
 -- What pieces name while a template is made, and when it is made.
-use Rattle.std.proofs.Common.{◌≡◌, ◌≤◌, ℕ, zero, suc, ◌+◌, Bool, true, false, cond, List, [], ◌∷◌, ◌++◌, map, length, Option, refl, arith, ap, sym, subst, ◌∙◌, length-append, append_assoc}
+use Rattle.std.proofs.Common.{◌≡◌, ◌≤◌, ℕ, zero, suc, ◌+◌, Bool, true, false, List, [], ◌∷◌, ◌++◌, map, length, Option, refl, arith, ap, sym, subst, ◌∙◌, length-append, append_assoc}
 use Rattle.std.proofs.lemmas.List.{map-append, append-nil}
 use Rattle.cc_base.specs.declared.diagnostics.Place.{Place}
 use Rattle.c_layout.specs.Types.{Ty}
@@ -7,21 +7,22 @@ use Rattle.c_layout.specs.CheckedUnits.{FunctionView}
 use Rattle.c_layout.specs.StructViews.{StructView}
 use Rattle.cfg.specs.declared.machine_instructions.Scalar.{Scalar}
 use Rattle.lower_templates.specs.Worklist.Acts as acts
-use Rattle.lower_templates.specs.Worklist.Acts.{Act, Step}
-use Rattle.lower_templates.specs.Worklist.Pieces.{NameView, Outcome, PieceView, Do, DoIfUsed, Mark, TemplateView}
+use Rattle.lower_templates.specs.Worklist.Pieces.{NameView, Outcome, PieceView, Do, DoIfUsed, TemplateView}
 use Rattle.lower_templates.specs.Worklist.Works as jobs
 use Rattle.lower_templates.specs.Worklist.Works.{Job}
-use Rattle.lower_templates.specs.Worklist.Plans.{Plan, with_work, with_name, with_labels}
+use Rattle.lower_templates.specs.Worklist.Plans.{Plan, with_work, with_name}
 use Rattle.lower_templates.specs.Worklist.Settings.{SettingView}
-use Rattle.lower_functions.specs.Statements.ScopeJumps.{all_left}
-use Rattle.lower_functions.specs.Functions.Functions.{arguments, argument, parameters, result_entered, result_loaded, outcome, body, entry, called, function, setting_of, no_plan, IsTemplate}
+use Rattle.lower_functions.specs.Functions.Functions.{result_loaded, function, setting_of, no_plan, IsTemplate}
 use Rattle.lower_functions.specs.Functions.Turns.{turn, Going, scheduled, going_on, next_of, is_work, after, begun, template_of, Finishes}
+use Rattle.lower_functions.proofs.TermPlans.{kept_term, kept_address}
+use Rattle.lower_functions.proofs.StatementPlans.{kept_statement}
+use Rattle.lower_functions.proofs.FunctionPlans.{kept_function}
 use Rattle.lower.specs.TemplateLaws.NamedBases.{named_in, named_in_all, AllBelow, all_sites, sites_named, AreNamed}
 use Rattle.lower.proofs.template_laws.PlainWorks.{shadow}
 use Rattle.lower.proofs.template_laws.NamedLists.{all_append, below_append, below_left, below_right, below_more, sites_append, named_append, same_sites, named_in_jobs, known_fresh, known_work, Balanced, bal_known, bal_silent, bal_fresh}
-use Rattle.lower.proofs.template_laws.NamedWorks.{works, bal_term, bal_pointer}
+use Rattle.lower.proofs.template_laws.NamedWorks.{balanced}
 use Rattle.lower.proofs.template_laws.NamedConditions.{bal_condition_works}
-use Rattle.lower.proofs.template_laws.NamedStatements.{bal_entered, bal_left, bal_statements, bal_statement_works}
+use Rattle.lower.proofs.template_laws.NamedStatements.{balanced_statements}
 
 -- the bases that are named so far and by what is still to be done
 abbrev to_name : List PieceView → List Job → List ℕ
@@ -75,11 +76,11 @@ one_piece q js pieces p none = ap (λ ks. to_name (pieces ++ q ∷ []) (ks ++ js
 
 names_turn : (w : Option Ty → ℕ) (s : SettingView) (j : Job) (js : List Job) (pieces : List PieceView) (p : Plan) → p.jobs ≡ [] → AllBelow (length p.names) (to_name pieces (j ∷ js)) → sites_named w p.names (to_name pieces (j ∷ js)) ≡ all_sites w p.names
     → Names w (scheduled (going_on js (turn s j pieces p)))
-names_turn w s (jobs.Value e depth) js pieces p none below sites = names_on w (jobs.Value e depth) js pieces p.names _ refl (bal_term s e depth true p (balanced_none w p none)) below sites
-names_turn w s (jobs.Unused e depth) js pieces p none below sites = names_on w (jobs.Unused e depth) js pieces p.names _ refl (bal_term s e depth false p (balanced_none w p none)) below sites
-names_turn w s (jobs.Address l depth) js pieces p none below sites = names_on w (jobs.Address l depth) js pieces p.names _ refl (bal_pointer s l depth p (balanced_none w p none)) below sites
+names_turn w s (jobs.Value e depth) js pieces p none below sites = names_on w (jobs.Value e depth) js pieces p.names _ refl (kept_term (balanced w p.names) s e depth true p (balanced_none w p none)) below sites
+names_turn w s (jobs.Unused e depth) js pieces p none below sites = names_on w (jobs.Unused e depth) js pieces p.names _ refl (kept_term (balanced w p.names) s e depth false p (balanced_none w p none)) below sites
+names_turn w s (jobs.Address l depth) js pieces p none below sites = names_on w (jobs.Address l depth) js pieces p.names _ refl (kept_address (balanced w p.names) s l depth p (balanced_none w p none)) below sites
 names_turn w s (jobs.Condition e decision) js pieces p none below sites = names_on w (jobs.Condition e decision) js pieces p.names _ refl (bal_condition_works s e decision p (balanced_none w p none)) below sites
-names_turn w s (jobs.Statement i around) js pieces p none below sites = names_on w (jobs.Statement i around) js pieces p.names _ refl (bal_statement_works s i around p (balanced_none w p none)) below sites
+names_turn w s (jobs.Statement i around) js pieces p none below sites = names_on w (jobs.Statement i around) js pieces p.names _ refl (kept_statement (balanced_statements w p.names) s i around p tt (balanced_none w p none)) below sites
 names_turn w s (jobs.Ready q) js pieces p none below sites = record {
   below = subst (AllBelow (length p.names)) (sym (one_piece q js pieces p none)) below;
   sites = ap (sites_named w p.names) (one_piece q js pieces p none) ∙ sites;
@@ -121,27 +122,6 @@ names_finished w s p t b f =
     let made : Named w (template_of g) = record { below = subst (AllBelow (length g.planned.names)) all k.below; sites = ap (sites_named w g.planned.names) (sym all) ∙ k.sites } in
     subst (Named w) f.comes_to made
 
--- the first works of a function
-bal_arguments : {w : Option Ty → ℕ} {start : List NameView} (at : Place) (f : FunctionView) (ns : List ℕ) (p : Plan) → Balanced w start p → Balanced w start (arguments at f ns p)
-bal_arguments at f [] p bal = bal
-bal_arguments at f (n ∷ ns) p bal = bal_arguments at f ns (argument at f.parameters n _ p) (search works depth 30)
-
-bal_result : {w : Option Ty → ℕ} {start : List NameView} (at : Place) (t : Ty) (p : Plan) → Balanced w start p → Balanced w start (result_entered at t p)
-bal_result at t p bal = search works depth 30
-
-bal_body : {w : Option Ty → ℕ} {start : List NameView} (s : SettingView) (f : FunctionView) (p : Plan) → Balanced w start p → Balanced w start (body s f p)
-bal_body s f p bal = search (works, bal_left, bal_statements, bal_entered) depth 30
-
-bal_entry : {w : Option Ty → ℕ} {start : List NameView} (s : SettingView) (f : FunctionView) (p : Plan) → Balanced w start p → Balanced w start (entry s f p)
-bal_entry s f p bal = search (works, bal_body) depth 30
-
-bal_parameters : {w : Option Ty → ℕ} {start : List NameView} (s : SettingView) (f : FunctionView) (p : Plan) → Balanced w start p → Balanced w start (parameters s f p)
-bal_parameters s f p bal = search (works, bal_arguments, bal_result, bal_entered) depth 30
-
-bal_before_result : {w : Option Ty → ℕ} {start : List NameView} (s : SettingView) (f : FunctionView) (p : Plan) → Balanced w start p
-    → Balanced w start (with_work (jobs.Ready (Mark s.end)) (all_left s.at s.parameters (body s f (with_work (jobs.Ready (Mark (p.labels + 1))) (parameters s f (with_work (jobs.Ready (Mark p.labels)) (with_labels 2 p)))))))
-bal_before_result s f p bal = search (works, bal_left, bal_body, bal_parameters) depth 30
-
 -- the result's base is named by its address and when it is left
 bal_loaded : {w : Option Ty → ℕ} {start : List NameView} (at : Place) (kind : Scalar) (p : Plan) → Balanced w start p → Balanced w start (result_loaded at kind p)
 bal_loaded {w = w} at kind p bal =
@@ -152,20 +132,10 @@ bal_loaded {w = w} at kind p bal =
     let here = known_work load (length p.names ∷ []) (with_work address named) (known_work address (length p.names ∷ []) named (known_fresh Outcome p refl)) in
     bal_known leave (with_work load (with_work address named)) here (bal_silent load (with_work address named) refl (bal_fresh Outcome address p refl bal))
 
-bal_outcome : {w : Option Ty → ℕ} {start : List NameView} (at : Place) (t : Ty) (p : Plan) → Balanced w start p → Balanced w start (outcome at t p)
-bal_outcome at t p bal = search (works, bal_loaded) depth 30
-
-bal_function : {w : Option Ty → ℕ} {start : List NameView} (s : SettingView) (f : FunctionView) (p : Plan) → Balanced w start p → Balanced w start (function s f p)
-bal_function {w = w} {start = start} s f p bal = by_entry s.is_entry
-  where
-    by_entry : (b : Bool) → Balanced w start (cond b (entry s f p) (called s f p))
-    by_entry true = bal_entry s f p bal
-    by_entry false = bal_outcome s.at f.returns _ (bal_before_result s f p bal)
-
 named_of : (w : Option Ty → ℕ) (structs : List StructView) (pointer int_bytes : ℕ) (f : FunctionView) (is_entry : Bool) (t : TemplateView) → IsTemplate structs pointer int_bytes f is_entry t → Named w t
 named_of w structs pointer int_bytes f is_entry t is =
     let s = setting_of structs pointer int_bytes f is_entry in
-    names_finished w s (function s f (no_plan f.labels)) t (bal_function s f (no_plan f.labels) (balanced_none w (no_plan f.labels) refl)) is
+    names_finished w s (function s f (no_plan f.labels)) t (kept_function (balanced_statements w []) s f (no_plan f.labels) (λ at kind q b. bal_loaded at kind q b) tt (balanced_none w (no_plan f.labels) refl)) is
 
 pub template_named : (structs : List StructView) (pointer int_bytes : ℕ) (f : FunctionView) (is_entry : Bool) (t : TemplateView) → IsTemplate structs pointer int_bytes f is_entry t → AreNamed t
 template_named structs pointer int_bytes f is_entry t is = record { below = (named_of (λ target. 0) structs pointer int_bytes f is_entry t is).below; sites = λ w. (named_of w structs pointer int_bytes f is_entry t is).sites }

@@ -11,16 +11,19 @@ use Rattle.lower_templates.specs.Worklist.Pieces.{Outcome, PieceView, Do, DoIfUs
 use Rattle.lower_templates.specs.Worklist.TermKinds.{is_void, scalar_of}
 use Rattle.lower_templates.specs.Worklist.Works as jobs
 use Rattle.lower_templates.specs.Worklist.Works.{Job}
-use Rattle.lower_templates.specs.Worklist.Plans.{Plan, with_work, with_name, with_labels}
+use Rattle.lower_templates.specs.Worklist.Plans.{Plan, with_work, with_name}
 use Rattle.lower_templates.specs.Worklist.Settings.{SettingView}
-use Rattle.lower_functions.specs.Statements.ScopeJumps.{all_left}
-use Rattle.lower_functions.specs.Functions.Functions.{arguments, argument, parameters, result_entered, result_loaded, outcome, body, entry, called, function, setting_of, no_plan, IsTemplate}
+use Rattle.lower_functions.specs.Functions.Functions.{result_loaded, outcome, body, entry, called, function, setting_of, no_plan, IsTemplate}
 use Rattle.lower_functions.specs.Functions.Turns.{turn, Going, scheduled, going_on, next_of, is_work, has_work, after, begun, Finishes}
+use Rattle.lower_functions.proofs.PlanClosures.{AnyStatement}
+use Rattle.lower_functions.proofs.TermPlans.{kept_term, kept_address}
+use Rattle.lower_functions.proofs.ConditionPlans.{kept_condition}
+use Rattle.lower_functions.proofs.StatementPlans.{kept_statement}
+use Rattle.lower_functions.proofs.FunctionPlans.{kept_entry, kept_before_result}
+use Rattle.lower_functions.proofs.PlannedWorks.{such_none, such_terms, such_conditions, such_name}
 use Rattle.lower.specs.TemplateLaws.PieceOrder.{AreFollowed, ends_block}
 use Rattle.lower.proofs.template_laws.PieceLists.{ArePlain, plain_before, in_place, last_more, last_in_place}
-use Rattle.lower.proofs.template_laws.PlainWorks.{shadow, IsPlain, works, plain_term, plain_pointer}
-use Rattle.lower.proofs.template_laws.PlainConditions.{plain_condition_works}
-use Rattle.lower.proofs.template_laws.PlainStatements.{plain_entered, plain_left, plain_statements, plain_statement_works}
+use Rattle.lower.proofs.template_laws.PlainWorks.{shadow, IsDone, IsPlain, done_anyway, plain_statements, plain_shadows}
 
 -- the pieces so far, and what is still to be done
 abbrev to_come : Going → List PieceView
@@ -34,9 +37,11 @@ record EndsSo (g : Going) : Type 0 where
   last : ends_block (to_come g) ≡ true
   none : g.planned.jobs ≡ []
 
--- nothing planned is plain
-plain_none : (p : Plan) → p.jobs ≡ [] → IsPlain p
-plain_none p none = record { works = subst (λ js. ArePlain (map shadow js)) (sym none) tt }
+nothing_plain : (p : Plan) → p.jobs ≡ [] → IsPlain p
+nothing_plain p none = such_none AnyStatement IsDone p none
+
+plain_of : (p : Plan) → IsPlain p → ArePlain (map shadow p.jobs)
+plain_of p plain = plain_shadows p.names p.jobs plain.works
 
 replaced : (pieces : List PieceView) (planned : Plan) (js : List Job) → pieces ++ (map shadow planned.jobs ++ map shadow js) ≡ to_come (scheduled (going_on js (record { pieces = pieces; after = planned })))
 replaced pieces planned js = ap (λ ps. pieces ++ ps) (sym (map-append shadow planned.jobs js))
@@ -44,7 +49,7 @@ replaced pieces planned js = ap (λ ps. pieces ++ ps) (sym (map-append shadow pl
 -- a work gives way to the works that it consists of
 in_order_on : (j : Job) (js : List Job) (pieces : List PieceView) (planned : Plan) → shadow j ≡ Mark 0 → IsPlain planned → AreFollowed (pieces ++ map shadow (j ∷ js)) → InOrder (scheduled (going_on js (record { pieces = pieces; after = planned })))
 in_order_on j js pieces planned is plain followed = record {
-  followed = subst AreFollowed (replaced pieces planned js) (in_place pieces (map shadow planned.jobs) (map shadow js) (Mark 0) (λ none. none) plain.works (subst (λ q. AreFollowed (pieces ++ q ∷ map shadow js)) is followed));
+  followed = subst AreFollowed (replaced pieces planned js) (in_place pieces (map shadow planned.jobs) (map shadow js) (Mark 0) (λ none. none) (plain_of planned plain) (subst (λ q. AreFollowed (pieces ++ q ∷ map shadow js)) is followed));
   none = refl;
 }
 
@@ -59,11 +64,11 @@ one_piece : (q : PieceView) (js : List Job) (pieces : List PieceView) (p : Plan)
 one_piece q js pieces p none = ap (λ ks. (pieces ++ q ∷ []) ++ map shadow (ks ++ js)) none ∙ append_assoc pieces (q ∷ []) (map shadow js)
 
 order_turn : (s : SettingView) (j : Job) (js : List Job) (pieces : List PieceView) (p : Plan) → p.jobs ≡ [] → AreFollowed (pieces ++ map shadow (j ∷ js)) → InOrder (scheduled (going_on js (turn s j pieces p)))
-order_turn s (jobs.Value e depth) js pieces p none followed = in_order_on (jobs.Value e depth) js pieces _ refl (plain_term s e depth true p (plain_none p none)) followed
-order_turn s (jobs.Unused e depth) js pieces p none followed = in_order_on (jobs.Unused e depth) js pieces _ refl (plain_term s e depth false p (plain_none p none)) followed
-order_turn s (jobs.Address l depth) js pieces p none followed = in_order_on (jobs.Address l depth) js pieces _ refl (plain_pointer s l depth p (plain_none p none)) followed
-order_turn s (jobs.Condition e decision) js pieces p none followed = in_order_on (jobs.Condition e decision) js pieces _ refl (plain_condition_works s e decision p (plain_none p none)) followed
-order_turn s (jobs.Statement i around) js pieces p none followed = in_order_on (jobs.Statement i around) js pieces _ refl (plain_statement_works s i around p (plain_none p none)) followed
+order_turn s (jobs.Value e depth) js pieces p none followed = in_order_on (jobs.Value e depth) js pieces _ refl (kept_term (such_terms AnyStatement done_anyway) s e depth true p (nothing_plain p none)) followed
+order_turn s (jobs.Unused e depth) js pieces p none followed = in_order_on (jobs.Unused e depth) js pieces _ refl (kept_term (such_terms AnyStatement done_anyway) s e depth false p (nothing_plain p none)) followed
+order_turn s (jobs.Address l depth) js pieces p none followed = in_order_on (jobs.Address l depth) js pieces _ refl (kept_address (such_terms AnyStatement done_anyway) s l depth p (nothing_plain p none)) followed
+order_turn s (jobs.Condition e decision) js pieces p none followed = in_order_on (jobs.Condition e decision) js pieces _ refl (kept_condition (such_conditions AnyStatement done_anyway) s e decision p (nothing_plain p none)) followed
+order_turn s (jobs.Statement i around) js pieces p none followed = in_order_on (jobs.Statement i around) js pieces _ refl (kept_statement plain_statements s i around p tt (nothing_plain p none)) followed
 order_turn s (jobs.Ready q) js pieces p none followed = record { followed = subst AreFollowed (sym (one_piece q js pieces p none)) followed; none = refl }
 
 ends_turn : (s : SettingView) (j : Job) (js : List Job) (pieces : List PieceView) (p : Plan) → p.jobs ≡ [] → ends_block (pieces ++ map shadow (j ∷ js)) ≡ true → EndsSo (scheduled (going_on js (turn s j pieces p)))
@@ -110,32 +115,11 @@ ends_finished s p t last f =
     let o = ends_after s f.turns (begun p) (record { last = ap ends_block (planned_first p) ∙ last; none = refl }) in
     ap (λ r. ends_block r.pieces) (sym f.comes_to) ∙ ap ends_block (sym (all_there (after s f.turns (begun p)) f.ended)) ∙ o.last
 
--- the first works of a function
-plain_arguments : (at : Place) (f : FunctionView) (ns : List ℕ) (p : Plan) → IsPlain p → IsPlain (arguments at f ns p)
-plain_arguments at f [] p plain = plain
-plain_arguments at f (n ∷ ns) p plain = plain_arguments at f ns (argument at f.parameters n _ p) (search works depth 30)
-
-plain_result : (at : Place) (t : Ty) (p : Plan) → IsPlain p → IsPlain (result_entered at t p)
-plain_result at t p plain = search works depth 30
-
-plain_body : (s : SettingView) (f : FunctionView) (p : Plan) → IsPlain p → IsPlain (body s f p)
-plain_body s f p plain = search (works, plain_left, plain_statements, plain_entered) depth 30
-
-plain_entry : (s : SettingView) (f : FunctionView) (p : Plan) → IsPlain p → IsPlain (entry s f p)
-plain_entry s f p plain = search (works, plain_body) depth 30
-
-plain_parameters : (s : SettingView) (f : FunctionView) (p : Plan) → IsPlain p → IsPlain (parameters s f p)
-plain_parameters s f p plain = search (works, plain_arguments, plain_result, plain_entered) depth 30
-
--- what comes before the result is loaded
-plain_before_result : (s : SettingView) (f : FunctionView) (p : Plan) → IsPlain p → IsPlain (with_work (jobs.Ready (Mark s.end)) (all_left s.at s.parameters (body s f (with_work (jobs.Ready (Mark (p.labels + 1))) (parameters s f (with_work (jobs.Ready (Mark p.labels)) (with_labels 2 p)))))))
-plain_before_result s f p plain = search (works, plain_left, plain_body, plain_parameters) depth 30
-
 abbrev Followed : Plan → Type 0
 Followed p = AreFollowed (map shadow p.jobs)
 
 followed_if_plain : (p : Plan) → IsPlain p → Followed p
-followed_if_plain p plain = subst AreFollowed (append-nil (map shadow p.jobs)) (plain_before (map shadow p.jobs) [] plain.works tt)
+followed_if_plain p plain = subst AreFollowed (append-nil (map shadow p.jobs)) (plain_before (map shadow p.jobs) [] (plain_of p plain) tt)
 
 shadow_more : (p : Plan) (j : Job) → map shadow (with_work j p).jobs ≡ map shadow p.jobs ++ shadow j ∷ []
 unfolding with_work
@@ -154,29 +138,26 @@ used_twice p a b c plain =
     shadow_more two (jobs.Ready (Do c))
     ∙ ap (λ ps. ps ++ Do c ∷ []) (shadow_more one (jobs.Ready (DoIfUsed b)) ∙ ap (λ ps. ps ++ DoIfUsed b ∷ []) (shadow_more p (jobs.Ready (DoIfUsed a))))
     ∙ three_more (map shadow p.jobs) (DoIfUsed a) (DoIfUsed b) (Do c) in
-    subst AreFollowed (sym is) (plain_before (map shadow p.jobs) (DoIfUsed a ∷ DoIfUsed b ∷ Do c ∷ []) plain.works (tt, (tt, (tt, tt))))
-
-named_plain : (p : Plan) → IsPlain p → IsPlain (with_name Outcome p)
-named_plain p plain = search works
+    subst AreFollowed (sym is) (plain_before (map shadow p.jobs) (DoIfUsed a ∷ DoIfUsed b ∷ Do c ∷ []) (plain_of p plain) (tt, (tt, (tt, tt))))
 
 followed_outcome : (at : Place) (t : Ty) (p : Plan) → IsPlain p → Followed (outcome at t p)
 followed_outcome at t p plain = by_void (is_void t)
   where
     by_void : (b : Bool) → Followed (cond b p (result_loaded at (scalar_of t) p))
     by_void true = followed_if_plain p plain
-    by_void false = used_twice (with_name Outcome p) _ _ _ (named_plain p plain)
+    by_void false = used_twice (with_name Outcome p) _ _ _ (such_name AnyStatement done_anyway Outcome p plain)
 
 followed_function : (s : SettingView) (f : FunctionView) (p : Plan) → IsPlain p → Followed (function s f p)
 followed_function s f p plain = by_entry s.is_entry
   where
     by_entry : (b : Bool) → Followed (cond b (entry s f p) (called s f p))
-    by_entry true = followed_if_plain (entry s f p) (plain_entry s f p plain)
-    by_entry false = followed_outcome s.at f.returns _ (plain_before_result s f p plain)
+    by_entry true = followed_if_plain (entry s f p) (kept_entry plain_statements s f p tt plain)
+    by_entry false = followed_outcome s.at f.returns _ (kept_before_result plain_statements s f p tt plain)
 
 pub template_followed : (structs : List StructView) (pointer int_bytes : ℕ) (f : FunctionView) (is_entry : Bool) (t : TemplateView) → IsTemplate structs pointer int_bytes f is_entry t → AreFollowed t.pieces
 template_followed structs pointer int_bytes f is_entry t is =
     let s = setting_of structs pointer int_bytes f is_entry in
-    order_finished s (function s f (no_plan f.labels)) t (followed_function s f (no_plan f.labels) (plain_none (no_plan f.labels) refl)) is
+    order_finished s (function s f (no_plan f.labels)) t (followed_function s f (no_plan f.labels) (nothing_plain (no_plan f.labels) refl)) is
 
 ends_entry : (s : SettingView) (f : FunctionView) (p : Plan) → ends_block (map shadow (entry s f p).jobs) ≡ true
 ends_entry s f p =

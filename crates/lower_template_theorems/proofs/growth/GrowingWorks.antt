@@ -6,18 +6,19 @@ use Rattle.lower_templates.specs.Worklist.Works.{Job}
 use Rattle.lower_templates.specs.Worklist.Plans.{Plan}
 use Rattle.lower_templates.specs.Worklist.Settings.{SettingView}
 use Rattle.lower_functions.specs.Functions.Turns.{planless}
+use Rattle.lower_functions.proofs.TermPlans.{kept_term, kept_address}
+use Rattle.lower_functions.proofs.ConditionPlans.{kept_condition}
 use Rattle.lower_template_theorems.specs.Worklists.Derivations.{parts, Makes, nothing, piece, work}
 use Rattle.lower_template_theorems.specs.Growth.Growth.{Grows}
 use Rattle.lower_template_theorems.proofs.growth.Growth.{grows_not, grows_on}
-use Rattle.lower_template_theorems.proofs.growth.GrowingTerms.{grows_term, grows_pointer}
-use Rattle.lower_template_theorems.proofs.growth.GrowingConditions.{grows_condition}
+use Rattle.lower_template_theorems.proofs.growth.GrowingTerms.{growing}
 use Rattle.lower_template_theorems.proofs.growth.GrowingStatements.{grows_statement}
 
 pub grows_parts : (s : SettingView) (j : Job) (p : Plan) → Grows p (parts s j p)
-grows_parts s (jobs.Value e depth) p = grows_term s e depth _ p (grows_not p)
-grows_parts s (jobs.Unused e depth) p = grows_term s e depth _ p (grows_not p)
-grows_parts s (jobs.Address l depth) p = grows_pointer s l depth p (grows_not p)
-grows_parts s (jobs.Condition e decision) p = grows_condition s e decision p (grows_not p)
+grows_parts s (jobs.Value e depth) p = kept_term (growing p).terms s e depth _ p (grows_not p)
+grows_parts s (jobs.Unused e depth) p = kept_term (growing p).terms s e depth _ p (grows_not p)
+grows_parts s (jobs.Address l depth) p = kept_address (growing p).terms s l depth p (grows_not p)
+grows_parts s (jobs.Condition e decision) p = kept_condition (growing p) s e decision p (grows_not p)
 grows_parts s (jobs.Statement i around) p = grows_statement s i around p (grows_not p)
 grows_parts s (jobs.Ready q) p = grows_not p
 

@@ -5,7 +5,7 @@ use Rattle.cc_base.specs.declared.integer_operators.Rel.{Rel}
 use Rattle.cc_base.specs.declared.int_types.IntType.{IntType}
 use Rattle.c_layout.specs.CheckedTrees as tree
 use Rattle.c_layout.specs.CheckedTrees.{TermTree, FormTree, Typed, LvalueTree, LvalueFormTree, Designates}
-use Rattle.c_layout.specs.declared.checked_tree.checked_terms.ConversionKind.TheVariants.{Implicit, Cast}
+use Rattle.c_layout.specs.declared.checked_tree.checked_terms.ConversionKind.TheVariants.{Implicit}
 use Rattle.c_layout.specs.declared.syntax_tree.expressions.BinaryOp.{BinaryOp}
 use Rattle.c_layout.specs.declared.syntax_tree.expressions.BinaryOp.TheVariants as binary
 use Rattle.lower_conditions.specs.Conditions.{condition, condition_of_form, leaf_of, test_if, read_by, read_by_form, read_test, compared_read, line_call, line_call_in, line_call_in_form, line_call_beside, LineCallView, ReadView}
@@ -40,11 +40,7 @@ NamesFound Q (Some l) = NamesLvalue Q l
 module _ (Q : NameView → Type 0) where
   object_in : (kind : Scalar) (form : LvalueFormTree) → NamesPlace Q form → NamesObject Q (named_form kind form)
   object_in kind (tree.Object o) is = is
-  object_in kind (tree.Literal n) is = tt
-  object_in kind (tree.Target e) is = tt
-  object_in kind (tree.Member outer offset) is = tt
-  object_in kind (tree.Copied target source) is = tt
-  object_in kind (tree.Then left right) is = tt
+  object_in kind other is = tt
 
   object_at : (l : LvalueTree) → NamesLvalue Q l → NamesObject Q (named_lvalue l)
   object_at (Designates at t parens form) is = object_in (scalar_of t) form is
@@ -55,94 +51,18 @@ module _ (Q : NameView → Type 0) where
 
   peeled_names : (e : TermTree) → NamesTerm Q e → NamesTerm Q (peeled e)
   peeled_names (Typed at t parens constant (tree.Convert Implicit e)) is = peeled_names e is
-  peeled_names (Typed at t parens constant (tree.Convert Cast e)) is = is
-  peeled_names (Typed at t parens constant (tree.Number n)) is = is
-  peeled_names (Typed at t parens constant (tree.SizeofType n is_pointer)) is = is
-  peeled_names (Typed at t parens constant (tree.Sizeof n operand is_pointer)) is = is
-  peeled_names (Typed at t parens constant (tree.Load l)) is = is
-  peeled_names (Typed at t parens constant (tree.AddressOf l)) is = is
-  peeled_names (Typed at t parens constant (tree.Decay l)) is = is
-  peeled_names (Typed at t parens constant (tree.Discard a)) is = is
-  peeled_names (Typed at t parens constant (tree.Plus a)) is = is
-  peeled_names (Typed at t parens constant (tree.Minus a)) is = is
-  peeled_names (Typed at t parens constant (tree.Complement a)) is = is
-  peeled_names (Typed at t parens constant (tree.Not a)) is = is
-  peeled_names (Typed at t parens constant (tree.Integer sign a b)) is = is
-  peeled_names (Typed at t parens constant (tree.Shift back size a b)) is = is
-  peeled_names (Typed at t parens constant (tree.Difference size a b)) is = is
-  peeled_names (Typed at t parens constant (tree.Compare sign a b)) is = is
-  peeled_names (Typed at t parens constant (tree.Logical sign a b)) is = is
-  peeled_names (Typed at t parens constant (tree.Conditional c a b)) is = is
-  peeled_names (Typed at t parens constant (tree.Comma a b)) is = is
-  peeled_names (Typed at t parens constant (tree.Assign l a)) is = is
-  peeled_names (Typed at t parens constant (tree.Compound sign kind l a)) is = is
-  peeled_names (Typed at t parens constant (tree.CompoundShift back size l a)) is = is
-  peeled_names (Typed at t parens constant (tree.Step sign time kind l)) is = is
-  peeled_names (Typed at t parens constant (tree.StepPointer sign time size l)) is = is
-  peeled_names (Typed at t parens constant (tree.Struct l)) is = is
-  peeled_names (Typed at t parens constant (tree.Call function args is_used)) is = is
-  peeled_names (Typed at t parens constant (tree.Library function args target)) is = is
+  peeled_names (Typed at t parens constant form) is = is
 
   form_names : (e : TermTree) → NamesTerm Q e → NamesForm Q (term_form e)
   form_names (Typed at t parens constant form) is = is
 
   loaded_names : (form : FormTree) → NamesForm Q form → NamesFound Q (loaded form)
   loaded_names (tree.Load l) is = is
-  loaded_names (tree.Number n) is = tt
-  loaded_names (tree.SizeofType n is_pointer) is = tt
-  loaded_names (tree.Sizeof n operand is_pointer) is = tt
-  loaded_names (tree.AddressOf l) is = tt
-  loaded_names (tree.Decay l) is = tt
-  loaded_names (tree.Convert kind a) is = tt
-  loaded_names (tree.Discard a) is = tt
-  loaded_names (tree.Plus a) is = tt
-  loaded_names (tree.Minus a) is = tt
-  loaded_names (tree.Complement a) is = tt
-  loaded_names (tree.Not a) is = tt
-  loaded_names (tree.Integer sign a b) is = tt
-  loaded_names (tree.Shift back size a b) is = tt
-  loaded_names (tree.Difference size a b) is = tt
-  loaded_names (tree.Compare sign a b) is = tt
-  loaded_names (tree.Logical sign a b) is = tt
-  loaded_names (tree.Conditional c a b) is = tt
-  loaded_names (tree.Comma a b) is = tt
-  loaded_names (tree.Assign l a) is = tt
-  loaded_names (tree.Compound sign kind l a) is = tt
-  loaded_names (tree.CompoundShift back size l a) is = tt
-  loaded_names (tree.Step sign time kind l) is = tt
-  loaded_names (tree.StepPointer sign time size l) is = tt
-  loaded_names (tree.Struct l) is = tt
-  loaded_names (tree.Call function args is_used) is = tt
-  loaded_names (tree.Library function args target) is = tt
+  loaded_names other is = tt
 
   assigned_names : (form : FormTree) → NamesForm Q form → NamesFound Q (assigned form)
   assigned_names (tree.Assign l e) is = is.0
-  assigned_names (tree.Number n) is = tt
-  assigned_names (tree.SizeofType n is_pointer) is = tt
-  assigned_names (tree.Sizeof n operand is_pointer) is = tt
-  assigned_names (tree.Load l) is = tt
-  assigned_names (tree.AddressOf l) is = tt
-  assigned_names (tree.Decay l) is = tt
-  assigned_names (tree.Convert kind a) is = tt
-  assigned_names (tree.Discard a) is = tt
-  assigned_names (tree.Plus a) is = tt
-  assigned_names (tree.Minus a) is = tt
-  assigned_names (tree.Complement a) is = tt
-  assigned_names (tree.Not a) is = tt
-  assigned_names (tree.Integer sign a b) is = tt
-  assigned_names (tree.Shift back size a b) is = tt
-  assigned_names (tree.Difference size a b) is = tt
-  assigned_names (tree.Compare sign a b) is = tt
-  assigned_names (tree.Logical sign a b) is = tt
-  assigned_names (tree.Conditional c a b) is = tt
-  assigned_names (tree.Comma a b) is = tt
-  assigned_names (tree.Compound sign kind l a) is = tt
-  assigned_names (tree.CompoundShift back size l a) is = tt
-  assigned_names (tree.Step sign time kind l) is = tt
-  assigned_names (tree.StepPointer sign time size l) is = tt
-  assigned_names (tree.Struct l) is = tt
-  assigned_names (tree.Call function args is_used) is = tt
-  assigned_names (tree.Library function args target) is = tt
+  assigned_names other is = tt
 
   pub named_names : (e : TermTree) → NamesTerm Q e → NamesObject Q (named e)
   named_names e is = object_found (loaded (term_form (peeled e))) (loaded_names (term_form (peeled e)) (form_names (peeled e) (peeled_names e is)))
@@ -178,32 +98,7 @@ module _ (Q : NameView → Type 0) where
 
   call_form : (at : Place) (form : FormTree) → NamesForm Q form → NamesCall Q (line_call_in_form at form)
   call_form at (tree.Library function args target) is = call_cond (reads_line function) _ None is tt
-  call_form at (tree.Number n) is = tt
-  call_form at (tree.SizeofType n is_pointer) is = tt
-  call_form at (tree.Sizeof n operand is_pointer) is = tt
-  call_form at (tree.Load l) is = tt
-  call_form at (tree.AddressOf l) is = tt
-  call_form at (tree.Decay l) is = tt
-  call_form at (tree.Convert kind a) is = tt
-  call_form at (tree.Discard a) is = tt
-  call_form at (tree.Plus a) is = tt
-  call_form at (tree.Minus a) is = tt
-  call_form at (tree.Complement a) is = tt
-  call_form at (tree.Not a) is = tt
-  call_form at (tree.Integer sign a b) is = tt
-  call_form at (tree.Shift back size a b) is = tt
-  call_form at (tree.Difference size a b) is = tt
-  call_form at (tree.Compare sign a b) is = tt
-  call_form at (tree.Logical sign a b) is = tt
-  call_form at (tree.Conditional c a b) is = tt
-  call_form at (tree.Comma a b) is = tt
-  call_form at (tree.Assign l a) is = tt
-  call_form at (tree.Compound sign kind l a) is = tt
-  call_form at (tree.CompoundShift back size l a) is = tt
-  call_form at (tree.Step sign time kind l) is = tt
-  call_form at (tree.StepPointer sign time size l) is = tt
-  call_form at (tree.Struct l) is = tt
-  call_form at (tree.Call function args is_used) is = tt
+  call_form at other is = tt
 
   call_in : (e : TermTree) → NamesTerm Q e → NamesCall Q (line_call_in e)
   call_in (Typed at t parens constant form) is = call_form at form is
@@ -221,49 +116,11 @@ module _ (Q : NameView → Type 0) where
   compared_names : (sign : BinaryOp) (left right : TermTree) → NamesTerm Q left → NamesTerm Q right → NamesRead Q (compared_read sign left right)
   compared_names binary.Equal left right a b = read_names (line_call_beside left right) false (beside_names left right a b)
   compared_names binary.NotEqual left right a b = read_names (line_call_beside left right) true (beside_names left right a b)
-  compared_names binary.Multiply left right a b = tt
-  compared_names binary.Divide left right a b = tt
-  compared_names binary.Remainder left right a b = tt
-  compared_names binary.Add left right a b = tt
-  compared_names binary.Subtract left right a b = tt
-  compared_names binary.ShiftLeft left right a b = tt
-  compared_names binary.ShiftRight left right a b = tt
-  compared_names binary.Less left right a b = tt
-  compared_names binary.Greater left right a b = tt
-  compared_names binary.LessEqual left right a b = tt
-  compared_names binary.GreaterEqual left right a b = tt
-  compared_names binary.And left right a b = tt
-  compared_names binary.Xor left right a b = tt
-  compared_names binary.Or left right a b = tt
+  compared_names other left right a b = tt
 
   read_form : (e : TermTree) (form : FormTree) → NamesTerm Q e → NamesForm Q form → NamesRead Q (read_by_form e form)
   read_form e (tree.Compare sign left right) whole is = compared_names sign left right is.0 is.1
-  read_form e (tree.Number n) whole is = read_names (line_call e) true (call_names e whole)
-  read_form e (tree.SizeofType n is_pointer) whole is = read_names (line_call e) true (call_names e whole)
-  read_form e (tree.Sizeof n operand is_pointer) whole is = read_names (line_call e) true (call_names e whole)
-  read_form e (tree.Load l) whole is = read_names (line_call e) true (call_names e whole)
-  read_form e (tree.AddressOf l) whole is = read_names (line_call e) true (call_names e whole)
-  read_form e (tree.Decay l) whole is = read_names (line_call e) true (call_names e whole)
-  read_form e (tree.Convert kind a) whole is = read_names (line_call e) true (call_names e whole)
-  read_form e (tree.Discard a) whole is = read_names (line_call e) true (call_names e whole)
-  read_form e (tree.Plus a) whole is = read_names (line_call e) true (call_names e whole)
-  read_form e (tree.Minus a) whole is = read_names (line_call e) true (call_names e whole)
-  read_form e (tree.Complement a) whole is = read_names (line_call e) true (call_names e whole)
-  read_form e (tree.Not a) whole is = read_names (line_call e) true (call_names e whole)
-  read_form e (tree.Integer sign a b) whole is = read_names (line_call e) true (call_names e whole)
-  read_form e (tree.Shift back size a b) whole is = read_names (line_call e) true (call_names e whole)
-  read_form e (tree.Difference size a b) whole is = read_names (line_call e) true (call_names e whole)
-  read_form e (tree.Logical sign a b) whole is = read_names (line_call e) true (call_names e whole)
-  read_form e (tree.Conditional c a b) whole is = read_names (line_call e) true (call_names e whole)
-  read_form e (tree.Comma a b) whole is = read_names (line_call e) true (call_names e whole)
-  read_form e (tree.Assign l a) whole is = read_names (line_call e) true (call_names e whole)
-  read_form e (tree.Compound sign kind l a) whole is = read_names (line_call e) true (call_names e whole)
-  read_form e (tree.CompoundShift back size l a) whole is = read_names (line_call e) true (call_names e whole)
-  read_form e (tree.Step sign time kind l) whole is = read_names (line_call e) true (call_names e whole)
-  read_form e (tree.StepPointer sign time size l) whole is = read_names (line_call e) true (call_names e whole)
-  read_form e (tree.Struct l) whole is = read_names (line_call e) true (call_names e whole)
-  read_form e (tree.Call function args is_used) whole is = read_names (line_call e) true (call_names e whole)
-  read_form e (tree.Library function args target) whole is = read_names (line_call e) true (call_names e whole)
+  read_form e other whole is = read_names (line_call e) true (call_names e whole)
 
   read_by_names : (e : TermTree) → NamesTerm Q e → NamesRead Q (read_by e)
   read_by_names (Typed at t parens constant form) is = read_form (Typed at t parens constant form) form is is

@@ -40,12 +40,6 @@ with_label_of n scope t has = record { scopes = has.scopes }
 
 mutual
   in_scopes : {Q : NameView → Type 0} (i : StatementTree) (s c : ℕ) (t : TreeView) → NamesStatement Q i → HasSuch Q t → HasSuch Q (scoped i s c t)
-  in_scopes (tree.Value e) s c t is has = has
-  in_scopes tree.Nothing s c t is has = has
-  in_scopes (tree.Forget at local) s c t is has = has
-  in_scopes (tree.Start at local e) s c t is has = has
-  in_scopes (tree.StartCopy at local l) s c t is has = has
-  in_scopes (tree.StartList at local stores) s c t is has = has
   in_scopes (tree.Block objects items) s c t (one, two) has = all_in_scopes items (length t.scopes) c (with_new_scope s objects t) two (with_new s objects t one has)
   in_scopes (tree.If e body) s c t (one, two) has = in_scopes body s c t two has
   in_scopes (tree.IfElse e first second) s c t (one, two, three) has = in_scopes second s c (scoped first s c t) three (in_scopes first s c t two has)
@@ -57,10 +51,7 @@ mutual
   in_scopes (tree.Case n body) s c t is has = in_scopes body s c (with_case c n s t) is (with_case_of c n s t has)
   in_scopes (tree.Default body) s c t is has = in_scopes body s c (with_default c s t) is (with_default_of c s t has)
   in_scopes (tree.Label n body) s c t is has = in_scopes body s c (with_label n s t) is (with_label_of n s t has)
-  in_scopes (tree.Goto n) s c t is has = has
-  in_scopes tree.Break s c t is has = has
-  in_scopes tree.Continue s c t is has = has
-  in_scopes (tree.Return at e) s c t is has = has
+  in_scopes other s c t is has = has
 
   all_in_scopes : {Q : NameView → Type 0} (items : StatementTrees) (s c : ℕ) (t : TreeView) → NamesStatements Q items → HasSuch Q t → HasSuch Q (all_scoped items s c t)
   all_in_scopes tree.NoMore s c t is has = has

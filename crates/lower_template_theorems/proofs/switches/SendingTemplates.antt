@@ -1,87 +1,95 @@
 -- A template switches on what its function does.
-use Rattle.std.proofs.Common.{◌≡◌, ℕ, Bool, true, false, cond, List, [], ◌∷◌, refl, sym, subst}
+use Rattle.std.proofs.Common.{◌≡◌, ℕ, Bool, List, [], ◌∷◌, ◌++◌, length, Option, Some, None, slice_get, refl, sym, subst}
+use Rattle.std.proofs.lemmas.Option.{same_Some}
 use Rattle.cc_base.specs.declared.diagnostics.Place.{Place}
-use Rattle.c_layout.specs.Types.{Ty}
-use Rattle.c_layout.specs.CheckedTrees.{statement_trees}
+use Rattle.c_layout.specs.CheckedTrees as tree
+use Rattle.c_layout.specs.CheckedTrees.{TermTree, StatementTree, StatementTrees, statement_trees}
 use Rattle.c_layout.specs.CheckedUnits.{FunctionView}
 use Rattle.c_layout.specs.StructViews.{StructView}
-use Rattle.lower_templates.specs.Worklist.Pieces.{NameView, PieceView, TemplateView}
+use Rattle.c_layout.specs.declared.checked_tree.checked_statements.CaseLabel.{CaseLabel}
+use Rattle.cfg.specs.declared.machine_instructions.Scalar.{Scalar}
+use Rattle.cfg.specs.declared.machine_instructions.Scalar.TheVariants as scalar
+use Rattle.lower_conditions.specs.Tests.{named}
+use Rattle.lower_conditions.specs.declared.branch_tests.NamedObject.{NamedObject}
+use Rattle.lower_templates.specs.Worklist.Acts as acts
+use Rattle.lower_templates.specs.Worklist.Pieces.{NameView, Other, ExitView, PieceView, End, TemplateView}
+use Rattle.lower_templates.specs.Worklist.TermKinds.{integer_type, term_type}
 use Rattle.lower_templates.specs.Worklist.Works as jobs
-use Rattle.lower_templates.specs.Worklist.Works.{Job}
-use Rattle.lower_templates.specs.Worklist.Plans.{Plan}
-use Rattle.lower_templates.specs.Worklist.Settings.{SettingView}
-use Rattle.lower_functions.specs.Functions.Functions.{arguments, argument, parameters, result_entered, outcome, body, entry, called, function, setting_of, no_plan, IsTemplate}
-use Rattle.lower_functions.specs.Functions.Turns.{planless}
-use Rattle.lower_template_theorems.specs.Worklists.Derivations.{parts, Makes, nothing, piece, work}
-use Rattle.lower_template_theorems.proofs.worklists.Derivations.{derived}
-use Rattle.lower_template_theorems.proofs.growth.Growth.{grows_on}
-use Rattle.lower_template_theorems.proofs.growth.GrowingWorks.{grows_parts, planless_grows, grows, jobs_none}
-use Rattle.lower_template_theorems.specs.Switches.SwitchedTrees.{SwitchesStatements, IsPieceOf, ArePiecesOf}
-use Rattle.lower_template_theorems.proofs.switches.SendingWorks.{piece_still, pieces_still, pieces_append, IsJobOf, AreJobsOf, jobs_still, IsSending, works, sends_term, sends_pointer}
-use Rattle.lower_template_theorems.proofs.switches.SendingConditions.{sends_condition_works}
-use Rattle.lower_template_theorems.proofs.switches.SendingStatements.{sends_entered, sends_left, sends_statements, sends_statement_works}
+use Rattle.lower_templates.specs.Worklist.Plans.{Plan, with_work, with_name, name_of_object, ended}
+use Rattle.lower_functions.specs.Functions.Functions.{IsTemplate}
+use Rattle.lower_functions.specs.Statements.Switches.{Mentioned, mention_of, mention_if, switched_object, values, case_exits, dispatch_exits}
+use Rattle.lower_functions.specs.declared.statements.switch_statements.CaseArm.{CaseArm}
+use Rattle.lower_functions.proofs.PlanClosures.{OnParts, OnEach}
+use Rattle.lower_functions.proofs.TermPlans.{kept_value}
+use Rattle.lower_functions.proofs.StatementPlans.{kept_mention}
+use Rattle.lower_functions.proofs.PlannedWorks.{IsPlanned, such_work, such_terms, such_conditions, such_statements, such_loaded}
+use Rattle.lower_template_theorems.specs.Switches.SwitchedTrees.{IsSuchKind, IsSuchObject, IsCaseOf, AreCasesOf, IsPieceOf, ArePiecesOf, SwitchesStatement, SwitchesStatements}
+use Rattle.lower_template_theorems.proofs.growth.NameTables.{there_last}
+use Rattle.lower_template_theorems.proofs.growth.PlannedPieces.{AllSuch, template_such}
+use Rattle.lower_template_theorems.proofs.switches.SendingPieces.{sending}
 
-sends_none : (R : NameView → Type 0) (p : Plan) → p.jobs ≡ [] → IsSending R p
-sends_none R p none = record { works = subst (AreJobsOf R p.names) (sym none) tt }
+-- a base that is mentioned is there, and such
+abbrev IsMentioned : (NameView → Type 0) → Mentioned → Type 0
+IsMentioned R found = (n : ℕ) → found.base ≡ Some n → (x : NameView) × (slice_get found.after.names n ≡ Some x) × R x
 
-module _ (R : NameView → Type 0) (s : SettingView) where
-  sends_parts : (j : Job) (p : Plan) → p.jobs ≡ [] → IsJobOf R p.names j → IsSending R (parts s j p)
-  sends_parts (jobs.Value e depth) p none is = sends_term s e depth true p (sends_none R p none)
-  sends_parts (jobs.Unused e depth) p none is = sends_term s e depth false p (sends_none R p none)
-  sends_parts (jobs.Address l depth) p none is = sends_pointer s l depth p (sends_none R p none)
-  sends_parts (jobs.Condition e decision) p none is = sends_condition_works s e decision p (sends_none R p none)
-  sends_parts (jobs.Statement i around) p none is = sends_statement_works s i around p is (sends_none R p none)
-  sends_parts (jobs.Ready q) p none is = sends_none R p none
+last_name : (x : NameView) (p : Plan) → slice_get (with_name x p).names (length p.names) ≡ Some x
+unfolding with_name
+last_name x p = there_last p.names x
 
-  cases_made : (p : Plan) (js : List Job) (ps : List PieceView) (r : Plan) → Makes s p js ps r → p.jobs ≡ [] → AreJobsOf R p.names js → ArePiecesOf R r.names ps
-  cases_made p _ _ r (nothing _) none known = tt
-  cases_made p _ _ r (piece _ q js qs _ m) none (first, known) =
-      let g = grows s p js qs r m in
-      (subst (λ ns. IsPieceOf R ns q) (sym g.names) (piece_still R p.names g.more_names q first), cases_made p js qs r m none known)
-  cases_made p _ _ r (work _ j js ps q qs _ other m k) none (first, known) =
-      let d = parts s j p in
-      let inner = cases_made (planless d) d.jobs ps q m refl (sends_parts j p none first).works in
-      let to = grows_on p (planless d) q (planless_grows p d (grows_parts s j p)) (grows s (planless d) d.jobs ps q m) in
-      let later = subst (λ ns. AreJobsOf R ns js) (sym to.names) (jobs_still R p.names to.more_names js known) in
-      let outer = cases_made q js qs r k (jobs_none s (planless d) d.jobs ps q m refl) later in
-      let more = grows s q js qs r k in
-      pieces_append R r.names ps qs (subst (λ ns. ArePiecesOf R ns ps) (sym more.names) (pieces_still R q.names more.more_names ps inner)) outer
+no_number : (k : ℕ) → (let o : Option ℕ = None in o) ≡ Some k → ⊥
+no_number k e = cc
 
--- ---- the first works of a function
+such_mention_of : {R : NameView → Type 0} (o : NamedObject) (kind : Scalar) (p : Plan) → IsSuchKind R o kind → IsMentioned R (mention_of o kind p)
+such_mention_of {R = R} o (scalar.Int kind) p is = λ n e. (let x = name_of_object o.object in (x, subst (λ k. slice_get (with_name x p).names k ≡ Some x) (same_Some (length p.names) n e) (last_name x p), is))
+such_mention_of o scalar.Pointer p is = λ n e. absurd (no_number n e)
 
-sends_arguments : {R : NameView → Type 0} (at : Place) (f : FunctionView) (ns : List ℕ) (p : Plan) → IsSending R p → IsSending R (arguments at f ns p)
-sends_arguments at f [] p known = known
-sends_arguments at f (n ∷ ns) p known = sends_arguments at f ns (argument at f.parameters n _ p) (search works depth 30)
+such_mention : {R : NameView → Type 0} (o : Option NamedObject) (p : Plan) → IsSuchObject R o → IsMentioned R (mention_if o p)
+such_mention None p is = λ n e. absurd (no_number n e)
+such_mention (Some o) p is = such_mention_of o o.kind p is
 
-sends_result : {R : NameView → Type 0} (at : Place) (t : Ty) (p : Plan) → IsSending R p → IsSending R (result_entered at t p)
-sends_result at t p known = search works depth 30
+module _ (R : NameView → Type 0) where
+  -- the edges of a switch
+  case_exits_of : (names : List NameView) (object : Option ℕ) (other : ExitView) (arms : List CaseArm) → ((n : ℕ) → object ≡ Some n → (x : NameView) × (slice_get names n ≡ Some x) × R x) → IsCaseOf R names other.taken → AreCasesOf R names (case_exits arms object ++ other ∷ [])
+  case_exits_of names object other [] such last = (last, tt)
+  case_exits_of names object other (a ∷ arms) such last = (such, case_exits_of names object other arms such last)
 
-sends_outcome : {R : NameView → Type 0} (at : Place) (t : Ty) (p : Plan) → IsSending R p → IsSending R (outcome at t p)
-sends_outcome at t p known = search works depth 30
+same_names : (j : jobs.Job) (p : Plan) → (with_work j p).names ≡ p.names
+unfolding with_work
+same_names j p = refl
 
-sends_body : {R : NameView → Type 0} (s : SettingView) (f : FunctionView) (p : Plan) → SwitchesStatements R (statement_trees f.body) → IsSending R p → IsSending R (body s f p)
-sends_body s f p is known = search (works, sends_left, sends_statements, sends_entered) depth 30
+module _ (R : NameView → Type 0) where
+  sends_switched : (at : Place) (e : TermTree) (cases : List CaseLabel) (arms : List CaseArm) (other : ℕ) (p : Plan) → IsSuchObject R (named e) → IsPlanned (SwitchesStatement R) (IsPieceOf R) p
+      → IsPlanned (SwitchesStatement R) (IsPieceOf R) (ended at (acts.Switch 0 (integer_type (term_type e))) (dispatch_exits arms cases (switched_object e p).base other) (with_work (jobs.Value e 0) (switched_object e p).after))
+  sends_switched at e cases arms other p is known =
+      let found = switched_object e p in
+      let exits = dispatch_exits arms cases found.base other in
+      let cased = case_exits_of R found.after.names found.base (record { to = other; taken = Other (values cases) }) arms (such_mention (named e) p is) tt in
+      such_work (jobs.Ready (End (record { at = at; does = acts.Switch 0 (integer_type (term_type e)) }) exits)) (with_work (jobs.Value e 0) found.after) (subst (λ names. AreCasesOf R names exits) (sym (same_names (jobs.Value e 0) found.after)) cased)
+      (kept_value (such_terms (SwitchesStatement R) (sending R)) e 0 found.after (kept_mention (such_conditions (SwitchesStatement R) (sending R)) (named e) p known))
 
-sends_parameters : {R : NameView → Type 0} (s : SettingView) (f : FunctionView) (p : Plan) → IsSending R p → IsSending R (parameters s f p)
-sends_parameters s f p known = search (works, sends_arguments, sends_result, sends_entered) depth 30
+  parts_switch : (i : StatementTree) → SwitchesStatement R i → OnParts (SwitchesStatement R) (SwitchesStatements R) (λ e cases. IsSuchObject R (named e)) i
+  parts_switch (tree.Block objects items) is = is
+  parts_switch (tree.If e body) is = is
+  parts_switch (tree.IfElse e first second) is = is
+  parts_switch (tree.While e body) is = is
+  parts_switch (tree.Do body e) is = is
+  parts_switch (tree.For objects first e step body) is = is
+  parts_switch (tree.Switch at e labels has_default values body) is = is
+  parts_switch (tree.Case n body) is = is
+  parts_switch (tree.Default body) is = is
+  parts_switch (tree.Label n body) is = is
+  parts_switch other is = tt
 
-sends_entry : {R : NameView → Type 0} (s : SettingView) (f : FunctionView) (p : Plan) → SwitchesStatements R (statement_trees f.body) → IsSending R p → IsSending R (entry s f p)
-sends_entry s f p is known = search (works, sends_body) depth 30
+  each_switches : (items : StatementTrees) → SwitchesStatements R items → OnEach (SwitchesStatement R) (SwitchesStatements R) items
+  each_switches tree.NoMore is = tt
+  each_switches (tree.And first rest) is = is
 
-sends_called : {R : NameView → Type 0} (s : SettingView) (f : FunctionView) (p : Plan) → SwitchesStatements R (statement_trees f.body) → IsSending R p → IsSending R (called s f p)
-sends_called s f p is known = search (works, sends_outcome, sends_left, sends_body, sends_parameters) depth 30
+  all_pieces_of : (names : List NameView) (ps : List PieceView) → AllSuch (IsPieceOf R) names ps → ArePiecesOf R names ps
+  all_pieces_of names [] is = tt
+  all_pieces_of names (p ∷ ps) (one, is) = (one, all_pieces_of names ps is)
 
-sends_function : {R : NameView → Type 0} (s : SettingView) (f : FunctionView) (p : Plan) → SwitchesStatements R (statement_trees f.body) → IsSending R p → IsSending R (function s f p)
-sends_function {R = R} s f p is known = by s.is_entry
-  where
-    by : (b : Bool) → IsSending R (cond b (entry s f p) (called s f p))
-    by true = sends_entry s f p is known
-    by false = sends_called s f p is known
-
-pub cases_of_template : (R : NameView → Type 0) (structs : List StructView) (pointer int_bytes : ℕ) (f : FunctionView) (is_entry : Bool) (t : TemplateView) → IsTemplate structs pointer int_bytes f is_entry t → SwitchesStatements R (statement_trees f.body) → ArePiecesOf R t.names t.pieces
-cases_of_template R structs pointer int_bytes f is_entry t is such =
-    let s = setting_of structs pointer int_bytes f is_entry in
-    let p = function s f (no_plan f.labels) in
-    let d = derived s p t is in
-    let first = sends_function s f (no_plan f.labels) such (sends_none R (no_plan f.labels) refl) in
-    subst (λ ns. ArePiecesOf R ns t.pieces) (sym d.names) (cases_made R s (planless p) p.jobs t.pieces d.last d.pieces refl first.works)
+  pub cases_of_template : (structs : List StructView) (pointer int_bytes : ℕ) (f : FunctionView) (is_entry : Bool) (t : TemplateView) → IsTemplate structs pointer int_bytes f is_entry t → SwitchesStatements R (statement_trees f.body) → ArePiecesOf R t.names t.pieces
+  cases_of_template structs pointer int_bytes f is_entry t is such =
+      let closed = such_statements (SwitchesStatement R) (sending R) parts_switch each_switches (λ s from label number q at e cases other p is k. sends_switched at e cases _ other p is k) in
+      let loaded = such_loaded (SwitchesStatement R) (sending R) (λ names at n. tt) (λ names at kind. tt) in
+      all_pieces_of t.names t.pieces (template_such (sending R) closed loaded structs pointer int_bytes f is_entry t is such)

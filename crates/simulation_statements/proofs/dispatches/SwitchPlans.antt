@@ -1,5 +1,5 @@
 -- What a switch plans: its labels, its dispatch and the blocks of its edges, and its body.
-use Rattle.std.proofs.Common.{◌≡◌, ◌≤◌, ◌<◌, ℕ, suc, ◌+◌, ◌-◌, ◌^◌, Bool, true, false, cond, List, [], ◌∷◌, ◌++◌, length, Option, Some, None, refl, arith, ap, sym, subst, ◌∙◌, append_assoc, length-append}
+use Rattle.std.proofs.Common.{◌≡◌, ◌≤◌, ◌<◌, ℕ, suc, ◌+◌, ◌-◌, ◌^◌, List, [], ◌∷◌, ◌++◌, length, Option, Some, None, refl, arith, ap, sym, subst, ◌∙◌, append_assoc, length-append}
 use Rattle.std.proofs.Math.Seq.{get_or-append_seam}
 use Rattle.cc_base.specs.declared.diagnostics.Place.{Place}
 use Rattle.c_layout.specs.CheckedTrees.{TermTree, StatementTree}
@@ -16,7 +16,7 @@ use Rattle.lower_templates.specs.Worklist.Plans.{Plan, with_work, with_name, wit
 use Rattle.lower_templates.specs.Worklist.Settings.{SettingView}
 use Rattle.lower_templates.specs.Worklist.TermKinds.{integer_type, term_type}
 use Rattle.lower_templates.specs.Worklist.Works as jobs
-use Rattle.lower_templates.specs.Worklist.Works.{Job, behind}
+use Rattle.lower_templates.specs.Worklist.Works.{behind}
 use Rattle.lower_templates.specs.declared.worklist.pending_works.Landing.{Landing}
 use Rattle.lower_templates.specs.declared.worklist.pending_works.Surroundings.{Surroundings}
 use Rattle.lower_templates.specs.declared.worklist.template_builder.Dispatch.{Dispatch}
@@ -24,11 +24,10 @@ use Rattle.lower_conditions.specs.Tests.{named}
 use Rattle.lower_template_theorems.specs.Growth.Growth.{Grows}
 use Rattle.lower_template_theorems.proofs.growth.Growth.{grows_not, grows_on, grows_work}
 use Rattle.lower_template_theorems.proofs.growth.GrowingStatements.{grows_mention, grows_dispatch_behind, grows_dispatch_of}
-use Rattle.lower_functions.specs.Statements.ScopeJumps.{enters_between, leap}
 use Rattle.lower_functions.specs.Statements.Switches as lowered
-use Rattle.lower_functions.specs.Statements.Switches.{Mentioned, mention_of, mention_if, switched_object, Targeted, targeted, edge_target, case_landing, case_arms, edge_block, edge_blocks, dispatch_exits, other_landing, choice_at, dispatch_at, no_dispatch, in_switch}
-use Rattle.lower_functions.specs.declared.statements.switch_statements.CaseArm.{CaseArm}
+use Rattle.lower_functions.specs.Statements.Switches.{Mentioned, mention_of, mention_if, switched_object, Targeted, edge_target, case_arms, edge_block, edge_blocks, dispatch_exits, other_landing, choice_at, dispatch_at, no_dispatch, in_switch}
 use Rattle.lower_functions.specs.declared.statements.switch_statements.SwitchBegun.{SwitchBegun}
+use Rattle.lower_functions.proofs.StatementPlans.{kept_mention, kept_edges}
 use Rattle.semantics.specs.SourceMachine.LabelSearch.{Sought, case, other}
 use Rattle.semantics.specs.SourceMachine.SourceStates.{function_at, local_of}
 use Rattle.simulation_terms.specs.SimulationRelation.Activations.{Activation}
@@ -39,10 +38,9 @@ use Rattle.simulation_terms.proofs.worklists.Runs.{known_name}
 use Rattle.simulation_terms.proofs.worklists.Assignments.{one_more_job}
 use Rattle.simulation_terms.specs.Scopes.Scopes.{scopes_in, switches_in}
 use Rattle.simulation_terms.specs.Scopes.SuitedStatements.{object_type, IsReadAs, IsSwitchedOn}
-use Rattle.simulation_terms.proofs.scopes.KeptScopes.{AreTerms, Keeps, keeps_value, keeps_piece, keeps_name, keeps_labels, keeps_or}
+use Rattle.simulation_terms.proofs.scopes.KeptScopes.{AreTerms, Keeps, keeps_work, keeping}
 use Rattle.simulation_terms.proofs.scopes.Positions as positions
 use Rattle.simulation_terms.proofs.scopes.Positions.{Position, position, past, same_numbers}
-use Rattle.simulation_statements.proofs.jumps.Jumps.{keeps_leap}
 use Rattle.simulation_statements.specs.Dispatches.LabelMarks.{IsMark, of_case, of_other}
 
 -- ---- the labels of a switch
@@ -145,37 +143,11 @@ module _ (s : SettingView) (at : Place) (e : TermTree) (cases : List CaseLabel) 
 
   -- ---- nothing else begins
 
-  keeps_target : {start : Plan} (to : Landing) (q : Plan) → Keeps start q → Keeps start (edge_target s from to q).after
-  keeps_target {start = start} to q g = by (enters_between s from to.scope)
-    where
-      by : (b : Bool) → Keeps start (cond b (targeted q.labels (with_labels 1 q)) (targeted to.label q)).after
-      by true = keeps_labels 1 q g
-      by false = g
-
-  keeps_arms : {start : Plan} (label first : ℕ) (cs : List CaseLabel) (q : Plan) → Keeps start q → Keeps start (case_arms s from label first cs q).after
-  keeps_arms label first [] q g = g
-  keeps_arms label first (c ∷ cs) q g = keeps_arms (behind label 1) (behind first 1) cs (edge_target s from (case_landing s label first) q).after (keeps_target (case_landing s label first) q g)
-
-  keeps_mention_of : {start : Plan} (o : NamedObject) (kind : Scalar) (q : Plan) → Keeps start q → Keeps start (mention_of o kind q).after
-  keeps_mention_of o (scalar.Int kind) q g = keeps_name (name_of_object o.object) q g
-  keeps_mention_of o scalar.Pointer q g = g
-
-  keeps_mention : {start : Plan} (o : Option NamedObject) (q : Plan) → Keeps start q → Keeps start (mention_if o q).after
-  keeps_mention None q g = g
-  keeps_mention (Some o) q g = keeps_mention_of o o.kind q g
-
-  keeps_block : {start : Plan} (to : ℕ) (landing : Landing) (q : Plan) → Keeps start q → Keeps start (edge_block s from to landing q)
-  keeps_block to landing q g = keeps_or (enters_between s from landing.scope) (leap s from landing (begun to q)) q (keeps_leap s from landing (begun to q) (keeps_piece (Mark to) q g)) g
-
-  keeps_blocks : {start : Plan} (arms : List CaseArm) (q : Plan) → Keeps start q → Keeps start (edge_blocks s from arms q)
-  keeps_blocks [] q g = g
-  keeps_blocks (a ∷ arms) q g = keeps_blocks arms (edge_block s from a.to a.landing q) (keeps_block a.to a.landing q g)
-
   pub dispatch_keeps : p.jobs ≡ [] → Keeps (started count p) dispatched
   dispatch_keeps none =
-      let start : Keeps (started count p) (started count p) = record { scopes = refl; terms = subst AreTerms (sym none) tt } in
-      let named_it = keeps_mention (named e) other_to.after (keeps_target other_at arms_at.after (keeps_arms p.labels (choice_at s number).first cases (started count p) start)) in
-      keeps_block other_to.to other_at edged (keeps_blocks arms_at.arms valued (keeps_piece dispatch_piece _ (keeps_value e 0 switched.after named_it)))
+      let begin = started count p in
+      let start : Keeps begin begin = record { scopes = refl; terms = subst AreTerms (sym none) tt } in
+      kept_edges (keeping begin).terms s at e cases from (begun_of count from p) begin (λ other q k. keeps_work _ _ tt (keeps_work (jobs.Value e 0) _ tt (kept_mention (keeping begin) (named e) q k))) start
 
   -- ---- it only adds
 

@@ -1,12 +1,10 @@
 -- `break`, `continue` and `goto`.
-use Rattle.std.proofs.Common.{◌≡◌, ◌≤◌, ℕ, zero, suc, ◌==◌, true, nat_lt, List, [], ◌∷◌, ◌++◌, length, refl, ap, sym, subst, ◌∙◌, append_assoc}
-use Rattle.cc_base.specs.declared.diagnostics.Place.{Place}
+use Rattle.std.proofs.Common.{◌≡◌, ◌≤◌, ℕ, zero, suc, true, List, [], ◌∷◌, ◌++◌, length, refl, ap, sym, subst, ◌∙◌, append_assoc}
 use Rattle.c_layout.specs.CheckedTrees as tree
 use Rattle.c_layout.specs.CheckedUnits.{FunctionView}
 use Rattle.lower_templates.specs.Worklist.Acts as act
 use Rattle.lower_templates.specs.Worklist.Pieces.{PieceView}
 use Rattle.lower_templates.specs.Worklist.Plans.{Plan, with_work}
-use Rattle.lower_templates.specs.Worklist.Scopes.{ScopeView}
 use Rattle.lower_templates.specs.Worklist.Settings.{SettingView}
 use Rattle.lower_templates.specs.Worklist.Works as jobs
 use Rattle.lower_templates.specs.Worklist.Works.{Job}
@@ -15,8 +13,9 @@ use Rattle.lower_templates.specs.declared.worklist.pending_works.Surroundings.{S
 use Rattle.lower_expressions.specs.Branches as branches
 use Rattle.lower_functions.specs.Statements.Jumps as lowered
 use Rattle.lower_functions.specs.Statements.ScopeJumps as scopes
-use Rattle.lower_functions.specs.Statements.ScopeJumps.{way, leap, all_left, all_entered}
+use Rattle.lower_functions.specs.Statements.ScopeJumps.{leap, all_left}
 use Rattle.lower_functions.specs.Functions.Turns.{planless}
+use Rattle.lower_functions.proofs.StatementPlans.{kept_leap}
 use Rattle.lower_template_theorems.specs.Worklists.Derivations.{parts, Makes}
 use Rattle.lower_template_theorems.proofs.worklists.Derivations.{parted}
 use Rattle.lower_template_theorems.proofs.growth.GrowingWorks.{jobs_none}
@@ -36,7 +35,7 @@ use Rattle.simulation_terms.proofs.worklists.Laying.{known_between}
 use Rattle.simulation_terms.specs.Scopes.SuitedStatements.{Enclosure, HasLabel}
 use Rattle.simulation_terms.specs.Scopes.Chains.{Chain}
 use Rattle.simulation_terms.proofs.scopes.Positions.{Position, position}
-use Rattle.simulation_terms.proofs.scopes.KeptScopes.{AreTerms, Keeps, keeps_or, kept}
+use Rattle.simulation_terms.proofs.scopes.KeptScopes.{AreTerms, Keeps, keeping}
 use Rattle.simulation_terms.proofs.scopes.ScopesOfTerms.{scopes_kept}
 use Rattle.simulation_terms.specs.Scopes.Contexts.{LabelsReachBefore, Lands, Within}
 use Rattle.simulation_terms.proofs.scopes.InScopes.{Goes, gives_way, reaches_less}
@@ -44,26 +43,6 @@ use Rattle.simulation_statements.specs.Gotos.Gotos.{HasLabels}
 use Rattle.simulation_statements.proofs.gotos.Gotos.{simulates_goto}
 use Rattle.simulation_terms.proofs.scopes.Objects.{object_jobs, Planned, left_planned, named_from, locals, leaves}
 use Rattle.simulation_terms.proofs.scopes.Ways.{way_up, all_in, chain_there}
-
--- ---- ways begin no scopes
-
-pub keeps_entered : {start : Plan} (at : Place) (xs : List ℕ) (p : Plan) → Keeps start p → Keeps start (all_entered at xs p)
-keeps_entered at [] p g = g
-keeps_entered at (x ∷ xs) p g = keeps_entered at xs (scopes.entered at x p) (search kept depth 30)
-
-pub keeps_left : {start : Plan} (at : Place) (xs : List ℕ) (p : Plan) → Keeps start p → Keeps start (all_left at xs p)
-keeps_left at [] p g = g
-keeps_left at (x ∷ xs) p g = keeps_left at xs (scopes.left at x p) (search kept depth 30)
-
-pub keeps_way : {start : Plan} (s : SettingView) (steps : List ScopeView) (from to : ℕ) (p : Plan) → Keeps start p → Keeps start (way s steps from to p)
-keeps_way s [] from to p g = g
-keeps_way s (x ∷ steps) from to p g =
-    let inward = keeps_entered s.at (scopes.objects s to) (way s steps from (scopes.around s to) p) (keeps_way s steps from (scopes.around s to) p g) in
-    let outward = keeps_way s steps (scopes.around s from) to (all_left s.at (scopes.objects s from) p) (keeps_left s.at (scopes.objects s from) p g) in
-    keeps_or (from == to) p _ g (keeps_or (nat_lt to from) _ _ outward inward)
-
-pub keeps_leap : {start : Plan} (s : SettingView) (from : ℕ) (to : Landing) (p : Plan) → Keeps start p → Keeps start (leap s from to p)
-keeps_leap s from to p g = let on_way = keeps_way s s.scopes.scopes from to.scope p g in search kept depth 30
 
 pub work_names : (j : Job) (p : Plan) → (with_work j p).names ≡ p.names
 unfolding with_work
@@ -145,17 +124,17 @@ module _ (s : SettingView) (t : Activation) (fits : IsOfUnit t s) (n : ℕ) wher
     pub breaks : looping.breaks ≡ true → Goes s t n c c (Within s t n around looping known) (jobs.Statement tree.Break around ∷ []) (item.Statement tree.Break ∷ [])
     breaks e = gives_way s t n c c (Within s t n around looping known) (jobs.Statement tree.Break around) (item.Statement tree.Break) (item.BreakOut ∷ []) refl (gives_statement n 0 tree.Break)
         (λ p none begun ps r m known items rest stands k f. gives_break items (ps ++ rest) (jumps around.scope around.on_break items (past_loop items) (chain_there s around.scope (open_scopes items) k.chain) (k.on_break e) p none ps r m known rest stands))
-        (no_scopes (jobs.Statement tree.Break around) c (λ p none. keeps_leap s around.scope around.on_break p (record { scopes = refl; terms = subst AreTerms (sym none) tt })))
+        (no_scopes (jobs.Statement tree.Break around) c (λ p none. kept_leap (keeping p).terms s around.scope around.on_break p (record { scopes = refl; terms = subst AreTerms (sym none) tt })))
 
     pub continues : looping.continues ≡ true → Goes s t n c c (Within s t n around looping known) (jobs.Statement tree.Continue around ∷ []) (item.Statement tree.Continue ∷ [])
     continues e = gives_way s t n c c (Within s t n around looping known) (jobs.Statement tree.Continue around) (item.Statement tree.Continue) (item.NextIteration ∷ []) refl (gives_statement n 0 tree.Continue)
         (λ p none begun ps r m known items rest stands k f. gives_continue items (ps ++ rest) (jumps around.scope around.on_continue items (past_iteration items) (chain_there s around.scope (open_scopes items) k.chain) (k.on_continue e) p none ps r m known rest stands))
-        (no_scopes (jobs.Statement tree.Continue around) c (λ p none. keeps_leap s around.scope around.on_continue p (record { scopes = refl; terms = subst AreTerms (sym none) tt })))
+        (no_scopes (jobs.Statement tree.Continue around) c (λ p none. kept_leap (keeping p).terms s around.scope around.on_continue p (record { scopes = refl; terms = subst AreTerms (sym none) tt })))
 
     pub goes_to : (f : FunctionView) → HasLabels t s f → (l : ℕ) → HasLabel f l → Goes s t n c c (Within s t n around looping known) (jobs.Statement (tree.Goto l) around ∷ []) (item.Statement (tree.Goto l) ∷ [])
     goes_to f has l is_there = record {
       from = λ p none begun ps r m known items rest stands k go. goto_turns s t fits f has l is_there around items k.chain p none ps r m known rest stands n k.labels;
       ends = λ p none begun ps r m.
           let j = jobs.Statement (tree.Goto l) around in
-          no_scopes j c (λ p none. keeps_leap s around.scope (record { label = l; scope = lowered.label_scope s l around.scope }) p (record { scopes = refl; terms = subst AreTerms (sym none) tt })) p none begun ps r (opened s p j ps r refl m);
+          no_scopes j c (λ p none. kept_leap (keeping p).terms s around.scope (record { label = l; scope = lowered.label_scope s l around.scope }) p (record { scopes = refl; terms = subst AreTerms (sym none) tt })) p none begun ps r (opened s p j ps r refl m);
     }

@@ -18,6 +18,7 @@ use Rattle.lower_functions.specs.Statements.ScopeJumps.{way_between, all_left}
 use Rattle.lower_functions.specs.Statements.Jumps as lowered
 use Rattle.lower_functions.specs.Functions.Functions.{numbers_from}
 use Rattle.lower_functions.specs.Functions.Turns.{planless}
+use Rattle.lower_functions.proofs.StatementPlans.{kept_return}
 use Rattle.lower_template_theorems.specs.Worklists.Derivations.{Makes}
 use Rattle.semantics.specs.SourceMachine.CallSteps.{behind_body, epilogue}
 use Rattle.semantics.specs.SourceMachine.StatementItems.{of_statement, returned}
@@ -40,18 +41,11 @@ use Rattle.simulation_terms.proofs.terms.Terms.{terms}
 use Rattle.simulation_terms.specs.Scopes.SuitedStatements.{Enclosure, SuitsAsReturned}
 use Rattle.simulation_terms.specs.Scopes.Contexts.{Within}
 use Rattle.simulation_terms.proofs.scopes.Positions.{Position}
-use Rattle.simulation_terms.proofs.scopes.KeptScopes.{AreTerms, Keeps, kept}
+use Rattle.simulation_terms.proofs.scopes.KeptScopes.{AreTerms, keeping}
 use Rattle.simulation_terms.proofs.scopes.InScopes.{Goes, gives_way}
 use Rattle.simulation_terms.proofs.scopes.Objects.{object_jobs, left_planned, named_from, locals, leaves}
 use Rattle.simulation_terms.proofs.scopes.Ways.{way_up, chain_there, chain_home}
-use Rattle.simulation_statements.proofs.jumps.Jumps.{keeps_left, keeps_way, work_names, no_scopes, leaves_and, works_and}
-
-keeps_given : {start : Plan} (s : SettingView) (at : Place) (e : Option TermTree) (p : Plan) → Keeps start p → Keeps start (lowered.given s at e p)
-keeps_given s at None p g = g
-keeps_given s at (Some e) p g = search kept depth 30
-
-keeps_end : {start : Plan} (s : SettingView) (at : Place) (from : ℕ) (p : Plan) → Keeps start p → Keeps start (lowered.end s at from p)
-keeps_end s at from p g = let on_way = keeps_way s s.scopes.scopes from 0 p g in search (kept, keeps_left) depth 30
+use Rattle.simulation_statements.proofs.jumps.Jumps.{work_names, no_scopes, leaves_and, works_and}
 
 -- ---- the value that is given
 
@@ -199,4 +193,4 @@ module _ (s : SettingView) (t : Activation) (fits : IsOfUnit t s) (n : ℕ) (aro
   pub returns : Ends s t f → (at : Place) (e : Option TermTree) → SuitsAsReturned t.unit e → Goes s t n c c (Within s t n around looping known) (jobs.Statement (tree.Return at e) around ∷ []) (item.Statement (tree.Return at e) ∷ [])
   returns ends at e suits = gives_way s t n c c (Within s t n around looping known) (jobs.Statement (tree.Return at e) around) (item.Statement (tree.Return at e)) (of_statement t.unit (of_entry t) (tree.Return at e)) refl (gives_statement n 0 (tree.Return at e))
       (λ p none begun ps r m known items rest stands k go. returned_from at e suits ends p none ps r m known items rest stands k)
-      (no_scopes s t fits n (jobs.Statement (tree.Return at e) around) c (λ p none. keeps_end s at around.scope (lowered.given s at e p) (keeps_given s at e p (record { scopes = refl; terms = subst AreTerms (sym none) tt }))))
+      (no_scopes s t fits n (jobs.Statement (tree.Return at e) around) c (λ p none. kept_return (keeping p).terms s at e around p (record { scopes = refl; terms = subst AreTerms (sym none) tt })))

@@ -6,17 +6,17 @@ use Rattle.lower_templates.specs.Worklist.Works.{Job}
 use Rattle.lower_templates.specs.Worklist.Plans.{Plan}
 use Rattle.lower_templates.specs.Worklist.Settings.{SettingView}
 use Rattle.lower_functions.specs.Functions.Turns.{planless}
+use Rattle.lower_functions.proofs.TermPlans.{kept_term, kept_address}
+use Rattle.lower_functions.proofs.ConditionPlans.{kept_condition}
 use Rattle.lower_template_theorems.specs.Worklists.Derivations.{parts, Makes, nothing, piece, work}
 use Rattle.simulation_terms.proofs.scopes.Positions.{position}
-use Rattle.simulation_terms.proofs.scopes.KeptScopes.{IsTerm, AreTerms, Keeps}
-use Rattle.simulation_terms.proofs.scopes.KeptByTerms.{keeps_term, keeps_pointer}
-use Rattle.simulation_terms.proofs.scopes.KeptByConditions.{keeps_condition}
+use Rattle.simulation_terms.proofs.scopes.KeptScopes.{IsTerm, AreTerms, Keeps, keeping}
 
 kept_parts : (s : SettingView) (j : Job) (p : Plan) → IsTerm j → AreTerms p.jobs → Keeps p (parts s j p)
-kept_parts s (jobs.Value e d) p is all = keeps_term s e d true p (record { scopes = refl; terms = all })
-kept_parts s (jobs.Unused e d) p is all = keeps_term s e d false p (record { scopes = refl; terms = all })
-kept_parts s (jobs.Address l d) p is all = keeps_pointer s l d p (record { scopes = refl; terms = all })
-kept_parts s (jobs.Condition e x) p is all = keeps_condition s e x p (record { scopes = refl; terms = all })
+kept_parts s (jobs.Value e d) p is all = kept_term (keeping p).terms s e d true p (record { scopes = refl; terms = all })
+kept_parts s (jobs.Unused e d) p is all = kept_term (keeping p).terms s e d false p (record { scopes = refl; terms = all })
+kept_parts s (jobs.Address l d) p is all = kept_address (keeping p).terms s l d p (record { scopes = refl; terms = all })
+kept_parts s (jobs.Condition e x) p is all = kept_condition (keeping p) s e x p (record { scopes = refl; terms = all })
 kept_parts s (jobs.Statement i around) p is all = absurd is
 kept_parts s (jobs.Ready q) p is all = record { scopes = refl; terms = all }
 

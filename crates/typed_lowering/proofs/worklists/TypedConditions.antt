@@ -7,7 +7,7 @@ use Rattle.c_layout.specs.declared.syntax_tree.expressions.LogicalOp.TheVariants
 use Rattle.lower_conditions.specs.Conditions.{logical_condition, conditional_condition, negated_condition, plain_condition, leaf_of, leaf_condition, condition}
 use Rattle.typed_programs.proofs.plain_worklists.LeadingWorks.{both}
 use Rattle.lower_templates.specs.Worklist.Works as jobs
-use Rattle.lower_templates.specs.Worklist.Plans.{Plan, with_labels, begun}
+use Rattle.lower_templates.specs.Worklist.Plans.{Plan, with_labels, begun, name_of_object}
 use Rattle.lower_templates.specs.Worklist.Settings.{SettingView}
 use Rattle.lower_templates.specs.declared.worklist.pending_works.Decision.{Decision}
 use Rattle.typed_programs.specs.Types.PointedTypes.{Known}
@@ -20,8 +20,8 @@ use Rattle.typed_lowering.specs.Conversions.WorkLaws.{IsLookedAt}
 use Rattle.typed_lowering.proofs.conversions.KeptKnowledge.{kept_same, kept_trans}
 use Rattle.typed_lowering.proofs.worklists.KnownTables.{at_most, agrees_same, agrees_value, to_below}
 use Rattle.typed_lowering.proofs.worklists.LowKnowledge.{low_is_low, low_labels, leads_to, first_block, next_block}
-use Rattle.typed_lowering.proofs.worklists.NamingTests.{behind_test}
-use Rattle.typed_lowering.proofs.worklists.PlainReads.{reads_no_line}
+use Rattle.lower_functions.proofs.ConditionPlans.{kept_test_if}
+use Rattle.typed_programs.proofs.plain_worklists.PlainReads.{reads_no_line}
 use Rattle.typed_lowering.proofs.worklists.PlannedWorks.{Site, Labels, Awaits, Owns, Planned, plan_none, plan_name, plan_value, plan_condition, plan_end, no_labels, Made, straight}
 
 module _ (c : Site) (s : SettingView) where
@@ -49,7 +49,7 @@ module _ (c : Site) (s : SettingView) where
       straight (record {
         end = None;
         planned = plan_end (with_value d.depth (term_known e) before) _ _ _ (typed.branches d.depth _ (kept_same (with_value d.depth (term_known e) before))) (λ labels l. (goes (labels d.targets.yes) l.1.0, (goes (labels d.targets.no) l.1.1, tt)))
-            (plan_value e d.depth _ looked (behind_test s (λ q. Planned c (NoneOwn before d p) (Some before) p.labels (Some before) q) (λ x q k. plan_name x q k) e d.is_test p (plan_none c (NoneOwn before d p) (Some before) p none)));
+            (plan_value e d.depth _ looked (kept_test_if (λ q. Planned c (NoneOwn before d p) (Some before) p.labels (Some before) q) (λ o q k. plan_name (name_of_object o) q k) s e d.is_test p (plan_none c (NoneOwn before d p) (Some before) p none)));
         weaker = refl;
       })
 

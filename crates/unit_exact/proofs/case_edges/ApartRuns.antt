@@ -6,9 +6,6 @@ use Rattle.std.proofs.lemmas.List.{append-nil}
 use Rattle.std.proofs.lemmas.Option.{same_Some}
 use Rattle.cc_base.specs.declared.diagnostics.Place.{Place}
 use Rattle.c_layout.specs.CheckedUnits.{FunctionView, UnitView}
-use Rattle.cfg.specs.declared.flow_edges.Side.{Side}
-use Rattle.cfg.specs.declared.flow_edges.Side.TheVariants as side
-use Rattle.cfg.specs.declared.flow_edges.Test.{Test}
 use Rattle.lower_templates.specs.Worklist.Acts.{Act, Jump, Step}
 use Rattle.lower_templates.specs.Worklist.Pieces.{Way, Always, When, Case, Other, NoLine, Line, ExitView, PieceView, Do, DoIfUsed, End, Mark, Call, TemplateView}
 use Rattle.lower_templates.specs.declared.worklist.template_pieces.OwnCall.{OwnCall}
@@ -17,6 +14,7 @@ use Rattle.lower.specs.Inlining.MovedActs.{own_base}
 use Rattle.lower.specs.Inlining.Inlinings as o
 use Rattle.lower.specs.Inlining.Inlinings.{Made, CopyView, Placed, Inlined, is_none, placed}
 use Rattle.lower.specs.Inlining.WellMade.{AllFrom}
+use Rattle.lower.proofs.inlining.NamedAside.{along_own, along_way}
 use Rattle.unit_exact.specs.CaseEdges.ApartSwitches.{Label, label, is_beside, are_apart, exit_labels, is_apart_piece, are_apart_pieces}
 use Rattle.unit_exact.proofs.case_edges.ApartLabels.{beside_back}
 
@@ -103,25 +101,10 @@ same_base : (u : UnitView) (n : ℕ) (p : Placed) → Same p (o.with_base u n p)
 same_base u n p = record { blocks = refl; edges = refl; rest = refl }
 
 same_own : (u : UnitView) (n : Option ℕ) (p : Placed) → Same p (o.with_own u n p)
-same_own u None p = stays p
-same_own u (Some n) p = same_base u n p
+same_own u n p = along_own u Same stays both (same_base u) n p
 
-same_side : (u : UnitView) (s : Side) (p : Placed) → Same p (o.with_side u s p)
-same_side u (side.Object n kind) p = same_base u n p
-same_side u (side.Number n) p = stays p
-same_side u side.Null p = stays p
-
-same_test : (u : UnitView) (t : Option Test) (p : Placed) → Same p (o.with_test u t p)
-same_test u None p = stays p
-same_test u (Some t) p = both p (o.with_side u t.left p) (o.with_side u t.right (o.with_side u t.left p)) (same_side u t.left p) (same_side u t.right (o.with_side u t.left p))
-
-same_way : (u : UnitView) (x : Way) (p : Placed) → Same p (o.with_way u x p)
-same_way u Always p = stays p
-same_way u (When truth test puts) p = same_test u test p
-same_way u (Case c) p = same_own u c.object p
-same_way u (Other values) p = stays p
-same_way u NoLine p = stays p
-same_way u Line p = stays p
+same_way : (u : UnitView) (w : Way) (p : Placed) → Same p (o.with_way u w p)
+same_way u w p = along_way u Same stays both (same_base u) w p
 
 same_act : (u : UnitView) (at : Place) (a : Act) (p : Placed) → Same p (o.with_act u at a p)
 same_act u at a p = let s = same_own u (own_base a) p in record { blocks = s.blocks; edges = s.edges; rest = s.rest }
