@@ -4,3 +4,4 @@ pub mod Layers
 pub mod RegionArrays
 pub mod ByteRegions
 pub mod ContentRegions
+pub mod SpelledParts

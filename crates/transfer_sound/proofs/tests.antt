@@ -1,3 +1,4 @@
+pub mod ScalarRows
 pub mod ScalarCells
 pub mod Relabelling
 pub mod TestSteps

@@ -1,5 +1,6 @@
 pub mod Admitted
 pub mod NearScalars
+pub mod TempRows
 pub mod PutTemps
 pub mod Replies
 pub mod Truths

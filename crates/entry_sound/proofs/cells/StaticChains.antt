@@ -2,7 +2,7 @@
 use Rattle.std.proofs.Common.{◌≡◌, ℕ, ◌<◌, Bool, true, false, Option, Some, [], length, arith, subst, sym, refl, ap, ◌∙◌}
 use Rattle.std.specs.Prelude.{ℤ, pos, ◌≤ℤ◌, ◌-ℤ◌, int_le, not, ◌||◌, ◌==◌}
 use Rattle.std.proofs.lemmas.Int.{ints}
-use Rattle.std.proofs.lemmas.Bool.{and_parts, eqb-true, lt-ltb}
+use Rattle.std.proofs.lemmas.Bool.{and_parts, eqb-true}
 use Rattle.cc_base.specs.Lattices.{LatticeOf, OrderLaws}
 use Rattle.cc_base.specs.IntegerDomains.{IntegersOf, BoundLaws}
 use Rattle.cc_base.specs.IntegerTypes.{is_size, least_of, greatest_of}
@@ -16,9 +16,7 @@ use Rattle.cfg.specs.ModelKinds as kinds
 use Rattle.cfg.specs.declared.machine_instructions.Scalar as declared
 use Rattle.cfg.specs.declared.machine_instructions.Scalar.TheVariants as of
 use Rattle.cfg.specs.declared.programs.Flow.{Flow}
-use Rattle.pointer_domain.specs.BaseSets.{no_base, bases_has}
-use Rattle.pointer_domain.specs.BaseFacts.{with_has_same}
-use Rattle.store_objects.specs.LiveBases.{most_bases, only_base}
+use Rattle.store_objects.specs.LiveBases.{most_bases}
 use Rattle.store_cells.specs.NearValues.{near_value}
 use Rattle.transfer_system.specs.StartRows.{static_class, pointer_into, static_pointer, static_value}
 use Rattle.memory_model.specs.Memory.Labels.{no_labels}
@@ -41,6 +39,7 @@ use Rattle.store_sound.proofs.programs.Sizes.{same_bytes}
 use Rattle.library_sound.proofs.NearScalars.{IsNearScalar, near_scalar_stands}
 use Rattle.library_sound.proofs.ScalarClasses.{class_pair}
 use Rattle.store_sound.proofs.operations.FreshValues.{type_near}
+use Rattle.store_sound.proofs.operations.Sets.{only_has}
 use Rattle.entry_sound.specs.Cells.StaticObjects.{IsValueOf}
 
 -- the state of a run with these objects in a memory, before anything is done
@@ -82,9 +81,6 @@ module _ (u : UnitView) (flow : Flow) (same : u.model ≡ flow.model) (model : i
       ap (λ z. scalar_bytes z (integer k no_labels)) (sym (e ∙ same_bytes flow.model (machine.class_in (of.Int kind)) model))
   bytes_are Null h = ap (λ z. scalar_bytes z (pointer null)) pointer_is
   bytes_are (Address object offset lo hi) h = ap (λ z. scalar_bytes z (pointer (into (base_instance u object) offset lo hi))) pointer_is
-
-only_has : (b : ℕ) → b < most_bases → bases_has (only_base b) b ≡ true
-only_has b h = rw (lt-ltb b most_bases h) (with_has_same no_base b)
 
 -- ---- values stand for scalars
 

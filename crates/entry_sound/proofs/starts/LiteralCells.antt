@@ -47,14 +47,14 @@ use Rattle.store_sound.proofs.operations.StoreLeaves.{live_ended}
 use Rattle.store_sound.proofs.operations.StoreRows as rows
 use Rattle.store_sound.proofs.operations.StoreValues.{same_value, same_zero}
 use Rattle.store_sound.specs.Programs.Premises.{HasPremises}
-use Rattle.store_sound.proofs.programs.ShapedBases.{all_at}
+use Rattle.store_sound.proofs.programs.ShapedBases.{all_at, ends_inside}
 use Rattle.store_sound.specs.Regions.RegionWrites.{IsRegion, InGammaBase}
 use Rattle.store_sound.proofs.regions.Layers.{value_turn, zero_turn, leaf_turn, part_turn, leaves_within, zeros_within}
 use Rattle.store_sound.proofs.regions.RegionArrays.{array_short, any_zero_stands, put_zero_stands}
 use Rattle.library_sound.proofs.FullParts.{parts_full}
 use Rattle.library_sound.proofs.spelling.Texts.{content_is}
 use Rattle.library_sound.proofs.spelling.SpelledCells.{IsText, leaf_spelled}
-use Rattle.library_sound.proofs.spelling.SpelledZeros.{ends_inside, zero_spelled}
+use Rattle.library_sound.proofs.spelling.SpelledZeros.{zero_spelled}
 use Rattle.entry_sound.specs.Starts.Literals.{IsLiteralObject, LiteralsStand}
 use Rattle.entry_sound.proofs.cells.OwnCells.{spelled_leaf, spelled_part}
 use Rattle.entry_sound.proofs.cells.StaticMemory.{own_bytes}

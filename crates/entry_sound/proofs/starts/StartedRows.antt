@@ -330,7 +330,7 @@ module _ {I : Type 0} {l : LatticeOf I} {n : IntegersOf I} {gamma : I → ℤ �
           sym (ap length same_row) ∙ ((taken_kept 0 flow.parameters.items g.parameters mid).long ∙ mid_long row mid long f)
 
 -- no temporary has anything at the start of a run
-no_temps : (u : UnitView) (f : FlowView) (r : Reply (Unit {0})) (s : ProgramState) → begun_by u f r ≡ running s [] → empty_table ≡ s.temps
+pub no_temps : (u : UnitView) (f : FlowView) (r : Reply (Unit {0})) (s : ProgramState) → begun_by u f r ≡ running s [] → empty_table ≡ s.temps
 no_temps u f (goes x w) s e = let h : first_standing u f w ≡ s = cc in ap (λ z. z.temps) h
 no_temps u f (stops why w) s e = absurd (cc)
 

@@ -65,7 +65,7 @@ use Rattle.store_sound.specs.Regions.RegionWrites.{IsRegion, InGammaBase}
 use Rattle.store_sound.proofs.regions.BaseRows.{same_base, stands_base}
 use Rattle.store_sound.proofs.regions.ContentRegions.{IsWritten, contents_written, contents_sane, region_content}
 use Rattle.store_sound.specs.Programs.Premises.{HasPremises}
-use Rattle.store_sound.proofs.programs.ShapedBases.{all_at}
+use Rattle.store_sound.proofs.programs.ShapedBases.{all_at, ends_inside}
 use Rattle.library_sound.specs.SoundSteps.{AreShort, IsReached}
 use Rattle.library_sound.proofs.NearScalars.{near_pointer_stands}
 use Rattle.library_sound.proofs.BlankRows as blank
@@ -73,7 +73,6 @@ use Rattle.library_sound.proofs.Clearing.{cleared_stands}
 use Rattle.library_sound.proofs.FullParts.{parts_full}
 use Rattle.library_sound.proofs.spelling.Texts.{contents, contents_long, content_is, byte_small}
 use Rattle.library_sound.proofs.spelling.SpelledCells.{IsText}
-use Rattle.library_sound.proofs.spelling.SpelledZeros.{ends_inside}
 use Rattle.library_sound.proofs.spelling.SpelledRows.{IsSpelled, spelled_stands}
 use Rattle.entry_sound.specs.Cells.StaticObjects.{IsStoreOf, AreStoresOf, IsStaticObject, StaticObjectsStand}
 use Rattle.entry_sound.proofs.cells.Cellwise.{spell_cellwise}

@@ -39,7 +39,7 @@ use Rattle.semantics.specs.CfgMachine.FlowStates.{ProgramState}
 use Rattle.memory_model.specs.Memory.Labels.{Labels, no_labels, input_labels}
 use Rattle.memory_model.specs.Memory.ScalarSizes.{class_bytes}
 use Rattle.memory_model.specs.Memory.Bytes.{MachinePointer, into, Content, number, part, Tag, Byte}
-use Rattle.memory_model.specs.Memory.Instances.{static, literal, automatic, allocated, live, ended, freed, Memory, Instance, bytes_of, bytes_at, byte_at, life_of, life_at}
+use Rattle.memory_model.specs.Memory.Instances.{static, literal, automatic, allocated, live, Memory, Instance, bytes_of, bytes_at, byte_at, life_of, life_at}
 use Rattle.memory_model.specs.Memory.Tags.{tag_of, tag_at}
 use Rattle.memory_model.specs.Effects.ObjectEffects.{all_of, characters}
 use Rattle.memory_model.specs.Effects.ScalarBytes.{bits_in}
@@ -52,6 +52,7 @@ use Rattle.store_sound.proofs.operations.TagPlaces.{is_tagged}
 use Rattle.store_sound.specs.Programs.Premises.{HasPremises}
 use Rattle.store_sound.proofs.programs.ShapedBases.{all_at}
 use Rattle.store_sound.proofs.programs.Sizes.{same_bytes}
+use Rattle.store_sound.proofs.operations.StoreLeaves.{live_freed}
 use Rattle.transfer_system.specs.System.RegularPrograms.{is_byte, spells_bytes, begins_with_bytes, has_initial_bytes}
 use Rattle.store_cells.specs.ScalarTypes.{kind_of}
 use Rattle.library_sound.specs.SoundSteps.{AreShort}
@@ -97,12 +98,6 @@ literal_long text =
 has_some : (o : Option ℕ) → has_base o ≡ true → o ≡ None → ⊥
 has_some None h e = absurd (cc)
 has_some (Some b) h e = cc
-
-live_ends : live ≡ ended → ⊥
-live_ends e = cc
-
-live_freed : live ≡ freed → ⊥
-live_freed e = cc
 
 module _ (u : UnitView) (flow : Flow) (limits : Limits) (good : is_well_formed limits flow ≡ true) (texts : has_initial_bytes flow ≡ true) (p : HasPremises flow) (a : StartsAs u flow) (s : ProgramState) (f : IsFirst u (flow_view flow) s) where
   abbrev memory : Memory

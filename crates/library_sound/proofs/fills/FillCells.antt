@@ -1,5 +1,5 @@
 -- What `memset` makes of each cell stands for the bytes that it sets.
-use Rattle.std.proofs.Common.{◌≡◌, ℕ, suc, ◌+◌, ◌*◌, ◌^◌, ◌<◌, ◌≤◌, Bool, true, false, cond, ◌&&◌, ◌==◌, Option, Some, None, List, [], ◌∷◌, length, arith, subst, sym, refl, ap, ◌∙◌, inl, inr, ◌⊎◌}
+use Rattle.std.proofs.Common.{◌≡◌, ℕ, ◌+◌, ◌*◌, ◌^◌, ◌<◌, ◌≤◌, Bool, true, false, cond, ◌&&◌, ◌==◌, Option, Some, None, List, length, arith, subst, sym, refl, ap, ◌∙◌, inl, inr, ◌⊎◌}
 use Rattle.std.specs.Prelude.{slice_get, ℤ, pos, ◌≤ℤ◌, nat_lt, nat_le}
 use Rattle.std.proofs.lemmas.Int.{ints}
 use Rattle.std.proofs.lemmas.Bool.{and_parts, leb-true, eqb-true, lt-ltb, true≢false}
@@ -42,6 +42,7 @@ use Rattle.store_sound.proofs.chars.ByteValues.{written_near}
 use Rattle.store_sound.specs.Regions.RegionWrites.{IsRegion}
 use Rattle.store_sound.proofs.regions.Regions.{cell_joined, cell_covered, bytes_number, bytes_content, cell_numbers}
 use Rattle.store_sound.proofs.regions.ByteRegions.{leaf_missed, char_missed, write_is}
+use Rattle.store_sound.proofs.operations.Reading.{nil_unsigned}
 
 -- what the analysis knows of a fill, of bytes that were set
 pub record IsFill (write : FillWrite) (new : Memory) (i offset size : ℕ) : Type 0 where
@@ -54,10 +55,6 @@ pub record IsFill (write : FillWrite) (new : Memory) (i offset size : ℕ) : Typ
   pub zeros : write.zero ≡ true → (a : ℕ) (x : Byte) → offset ≤ a → a < offset + size → byte_at new i a ≡ Some x → (la : Labels) × (x.content ≡ number 0 la)
 
 -- ---- numbers that are 0
-
-nil_unsigned : (ns : List Labelled) → ((k : ℕ) (x : Labelled) → slice_get ns k ≡ Some x → x.number ≡ 0) → unsigned_of ns ≡ 0
-nil_unsigned [] h = refl
-nil_unsigned (x ∷ xs) h = let a = h 0 x refl in let b = nil_unsigned xs (λ k y e. h (suc k) y e) in omega (arith, a, b)
 
 nil_number : (signed : Bool) (ns : List Labelled) → unsigned_of ns ≡ 0 → number_of signed ns ≡ pos 0
 nil_number true ns e = let h : nat_lt 0 (2 ^ (8 * length ns)) ≡ true = lt-ltb 0 (2 ^ (8 * length ns)) (pow_pos (8 * length ns)) in rw (e, h) refl

@@ -25,7 +25,7 @@ use Rattle.transfer_sound.specs.Steps.{operate}
 use Rattle.transfer_sound.specs.StepViolations.{operation_violations}
 use Rattle.memory_model.specs.Memory.Labels.{no_labels}
 use Rattle.memory_model.specs.Memory.Bytes.{Byte}
-use Rattle.memory_model.specs.Memory.Instances.{Memory, Instance, bytes_of, bytes_at, byte_at, live, ended, life_at}
+use Rattle.memory_model.specs.Memory.Instances.{Memory, Instance, bytes_of, bytes_at, byte_at, live, life_at}
 use Rattle.memory_model.specs.Memory.Tags.{tag_of}
 use Rattle.memory_model.specs.Effects.ObjectEffects.{spelled}
 use Rattle.memory_model.specs.Effects.ScalarBytes.{refilled}
@@ -39,9 +39,10 @@ use Rattle.store_sound.specs.Concretization.Coverage.{state_of}
 use Rattle.store_sound.specs.Operations.Shapes.{IsLaidOut}
 use Rattle.store_sound.proofs.operations.LoadSound.{instance_there}
 use Rattle.store_sound.specs.Programs.Premises.{HasPremises}
-use Rattle.store_sound.proofs.programs.ShapedBases.{all_at}
+use Rattle.store_sound.proofs.programs.ShapedBases.{all_at, ends_inside}
 use Rattle.store_sound.specs.Regions.RegionWrites.{IsRegion}
 use Rattle.store_sound.proofs.regions.ContentRegions.{IsWritten, contents_written, contents_sane, region_content}
+use Rattle.store_sound.proofs.operations.StoreLeaves.{live_ended}
 use Rattle.transfer_sound.specs.Values.SoundSteps.{AreShort, IsReached, InGammaAfter, StepIsSound}
 use Rattle.transfer_sound.proofs.values.Admitted.{none_admitted, same_admitted}
 use Rattle.transfer_sound.proofs.values.PartSteps.{declared_storage}
@@ -51,11 +52,7 @@ use Rattle.transfer_sound.proofs.clear.FullParts.{parts_full}
 use Rattle.library_sound.specs.Spelling.SpellSteps.{SpellsBytes, SpellsCharacters}
 use Rattle.library_sound.proofs.spelling.Texts.{contents, contents_long, content_is, byte_small}
 use Rattle.library_sound.proofs.spelling.SpelledCells.{IsText}
-use Rattle.library_sound.proofs.spelling.SpelledZeros.{ends_inside}
 use Rattle.library_sound.proofs.spelling.SpelledRows.{IsSpelled, spelled_stands}
-
-live_ended : live ≡ ended → ⊥
-live_ended e = cc
 
 module _ {I : Type 0} {l : LatticeOf I} {n : IntegersOf I} {gamma : I → ℤ → Type 0} (o : OrderLaws l) (q : BoundLaws l n gamma) (flow : Flow) (p : HasPremises flow) (limits : Limits) (good : is_well_formed limits flow ≡ true) (naming : Naming) (row : List (Cell I)) (s : ProgramState) (r : IsReached l n gamma flow naming row s) where
   module _ (b i offset room : ℕ) (text : List ℕ) (info : BaseInfo) (at : slice_get flow.bases.items b ≡ Some info) (entered : s.bases b ≡ Some i) (declared : info.shape.heap ≡ false) (kind : info.kind ≡ Older → ⊥) (fits : has_room offset room (Some info) ≡ true) (h : SpellsBytes flow b offset room text) where

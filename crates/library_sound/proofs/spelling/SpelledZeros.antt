@@ -1,7 +1,7 @@
 -- What a text that is spelled makes of the first zeros stands for the bytes that are written.
 use Rattle.std.proofs.Common.{◌≡◌, ℕ, ◌+◌, ◌-◌, ◌^◌, ◌<◌, ◌≤◌, Bool, true, false, ◌&&◌, ◌||◌, ◌==◌, Option, Some, None, List, length, take, drop, arith, subst, sym, refl, ap, ◌∙◌, inl, inr, ◌⊎◌}
-use Rattle.std.specs.Prelude.{ℤ, nat_le}
-use Rattle.std.proofs.lemmas.Bool.{and_parts, eqb-true, eqb-false, leb-true}
+use Rattle.std.specs.Prelude.{ℤ}
+use Rattle.std.proofs.lemmas.Bool.{and_parts, eqb-true, eqb-false}
 use Rattle.std.proofs.lemmas.List.{length-take, length-drop}
 use Rattle.cc_base.specs.Lattices.{LatticeOf, OrderLaws}
 use Rattle.cc_base.specs.IntegerDomains.{IntegersOf, BoundLaws}
@@ -21,15 +21,9 @@ use Rattle.store_sound.proofs.operations.Slices.{get_take, get_drop}
 use Rattle.store_sound.proofs.chars.ByteArrays.{IsIn}
 use Rattle.store_sound.specs.Regions.RegionWrites.{IsRegion}
 use Rattle.store_sound.proofs.regions.RegionArrays.{array_short, array_apart, put_zero_stands}
+use Rattle.store_sound.proofs.programs.ShapedBases.{ends_inside}
 use Rattle.library_sound.proofs.spelling.Texts.{AreOf, first_zero_stands}
 use Rattle.library_sound.proofs.spelling.SpelledCells.{IsText}
-
-pub ends_inside : (at size limit : ℕ) → ends_by at size limit ≡ true → at + size ≤ limit
-ends_inside at size limit h =
-    let a = and_parts (nat_le at limit) (nat_le size (limit - at)) h in
-    let b = leb-true at limit a.0 in
-    let c = leb-true size (limit - at) a.1 in
-    omega (arith, b, c)
 
 -- a part is the room, or has no byte of it
 record IsRoom (offset room : ℕ) (part : ZeroPart) : Type 0 where

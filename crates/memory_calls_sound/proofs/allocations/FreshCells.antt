@@ -1,5 +1,5 @@
 -- The cells of a fresh instance of indeterminate bytes, or of zeros, stand for it.
-use Rattle.std.proofs.Common.{◌≡◌, ℕ, zero, suc, ◌+◌, ◌-◌, ◌*◌, ◌^◌, ◌<◌, ◌≤◌, Bool, true, false, cond, Some, None, List, [], ◌∷◌, length, arith, subst, sym, refl, ap, ◌∙◌}
+use Rattle.std.proofs.Common.{◌≡◌, ℕ, zero, suc, ◌+◌, ◌-◌, ◌*◌, ◌^◌, ◌<◌, ◌≤◌, Bool, true, false, cond, Some, None, List, length, arith, subst, sym, refl, ap, ◌∙◌}
 use Rattle.std.specs.Prelude.{slice_get, ℤ, pos, ◌≤ℤ◌, int_le, nat_lt}
 use Rattle.std.proofs.lemmas.Int.{ints}
 use Rattle.std.proofs.lemmas.Bool.{lt-ltb}
@@ -34,6 +34,7 @@ use Rattle.store_sound.proofs.operations.Slices.{get_there}
 use Rattle.store_sound.proofs.operations.StoreZeros.{zero_small, offset_near}
 use Rattle.store_sound.proofs.operations.TouchedRest.{near_stands}
 use Rattle.store_sound.proofs.regions.RegionArrays.{any_zero_stands}
+use Rattle.store_sound.proofs.operations.Reading.{nil_unsigned}
 
 -- ---- bytes without a type
 
@@ -55,10 +56,6 @@ at_first zero h = absurd (omega (arith, h))
 at_first (suc size) h = refl
 
 -- ---- numbers that are 0
-
-nil_unsigned : (ns : List Labelled) → ((k : ℕ) (x : Labelled) → slice_get ns k ≡ Some x → x.number ≡ 0) → unsigned_of ns ≡ 0
-nil_unsigned [] h = refl
-nil_unsigned (x ∷ xs) h = let a = h 0 x refl in let b = nil_unsigned xs (λ k y e. h (suc k) y e) in omega (arith, a, b)
 
 nil_number : (signed : Bool) (ns : List Labelled) → unsigned_of ns ≡ 0 → number_of signed ns ≡ pos 0
 nil_number true ns e = let h : nat_lt 0 (2 ^ (8 * length ns)) ≡ true = lt-ltb 0 (2 ^ (8 * length ns)) (pow_pos (8 * length ns)) in rw (e, h) refl

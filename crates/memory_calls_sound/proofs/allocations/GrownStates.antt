@@ -24,13 +24,8 @@ use Rattle.memory_model.specs.Effects.ObjectEffects.{fresh}
 use Rattle.store_sound.specs.Concretization.SoundMemory.{storage_for, IsInstanceOf, IsFreedRightly, IsMemoryOf, IsContentIn, IsContentNamed}
 use Rattle.store_sound.specs.Concretization.ValueMeaning.{Naming, InGammaZero, InGammaState, InGammaScalar}
 use Rattle.store_sound.specs.Concretization.RowMeaning.{MachineState, array_bytes, IsLiveOf, InGammaLeaf, InGammaClass, InGamma}
+use Rattle.store_sound.proofs.operations.StoreLeaves.{live_freed}
 use Rattle.library_sound.proofs.GrownMemory.{IsGrown, grows, NamesToo, naming_too, names_too, life_stays, bytes_stay, byte_stays, scalar_in_grows, content_in_grows, named_grows, content_named_grows, was_there, scalar_grows, cell_grows}
-
-live_freed : live ≡ freed → ⊥
-live_freed e = cc
-
-live_ends : live ≡ ended → ⊥
-live_ends e = cc
 
 automatic_storage : storage_for Automatic ≡ allocated → ⊥
 automatic_storage e = cc

@@ -50,7 +50,7 @@ use Rattle.store_sound.proofs.operations.LoadSound.{instance_there}
 use Rattle.store_sound.proofs.operations.OneBases.{one_base}
 use Rattle.store_sound.proofs.operations.Sets.{is_single}
 use Rattle.store_sound.proofs.operations.Slices.{get_there}
-use Rattle.store_sound.proofs.operations.StoreLeaves.{not_older}
+use Rattle.store_sound.proofs.operations.StoreLeaves.{not_older, live_ended}
 use Rattle.store_sound.specs.Programs.Premises.{HasPremises}
 use Rattle.library_sound.specs.SoundSteps.{IsReached, InGammaAfter, IsStoodFor, StepIsSound}
 use Rattle.library_sound.proofs.Admitted.{one_admitted, both_admitted}
@@ -70,12 +70,6 @@ allocated_is literal h = cc
 
 freed_live : freed ≡ live → ⊥
 freed_live e = cc
-
-live_ended : live ≡ ended → ⊥
-live_ended e = cc
-
-freed_ended : freed ≡ ended → ⊥
-freed_ended e = cc
 
 module _ {I : Type 0} {l : LatticeOf I} {n : IntegersOf I} {gamma : I → ℤ → Type 0} (o : OrderLaws l) (q : BoundLaws l n gamma) (flow : Flow) (p : HasPremises flow) (naming : Naming) (row : List (Cell I)) (s : ProgramState) (r : IsReached l n gamma flow naming row s) (to : Option ℕ) (has : has_result (names_of flow) to ≡ true) (newest : Option ℕ) (items : List ℕ) (wanted : Option ℕ) where
   abbrev given : Pointers I

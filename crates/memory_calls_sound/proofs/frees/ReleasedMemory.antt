@@ -19,6 +19,7 @@ use Rattle.store_sound.specs.Concretization.ValueMeaning.{Naming, InGammaInto, I
 use Rattle.store_sound.specs.Concretization.RowMeaning.{IsLiveOf}
 use Rattle.store_sound.specs.Concretization.SoundMemory.{IsInstanceOf, IsFreedRightly, IsMemoryOf, IsWithin, IsPointerIn, IsScalarIn, IsNamed, IsContentIn, IsContentNamed}
 use Rattle.store_sound.proofs.operations.Slices.{get_there, get_set_same, get_set_other}
+use Rattle.store_sound.proofs.operations.StoreLeaves.{live_ended}
 
 -- a live instance of allocated bytes that is freed now
 pub record IsFreed (old new : Memory) (j : ℕ) : Type 0 where
@@ -74,9 +75,6 @@ others_live old i j ne = by_instance (slice_get old i)
     by_instance : (o : Option Instance) → life_at (with_life o freed old i) j ≡ life_at old j
     by_instance None = refl
     by_instance (Some it) = ap life_of (get_set_other old i j (record it { life = freed }) ne)
-
-live_ended : live ≡ ended → ⊥
-live_ended e = cc
 
 module _ {old new : Memory} (w : IsReleased old new) where
   -- what has not ended now had not ended

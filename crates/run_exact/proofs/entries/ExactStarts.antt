@@ -24,10 +24,7 @@ use Rattle.transfer_edges.specs.StartRows.{empty_row, start_value, start_object,
 use Rattle.memory_model.specs.Memory.Instances.{Memory}
 use Rattle.memory_model.specs.Effects.NumberedTables.{empty_table}
 use Rattle.memory_model.specs.Effects.UnitStarts.{start_world}
-use Rattle.memory_model.specs.Effects.Worlds.{Reply, goes, stops}
-use Rattle.lower_templates.specs.Views.ProgramViews.{FlowView, flow_view}
-use Rattle.semantics.specs.CfgMachine.FlowStates.{ProgramState, running}
-use Rattle.semantics.specs.CfgMachine.FlowStarts.{first_standing, begun_by}
+use Rattle.lower_templates.specs.Views.ProgramViews.{flow_view}
 use Rattle.store_sound.specs.Concretization.RowMeaning.{MachineState}
 use Rattle.store_sound.specs.Concretization.ValueMeaning.{Naming}
 use Rattle.store_sound.proofs.operations.StoreLeaves.{live_ended}
@@ -35,7 +32,7 @@ use Rattle.store_sound.proofs.operations.StoreRows.{leaf_is}
 use Rattle.store_sound.proofs.operations.StoreValues.{same_value}
 use Rattle.store_sound.specs.Programs.Premises.{HasPremises}
 use Rattle.entry_sound.specs.Starts.StartedRows.{HasStart, IsBegun, HasParameter, IsBeginning}
-use Rattle.entry_sound.proofs.starts.StartedRows.{starts, one_kept, first_of, all_kept, base_apart, empty_long}
+use Rattle.entry_sound.proofs.starts.StartedRows.{starts, one_kept, first_of, all_kept, base_apart, empty_long, no_temps}
 use Rattle.transfer_exact.specs.Values.ExactNumbers.{ExactLaws}
 use Rattle.transfer_exact.specs.Values.SingleRows.{IsPlainProgram, ExactLeaf, ExactState}
 use Rattle.transfer_exact.proofs.places.OneLeaf.{place_is}
@@ -138,11 +135,6 @@ module _ {I : Type 0} {l : LatticeOf I} {n : IntegersOf I} {gamma : I → ℤ �
           let h : walk (parameter_at l n flow) 0 flow.parameters.items mid ≡ after = same_Some (walk (parameter_at l n flow) 0 flow.parameters.items mid) after (subst (λ z. started l n flow z ≡ Some after) f e) in
           let k : mid ≡ after = sym (ap (λ ps. walk (parameter_at l n flow) 0 ps mid) none) ∙ h in
           subst (λ z. ExactState l n flow z state) k (objects_tell none row mid long f)
-
--- no temporary has anything at the start of a run
-no_temps : (u : UnitView) (f : FlowView) (r : Reply (Unit {0})) (s : ProgramState) → begun_by u f r ≡ running s [] → empty_table ≡ s.temps
-no_temps u f (goes x w) s e = let h : first_standing u f w ≡ s = cc in ap (λ z. z.temps) h
-no_temps u f (stops why w) s e = absurd (cc)
 
 module _ {I : Type 0} {l : LatticeOf I} {n : IntegersOf I} {gamma : I → ℤ → Type 0} (o : OrderLaws l) (q : BoundLaws l n gamma) (c : SoundLaws l n gamma) (ranges : RangeLaws l n) (exact : ExactLaws n) (flow : Flow) where
   pub start_is_exact : StartIsExact l n gamma flow

@@ -80,7 +80,7 @@ use Rattle.transfer_exact.proofs.accesses.StoredRows.{FitsLeaf, stored_leaves}
 use Rattle.transfer_exact.proofs.accesses.ExactClears.{leaf_zero, zero_leaf}
 use Rattle.transfer_exact.proofs.accesses.ExactStores.{fit_of, some_value, base_fits}
 use Rattle.transfer_exact.proofs.spelling.SpelledLeaves.{spelled_leaves}
-use Rattle.transfer_exact.proofs.spelling.SpelledRows.{spelled_within}
+use Rattle.store_sound.proofs.regions.SpelledParts.{spelled_within}
 use Rattle.run_exact.proofs.entries.NamedTargets.{NamesTargets}
 use Rattle.run_exact.proofs.entries.StaticBytes.{refilled_tags, refilled_long}
 

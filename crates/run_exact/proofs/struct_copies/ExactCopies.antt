@@ -1,5 +1,5 @@
 -- Copies of structs are told.
-use Rattle.std.proofs.Common.{◌≡◌, ℕ, zero, suc, ◌+◌, ◌-◌, ◌*◌, ◌^◌, ◌<◌, ◌≤◌, Bool, true, false, cond, ◌||◌, ◌&&◌, Option, Some, None, List, [], ◌∷◌, ◌++◌, length, map, arith, subst, sym, refl, ap, ◌∙◌}
+use Rattle.std.proofs.Common.{◌≡◌, ℕ, suc, ◌+◌, ◌-◌, ◌*◌, ◌^◌, ◌<◌, ◌≤◌, Bool, true, false, cond, ◌||◌, ◌&&◌, Option, Some, None, List, [], ◌∷◌, ◌++◌, length, arith, subst, sym, refl, ap, ◌∙◌}
 use Rattle.std.specs.Prelude.{ℤ, pos, ◌≤ℤ◌, slice_get, nat_lt, ◌==◌}
 use Rattle.std.proofs.lemmas.Int.{ints}
 use Rattle.std.proofs.lemmas.Bool.{and_parts, and_from, or_right, ltb-true}
@@ -62,6 +62,7 @@ use Rattle.store_structs.specs.StructCopies as structs
 use Rattle.store_structs.specs.StructCopies.{copy_found}
 use Rattle.transfer_sound.specs.Values.SoundSteps.{IsReached}
 use Rattle.struct_copies_sound.proofs.memory.CopiedMemory.{copied_byte, copied_sane, copy_region}
+use Rattle.struct_copies_sound.proofs.copies.CopySteps.{map_get}
 use Rattle.struct_copies_sound.specs.Structs.StructTables.{IsListed, HasStructs}
 use Rattle.transfer_exact.specs.Values.ExactNumbers.{ExactLaws}
 use Rattle.transfer_exact.specs.Values.SingleRows.{IsPlainProgram, ExactState}
@@ -81,11 +82,6 @@ use Rattle.run_exact.proofs.structs.CopiedStates.{Came, copied_state}
 use Rattle.run_exact.proofs.structs.FinishedRows.{CopiesRow, struct_copies}
 use Rattle.run_exact.proofs.struct_copies.MadeCopies.{fits_there, parts_there, apart_there}
 use Rattle.run_exact.proofs.struct_copies.ExactTouches.{IsPlace, IsTouch, nothing, one, touch_told}
-
-map_get : {X Y : Type 0} (f : X → Y) (xs : List X) (k : ℕ) (x : X) → slice_get xs k ≡ Some x → slice_get (map f xs) k ≡ Some (f x)
-map_get f [] k x e = cc
-map_get f (y ∷ ys) zero x e = let same : y ≡ x = same_Some y x e in ap (λ z. Some (f z)) same
-map_get f (y ∷ ys) (suc k) x e = map_get f ys k x e
 
 module _ {I : Type 0} {l : LatticeOf I} {n : IntegersOf I} {gamma : I → ℤ → Type 0} (order : OrderLaws l) (q : BoundLaws l n gamma) (ranges : RangeLaws l n) (exact : ExactLaws n) (flow : Flow) (p : HasPremises flow) (objects : HasObjects flow) (plain : IsPlainProgram flow) (has : HasStructs flow) (naming : Naming) (row : List (Cell I)) (s : ProgramState) (r : IsReached l n gamma flow naming row s) (t : ExactState l n flow row (state_of s)) where
   abbrev memory : Memory

@@ -1,16 +1,13 @@
 -- A touch through a value that tells one pointer stops where it says so, and goes on to the one place that it has.
-use Rattle.std.proofs.Common.{◌≡◌, ℕ, ◌+◌, ◌-◌, ◌^◌, ◌<◌, ◌≤◌, Bool, true, false, ◌||◌, ◌&&◌, Some, List, [], ◌∷◌, ◌++◌, arith, refl, ap, ◌∙◌, inl, inr}
+use Rattle.std.proofs.Common.{◌≡◌, ℕ, ◌+◌, ◌-◌, ◌^◌, ◌≤◌, Bool, true, false, ◌||◌, ◌&&◌, Some, List, [], ◌∷◌, ◌++◌, arith, refl, ap, ◌∙◌, inl, inr}
 use Rattle.std.specs.Prelude.{ℤ, slice_get, nat_le}
 use Rattle.std.specs.List.{Contains}
 use Rattle.std.proofs.lemmas.Bool.{cases_Bool, and_parts, leb-true}
-use Rattle.std.proofs.lemmas.Bool.Decides.{nat_tests}
 use Rattle.cc_base.specs.Lattices.{LatticeOf}
 use Rattle.cc_base.specs.IntegerDomains.{IntegersOf, BoundLaws}
 use Rattle.cc_base.specs.declared.diagnostics.Rule.{Rule}
 use Rattle.cc_base.specs.declared.diagnostics.Rule.TheVariants as rule
 use Rattle.c_layout.specs.declared.shapes.BaseInfo.{BaseInfo}
-use Rattle.c_layout.specs.declared.shapes.BaseKind.{BaseKind}
-use Rattle.c_layout.specs.declared.shapes.BaseKind.TheVariants.{Static, Automatic, Literal, Newest, Older}
 use Rattle.cfg.specs.declared.programs.Flow.{Flow}
 use Rattle.pointer_domain.specs.declared.pointer_sets.Pointers.{Pointers}
 use Rattle.value_domain.specs.declared.values.row_cells.Cell.{Cell}
@@ -21,25 +18,17 @@ use Rattle.memory_model.specs.Memory.Instances.{Life, live, ended, freed, life_a
 use Rattle.memory_model.specs.Effects.Touches.{touched, touched_by, is_literal, storage_of, storage_at}
 use Rattle.memory_model.specs.Effects.Worlds.{goes, stopped_by}
 use Rattle.semantics.specs.CfgMachine.FlowStates.{ProgramState}
-use Rattle.store_sound.specs.Concretization.SoundMemory.{IsPointerIn, IsWithin, IsInstanceOf, storage_for}
+use Rattle.store_sound.specs.Concretization.SoundMemory.{IsPointerIn, IsWithin, IsInstanceOf}
 use Rattle.store_sound.specs.Concretization.ValueMeaning.{Naming}
 use Rattle.store_sound.proofs.operations.LoadSound.{base_there, instance_there}
+use Rattle.store_sound.proofs.operations.TouchSound.{past_end}
 use Rattle.transfer_sound.specs.Values.SoundSteps.{IsReached}
 use Rattle.transfer_exact.specs.Values.SingleRows.{IsPlainProgram}
 use Rattle.transfer_exact.specs.Values.SingleValues.{IsNowhere, IsIntoOne, ExactByLife, ExactPointer}
 use Rattle.transfer_exact.proofs.values.Violated.{AreViolated, one_there, behind_there}
 use Rattle.transfer_exact.proofs.places.OneTouch.{touching, TouchesNothing, TouchesOne, nowhere, outside, literal, inside}
 use Rattle.transfer_exact.proofs.places.Touching.{touching_violated}
-
-literal_kind : (kind : BaseKind) → is_literal (storage_for kind) ≡ is_literal_kind kind
-literal_kind Static = refl
-literal_kind Automatic = refl
-literal_kind Literal = refl
-literal_kind Newest = refl
-literal_kind Older = refl
-
-past_end : (a b c d : ℕ) → (nat_le a b && nat_le c d) ≡ false → a ≤ b → d < c
-past_end a b c d h k = grind (arith, nat_tests)
+use Rattle.transfer_exact.proofs.accesses.ExactStores.{literal_kind}
 
 module _ {I : Type 0} {l : LatticeOf I} {n : IntegersOf I} {gamma : I → ℤ → Type 0} (q : BoundLaws l n gamma) (flow : Flow) (plain : IsPlainProgram flow) (naming : Naming) (row : List (Cell I)) (s : ProgramState) (r : IsReached l n gamma flow naming row s) (x : Pointers I) (at : MachinePointer) (size : ℕ) (write : Bool) where
   abbrev Nothing : Violations → Type 0

@@ -1,5 +1,5 @@
 -- One leaf of a struct: read from the one leaf at its offset in one object, and written to the one in another.
-use Rattle.std.proofs.Common.{◌≡◌, ℕ, ◌<◌, Bool, true, false, cond, not, ◌||◌, Some, None, List, arith, refl, ap, ◌∙◌}
+use Rattle.std.proofs.Common.{◌≡◌, ℕ, ◌<◌, Bool, true, false, cond, not, Some, None, List, arith, refl, ap, ◌∙◌}
 use Rattle.std.specs.Prelude.{slice_get, ◌==◌}
 use Rattle.std.proofs.lemmas.Bool.{and_from, eq-eqb, ne_eqb, or_left, or_right}
 use Rattle.cc_base.specs.Lattices.{LatticeOf}
@@ -11,7 +11,7 @@ use Rattle.c_layout.specs.declared.shapes.BaseInfo.{BaseInfo}
 use Rattle.value_domain.specs.declared.values.values.Value as values
 use Rattle.value_domain.specs.declared.values.row_cells.Cell.{Cell}
 use Rattle.value_domain.specs.Values.LabelSets.{all_labels}
-use Rattle.store_cells.specs.CellReads.{same_sign, whole_range, as_read, as_stored}
+use Rattle.store_cells.specs.CellReads.{whole_range, as_read, as_stored}
 use Rattle.store_cells.specs.ClassNumbers.{same_class, is_pointer}
 use Rattle.store_objects.specs.LiveBases.{most_bases, only_base}
 use Rattle.store_cells.specs.NearValues.{near_value}
@@ -27,12 +27,8 @@ use Rattle.store_struct_leaves.specs.declared.leaf_copies.LeafAccess.{LeafAccess
 use Rattle.struct_copies_sound.specs.Leaves.StructLeaves.{IsStruct}
 use Rattle.transfer_exact.proofs.places.OneTurn.{walk_idle, walk_once}
 use Rattle.transfer_exact.proofs.places.OneBase.{has_own, has_no_other}
+use Rattle.transfer_exact.proofs.places.OneLoad.{signs_agree}
 use Rattle.run_exact.proofs.structs.OneSpans.{IsOneWindow, own_reached, other_unreached, none_touched, no_span_padding}
-
-signs_agree : (p s : Bool) → (p || same_sign s s) ≡ true
-signs_agree true s = refl
-signs_agree false true = refl
-signs_agree false false = refl
 
 same_sign_read : {I : Type 0} (n : IntegersOf I) (m : Model) (v : values.Value I) (leaf : Leaf) → as_read n m v leaf.class leaf.signed leaf.signed ≡ v
 same_sign_read n m v leaf = let e = signs_agree (is_pointer leaf.class) leaf.signed in rw e refl

@@ -61,7 +61,7 @@ class_size m Long = one_of (m.long == 4) 4 8 refl refl
 class_size m LongLong = refl
 class_size m Pointer = one_of (m.pointer == 4) 4 8 refl refl
 
-size_above : (n : ℕ) → is_size n ≡ true → 0 < n
+pub size_above : (n : ℕ) → is_size n ≡ true → 0 < n
 size_above zero h = cc
 size_above (suc n) h = omega arith
 

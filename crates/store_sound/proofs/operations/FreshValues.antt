@@ -89,10 +89,10 @@ module _ {I : Type 0} {l : LatticeOf I} {n : IntegersOf I} {gamma : I → ℤ �
 
 -- ---- near bounds
 
-eight : (n : ℕ) → is_size n ≡ true → n ≤ 8
+pub eight : (n : ℕ) → is_size n ≡ true → n ≤ 8
 eight n h = grind (arith, nat_tests)
 
-pow_up : (a b : ℕ) → a ≤ b → 2 ^ a ≤ 2 ^ b
+pub pow_up : (a b : ℕ) → a ≤ b → 2 ^ a ≤ 2 ^ b
 pow_up a b h = pow-le-pow_right {n = 2} (omega arith) h
 
 pub type_near : (k : IntType) (a b : ℤ) → is_size k.bytes ≡ true → least_of k ≤ℤ a → b ≤ℤ greatest_of k → (neg_ℤ (pos (2 ^ 64)) ≤ℤ a) × (b ≤ℤ pos (2 ^ 64))

@@ -28,7 +28,7 @@ pub record PointerBelow {I : Type 0} (l : LatticeOf I) (x y : Pointers I) : Type
   pub null : x.null ≡ true → y.null ≡ true
   pub ended : x.ended ≡ true → y.ended ≡ true
 
-flag_up : (a b : Bool) → flag_leq a b ≡ true → a ≡ true → b ≡ true
+pub flag_up : (a b : Bool) → flag_leq a b ≡ true → a ≡ true → b ≡ true
 flag_up true b h e = h
 flag_up false b h e = cc
 

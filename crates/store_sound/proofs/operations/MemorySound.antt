@@ -1,7 +1,8 @@
 -- Memory stays sound behind a load and behind a store.
-use Rattle.std.proofs.Common.{◌≡◌, ℕ, ◌<◌, Bool, true, false, cond, ◌&&◌, Option, Some, None, List, [], ◌∷◌, arith, subst, sym, refl, ap, ◌∙◌, inl, inr}
+use Rattle.std.proofs.Common.{◌≡◌, ℕ, ◌<◌, Bool, true, false, cond, Option, Some, None, List, [], ◌∷◌, arith, subst, sym, refl, ap, ◌∙◌, inl, inr}
 use Rattle.std.specs.Prelude.{slice_get, set}
 use Rattle.std.proofs.lemmas.Bool.{cases_Bool, true≢false}
+use Rattle.std.proofs.Math.Bool.{and-false}
 use Rattle.c_layout.specs.declared.data_model.Model.{Model}
 use Rattle.c_layout.specs.declared.leaf_lists.Class.{Class}
 use Rattle.c_layout.specs.declared.leaf_lists.Class.TheVariants.{Char}
@@ -11,7 +12,7 @@ use Rattle.cfg.specs.declared.machine_instructions.Scalar as declared
 use Rattle.memory_model.specs.Memory.Labels.{Labels}
 use Rattle.memory_model.specs.Memory.ScalarSizes.{same_class, class_bytes}
 use Rattle.memory_model.specs.Memory.Bytes.{MachinePointer, null, Content, indeterminate, number, part, Byte}
-use Rattle.memory_model.specs.Memory.Instances.{live, ended, bytes_at, byte_at, bytes_of, life_at}
+use Rattle.memory_model.specs.Memory.Instances.{ended, bytes_at, byte_at, bytes_of, life_at}
 use Rattle.memory_model.specs.Memory.Scalars.{Scalar, integer, pointer}
 use Rattle.memory_model.specs.Effects.Worlds.{World, Reply, goes, stops, Stuck}
 use Rattle.memory_model.specs.Effects.Operands.{is_of_kind}
@@ -31,6 +32,7 @@ use Rattle.store_sound.proofs.operations.Fresh.{number_content}
 use Rattle.store_sound.proofs.operations.CellReads.{integer_is, scalar_pointer_is}
 use Rattle.store_sound.proofs.operations.StoreMemory.{new_sane}
 use Rattle.store_sound.proofs.operations.Refills.{is_refill, refill_sane}
+use Rattle.store_sound.proofs.operations.StoreLeaves.{live_ended}
 
 -- ---- loads
 
@@ -51,9 +53,6 @@ pointer_first Q z (c ∷ cs) p f h = by_first Q z c (c ∷ cs) p (λ q k e. f q 
 some_base : (o : Option ℕ) → (o ≡ None → ⊥) → (b : ℕ) × (o ≡ Some b)
 some_base None h = absurd (h refl)
 some_base (Some b) h = (b, refl)
-
-live_ended : live ≡ ended → ⊥
-live_ended e = cc
 
 module _ (m : Model) (bases : List BaseInfo) (naming : Naming) (w : World) (at : MachinePointer) (kind : declared.Scalar) (sane : IsMemoryOf m bases naming w.memory) (names : IsNamed naming w.memory at) (cs : List Content) (r : HasRead m kind w at cs) where
   -- the first byte that was read
@@ -93,12 +92,8 @@ loads_keep m bases naming w u at kind v sane inside names h =
 
 -- ---- stores
 
-and_false : (b : Bool) → (b && false) ≡ false
-and_false true = refl
-and_false false = refl
-
 char_bytes : (allocated : Bool) (class : Class) (bytes : List Byte) (offset : ℕ) (cs : List Content) → same_class class Char ≡ true → stored_bytes allocated class bytes offset cs ≡ refilled bytes offset cs
-char_bytes allocated class bytes offset cs e = rw (e, and_false allocated) refl
+char_bytes allocated class bytes offset cs e = rw (e, and-false allocated) refl
 
 -- the bytes of a character are numbers
 char_numbers : (kind : declared.Scalar) (v : Scalar) (size : ℕ) → same_class (class_in kind) Char ≡ true → is_of_kind kind v ≡ true → (k : ℕ) (c : Content) → slice_get (scalar_bytes size v) k ≡ Some c → (d : ℕ) × (labels : Labels) × (c ≡ number d labels) × (d < 256)

@@ -7,7 +7,7 @@ use Rattle.cc_base.specs.declared.diagnostics.Rule.TheVariants as rule
 use Rattle.c_layout.specs.declared.leaf_lists.Class.{Class}
 use Rattle.memory_model.specs.Memory.Bytes.{MachinePointer, null, into, Content, indeterminate, number, part, Tag, Byte}
 use Rattle.memory_model.specs.Memory.Instances.{Memory, Life, live, ended, freed, bytes_at, byte_at, life_at}
-use Rattle.memory_model.specs.Memory.Numbers.{Labelled}
+use Rattle.memory_model.specs.Memory.Numbers.{Labelled, unsigned_of}
 use Rattle.store_sound.specs.Concretization.Matching.{Fits, Matched, number_in}
 use Rattle.memory_model.specs.Memory.Tags.{fits_tag, fit_from}
 use Rattle.memory_model.specs.Effects.Worlds.{World, Reply, goes, stops, behind, stopped_by}
@@ -110,3 +110,8 @@ pub numbers_at : (cs : List Content) (ns : List Labelled) (k : ℕ) (n : Labelle
 numbers_at [] ns k n h e = let f : ns ≡ [] = cc in let g : None ≡ Some n = subst (λ x. slice_get x k ≡ Some n) f e in cc
 numbers_at (c ∷ cs) ns zero n h e = let r = and_parts_are c (numbers_in cs) ns h in let g : Some r.0 ≡ Some n = subst (λ x. slice_get x 0 ≡ Some n) r.4 e in let d : r.0 ≡ n = cc in let f = r.2 in ap Some (f ∙ ap number_in d)
 numbers_at (c ∷ cs) ns (suc k) n h e = let r = and_parts_are c (numbers_in cs) ns h in numbers_at cs r.1 k n r.3 (subst (λ x. slice_get x (suc k) ≡ Some n) r.4 e)
+
+-- bytes of zeros alone make 0
+pub nil_unsigned : (ns : List Labelled) → ((k : ℕ) (x : Labelled) → slice_get ns k ≡ Some x → x.number ≡ 0) → unsigned_of ns ≡ 0
+nil_unsigned [] h = refl
+nil_unsigned (x ∷ xs) h = let a = h 0 x refl in let b = nil_unsigned xs (λ k y e. h (suc k) y e) in omega (arith, a, b)

@@ -23,7 +23,7 @@ or_true a b h = rw h
 union_keeps : (found more : Bases) (b : ℕ) → has_base found b ≡ true → has_base (bases_union found more) b ≡ true
 union_keeps found more b h = let p = and_parts (nat_lt b most_bases) (bases_has found b) h in and_from _ _ p.0 (union_has found more b ∙ or_true _ _ p.1)
 
-only_has : (b : ℕ) → b < most_bases → bases_has (only_base b) b ≡ true
+pub only_has : (b : ℕ) → b < most_bases → bases_has (only_base b) b ≡ true
 only_has b h = rw (lt-ltb b most_bases h) (with_has_same no_base b)
 
 union_adds : (found : Bases) (b : ℕ) → b < most_bases → has_base (bases_union found (only_base b)) b ≡ true

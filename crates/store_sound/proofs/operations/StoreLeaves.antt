@@ -23,7 +23,7 @@ use Rattle.store.specs.LeafSelection.{is_selected, has_place_in, has_stray}
 use Rattle.store_objects.specs.LiveBases.{has_base, is_single_kind}
 use Rattle.store.specs.Loads.{reaches_class}
 use Rattle.store.specs.Stores.{stored_value, cell_value, is_strong, store_all}
-use Rattle.memory_model.specs.Memory.Instances.{Memory, live, ended, life_at}
+use Rattle.memory_model.specs.Memory.Instances.{Memory, live, ended, freed, life_at}
 use Rattle.store_sound.specs.Concretization.Places.{IsPlaceOf, IsLeafPlace, OwnedByLeaf, OwnedByClass, IsClassPlace}
 use Rattle.memory_model.specs.Memory.Scalars.{Scalar}
 use Rattle.store_sound.specs.Concretization.ValueMeaning.{Naming, InGammaScalar}
@@ -54,6 +54,9 @@ number_at (suc (suc (suc (suc (suc (suc k)))))) h = absurd (omega arith)
 
 pub live_ended : live ≡ ended → ⊥
 live_ended e = cc
+
+pub live_freed : live ≡ freed → ⊥
+live_freed e = cc
 
 pub zero_count : (m k : ℕ) → m ≡ k → ((j : ℕ) → k ≡ suc j → ⊥) → k ≡ 0
 zero_count m zero e h = refl

@@ -50,10 +50,10 @@ use Rattle.store_sound.proofs.operations.Freed.{into_freed}
 same_rule : (w : World) (a r : Rule) → stopped_by {A = Spot} w a ≡ stopped_by w r → a ≡ r
 same_rule w a r h = let e : w.violated ++ (a ∷ []) ≡ w.violated ++ (r ∷ []) = ap (λ z. (world_of z).violated) h in let f = append_cancel_left w.violated (a ∷ []) (r ∷ []) e in cc
 
-past_end : (a b c d : ℕ) → (nat_le a b && nat_le c d) ≡ false → a ≤ b → d < c
+pub past_end : (a b c d : ℕ) → (nat_le a b && nat_le c d) ≡ false → a ≤ b → d < c
 past_end a b c d h k = grind (arith, nat_tests)
 
-lt_true : (x y : ℤ) → (x +ℤ pos 1) ≤ℤ y → int_lt x y ≡ true
+pub lt_true : (x y : ℤ) → (x +ℤ pos 1) ≤ℤ y → int_lt x y ≡ true
 lt_true x y h = grind (arith, ints)
 
 literal_kind : (kind : BaseKind) → is_literal (storage_for kind) ≡ true → is_literal_kind kind ≡ true

@@ -1,8 +1,8 @@
 -- The bases of a well-formed program have the shapes that theorems on the store ask for.
-use Rattle.std.proofs.Common.{Option, ◌^◌, ◌≡◌, ℕ, zero, suc, ◌≤◌, Bool, true, false, not, ◌&&◌, Some, None, List, [], ◌∷◌, arith, subst, sym, refl, ◌∙◌, inl, inr}
-use Rattle.std.specs.Prelude.{slice_get, ◌==◌, is_none, count_by}
+use Rattle.std.proofs.Common.{Option, ◌^◌, ◌≡◌, ℕ, zero, suc, ◌+◌, ◌-◌, ◌≤◌, Bool, true, false, not, ◌&&◌, Some, None, List, [], ◌∷◌, arith, subst, sym, refl, ◌∙◌, inl, inr}
+use Rattle.std.specs.Prelude.{slice_get, ◌==◌, nat_le, is_none, count_by}
 use Rattle.std.specs.List.{list_all}
-use Rattle.std.proofs.lemmas.Bool.{cases_Bool, and_parts, eqb-true, not-true, true≢false}
+use Rattle.std.proofs.lemmas.Bool.{cases_Bool, and_parts, eqb-true, leb-true, not-true, true≢false}
 use Rattle.c_layout.specs.declared.data_model.Model.{Model}
 use Rattle.c_layout.specs.declared.leaf_lists.Class.{Class}
 use Rattle.c_layout.specs.declared.leaf_lists.Leaf.{Leaf}
@@ -12,7 +12,7 @@ use Rattle.c_layout.specs.declared.shapes.BaseKind.TheVariants.{Static, Automati
 use Rattle.c_layout.specs.declared.shapes.ZeroPart.{ZeroPart}
 use Rattle.c_layout.specs.Models.{is_model}
 use Rattle.cfg.specs.ModelKinds as program
-use Rattle.cfg.specs.BaseShapes.{is_extent, are_leaves, are_parts, lie_over, is_whole_part, are_whole, is_heap, is_single, is_heap_base, is_declared_base, is_shaped}
+use Rattle.cfg.specs.BaseShapes.{is_extent, ends_by, are_leaves, are_parts, lie_over, is_whole_part, are_whole, is_heap, is_single, is_heap_base, is_declared_base, is_shaped}
 use Rattle.cfg.specs.ApartLeaves.{HasByte}
 use Rattle.memory_model.specs.Effects.Touches.{is_allocated}
 use Rattle.store_sound.specs.Concretization.SoundMemory.{storage_for}
@@ -28,6 +28,14 @@ pub all_at : {X : Type 0} (p : X → Bool) (xs : List X) (j : ℕ) (x : X) → l
 all_at p [] j x h e = cc
 all_at p (y ∷ ys) zero x h e = let d : y ≡ x = cc in subst (λ z. p z ≡ true) d (and_parts (p y) (list_all p ys) h).0
 all_at p (y ∷ ys) (suc j) x h e = all_at p ys j x (and_parts (p y) (list_all p ys) h).1 e
+
+-- what ends by a limit lies below it
+pub ends_inside : (at size limit : ℕ) → ends_by at size limit ≡ true → at + size ≤ limit
+ends_inside at size limit h =
+    let a = and_parts (nat_le at limit) (nat_le size (limit - at)) h in
+    let b = leb-true at limit a.0 in
+    let c = leb-true size (limit - at) a.1 in
+    omega (arith, b, c)
 
 same_kind : (kind : BaseKind) → is_allocated (storage_for kind) ≡ is_heap kind
 same_kind Static = refl

@@ -77,7 +77,7 @@ use Rattle.struct_copies_sound.proofs.copies.CopyRows.{route_stands}
 
 -- ---- tables
 
-map_get : {X Y : Type 0} (f : X → Y) (xs : List X) (k : ℕ) (x : X) → slice_get xs k ≡ Some x → slice_get (map f xs) k ≡ Some (f x)
+pub map_get : {X Y : Type 0} (f : X → Y) (xs : List X) (k : ℕ) (x : X) → slice_get xs k ≡ Some x → slice_get (map f xs) k ≡ Some (f x)
 map_get f [] k x e = cc
 map_get f (y ∷ ys) zero x e = let same : y ≡ x = same_Some y x e in ap (λ z. Some (f z)) same
 map_get f (y ∷ ys) (suc k) x e = map_get f ys k x e

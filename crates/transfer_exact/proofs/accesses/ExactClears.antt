@@ -34,10 +34,9 @@ use Rattle.transfer_sound.specs.Values.SoundSteps.{IsReached}
 use Rattle.transfer_sound.proofs.objects.BlankRows as blank
 use Rattle.transfer_sound.proofs.objects.WholeObjects.{automatic_declared, some_kind, named, new, is_set}
 use Rattle.transfer_exact.specs.Values.SingleRows.{IsPlainProgram, ExactLeaf, ExactState}
-use Rattle.transfer_exact.specs.Values.SingleSteps.{IsDefined, ExactAfter, StepIsExact}
+use Rattle.transfer_exact.specs.Values.SingleSteps.{IsDefined, StepIsExact}
 use Rattle.transfer_exact.proofs.values.NearExact.{near_none}
-use Rattle.transfer_exact.proofs.values.Told.{if_some_told}
-use Rattle.transfer_exact.proofs.values.Violated.{none_violated}
+use Rattle.transfer_exact.proofs.values.Told.{if_some_told, clean_goes_told}
 use Rattle.transfer_exact.specs.Accesses.StoreLaws.{IsCleared}
 use Rattle.transfer_exact.specs.Accesses.TypedAccesses.{HasObjects}
 use Rattle.transfer_exact.proofs.accesses.Moves.{change_tells}
@@ -181,21 +180,13 @@ module _ {I : Type 0} {l : LatticeOf I} {n : IntegersOf I} {gamma : I → ℤ �
   clear_told b fits d =
       let k = some_kind flow.bases.items b fits in
       let info : BaseInfo = k.0 in
-      if_some_told l n flow _ no_violations s (s.bases b) _ d (λ i e d. record {
-        goes_on = λ t u f.
-            let w : World = cleared i s.world in
-            let now : ProgramState = record s { at = suc s.at; world = w } in
-            let a : now ≡ t = cc in
-            let c : w ≡ u = cc in
-            let here : ExactAfter l n flow (Some (at_base (clear_object l n) (slice_get flow.bases.items b) row)) (record now { world = w }) = record {
-              row = clear_object l n info row;
-              is = ap (λ z. Some (at_base (clear_object l n) z row)) k.1;
-              tells = cleared_tells b i info k.1 e (plain.no_heap b info k.1) (automatic_declared info.kind k.2);
-            } in
-            subst (λ z. ExactAfter l n flow (Some (at_base (clear_object l n) (slice_get flow.bases.items b) row)) (record z { world = u })) a (subst (λ z. ExactAfter l n flow (Some (at_base (clear_object l n) (slice_get flow.bases.items b) row)) (record now { world = z })) c here);
-        ends = λ why u f. cc;
-        violated = none_violated s.world.violated;
-      })
+      if_some_told l n flow _ no_violations s (s.bases b) _ d (λ i e d. let w : World = cleared i s.world in
+      let now : ProgramState = record s { at = suc s.at; world = w } in
+      clean_goes_told l n flow _ now w (record {
+        row = clear_object l n info row;
+        is = ap (λ z. Some (at_base (clear_object l n) z row)) k.1;
+        tells = cleared_tells b i info k.1 e (plain.no_heap b info k.1) (automatic_declared info.kind k.2);
+      }))
 
   pub clear_step_told : (o : Operation) → IsCleared o s → fits_operation (names_of flow) o ≡ true → IsDefined (act_step (flow_view flow) (act o) s) → StepIsExact l n flow row o s
   clear_step_told (op.Clear b) is fits d = clear_told b fits d

@@ -40,11 +40,10 @@ use Rattle.struct_copies_sound.proofs.leaves.Structs.{owned_at}
 use Rattle.transfer_sound.proofs.objects.BlankRows as blank
 use Rattle.transfer_sound.proofs.objects.WholeObjects.{automatic_declared, some_kind, named, alive, new, is_set, content_at}
 use Rattle.transfer_exact.specs.Values.SingleRows.{IsPlainProgram, ExactLeaf, ExactState}
-use Rattle.transfer_exact.specs.Values.SingleSteps.{IsDefined, ExactAfter, StepIsExact}
+use Rattle.transfer_exact.specs.Values.SingleSteps.{IsDefined, StepIsExact}
 use Rattle.transfer_exact.specs.Values.SingleValues.{IsBlank}
 use Rattle.transfer_exact.proofs.values.NearExact.{near_none}
-use Rattle.transfer_exact.proofs.values.Told.{if_some_told}
-use Rattle.transfer_exact.proofs.values.Violated.{none_violated}
+use Rattle.transfer_exact.proofs.values.Told.{if_some_told, clean_goes_told}
 use Rattle.transfer_exact.specs.Accesses.StoreLaws.{IsForgotten}
 use Rattle.transfer_exact.specs.Accesses.TypedAccesses.{HasObjects}
 use Rattle.transfer_exact.proofs.places.HeldReads.{inside}
@@ -108,21 +107,13 @@ module _ {I : Type 0} {l : LatticeOf I} {n : IntegersOf I} {gamma : I → ℤ �
   forget_told b fits d =
       let k = some_kind flow.bases.items b fits in
       let info : BaseInfo = k.0 in
-      if_some_told l n flow _ no_violations s (s.bases b) _ d (λ i e d. record {
-        goes_on = λ t u f.
-            let w : World = forgotten i s.world in
-            let now : ProgramState = record s { at = suc s.at; world = w } in
-            let a : now ≡ t = cc in
-            let c : w ≡ u = cc in
-            let here : ExactAfter l n flow (Some (at_base (blank_object l n) (slice_get flow.bases.items b) row)) (record now { world = w }) = record {
-              row = blank_object l n info row;
-              is = ap (λ z. Some (at_base (blank_object l n) z row)) k.1;
-              tells = forgotten_tells b i info k.1 e (plain.no_heap b info k.1) (automatic_declared info.kind k.2);
-            } in
-            subst (λ z. ExactAfter l n flow (Some (at_base (blank_object l n) (slice_get flow.bases.items b) row)) (record z { world = u })) a (subst (λ z. ExactAfter l n flow (Some (at_base (blank_object l n) (slice_get flow.bases.items b) row)) (record now { world = z })) c here);
-        ends = λ why u f. cc;
-        violated = none_violated s.world.violated;
-      })
+      if_some_told l n flow _ no_violations s (s.bases b) _ d (λ i e d. let w : World = forgotten i s.world in
+      let now : ProgramState = record s { at = suc s.at; world = w } in
+      clean_goes_told l n flow _ now w (record {
+        row = blank_object l n info row;
+        is = ap (λ z. Some (at_base (blank_object l n) z row)) k.1;
+        tells = forgotten_tells b i info k.1 e (plain.no_heap b info k.1) (automatic_declared info.kind k.2);
+      }))
 
   pub forget_step_told : (o : Operation) → IsForgotten o s → fits_operation (names_of flow) o ≡ true → IsDefined (act_step (flow_view flow) (act o) s) → StepIsExact l n flow row o s
   forget_step_told (op.Forget b) is fits d = forget_told b fits d

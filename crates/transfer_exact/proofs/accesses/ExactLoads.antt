@@ -3,7 +3,6 @@ use Rattle.std.proofs.Common.{◌≡◌, ℕ, ◌+◌, ◌-◌, ◌^◌, ◌<◌
 use Rattle.std.specs.Prelude.{ℤ, slice_get, nat_le}
 use Rattle.std.specs.List.{Contains}
 use Rattle.std.proofs.lemmas.Bool.{cases_Bool, and_parts, ltb-true, leb-true, le-leb, true≢false}
-use Rattle.std.proofs.lemmas.Bool.Decides.{nat_tests}
 use Rattle.cc_base.specs.Lattices.{LatticeOf}
 use Rattle.cc_base.specs.IntegerDomains.{IntegersOf, BoundLaws}
 use Rattle.cc_base.specs.declared.diagnostics.Rule.{Rule}
@@ -56,6 +55,7 @@ use Rattle.store_sound.specs.Operations.Scalars.{IsOfKind, signed_in}
 use Rattle.store_sound.proofs.operations.LoadSound.{base_there}
 use Rattle.store_sound.proofs.operations.MemorySound.{loads_keep}
 use Rattle.store_sound.proofs.operations.StoreSound.{scalar_named}
+use Rattle.store_sound.proofs.operations.TouchSound.{past_end}
 use Rattle.store_sound.specs.Programs.Premises.{HasPremises}
 use Rattle.transfer_sound.specs.Values.SoundSteps.{IsReached}
 use Rattle.transfer_sound.proofs.memory.LoadedNumbers.{loaded_near}
@@ -75,9 +75,6 @@ use Rattle.transfer_exact.proofs.places.OneLeaf.{same_size}
 use Rattle.transfer_exact.proofs.places.OneLoad.{read_as, ReadsCell, load_reads}
 use Rattle.transfer_exact.proofs.places.OneTouch.{touching, TouchesNothing, TouchesOne, nowhere, outside, inside}
 use Rattle.transfer_exact.proofs.places.Touching.{union_violated, touching_violated, reading_violated}
-
-past_end : (a b c d : ℕ) → (nat_le a b && nat_le c d) ≡ false → a ≤ b → d < c
-past_end a b c d h k = grind (arith, nat_tests)
 
 both : (a b : Bool) → (a && not b) ≡ true → (not a || b) ≡ true → ⊥
 both true true h k = cc

@@ -3,7 +3,6 @@ use Rattle.std.proofs.Common.{◌≡◌, ℕ, zero, suc, ◌+◌, ◌-◌, ◌^�
 use Rattle.std.specs.Prelude.{ℤ, slice_get, nat_le}
 use Rattle.std.specs.List.{Contains}
 use Rattle.std.proofs.lemmas.Bool.{cases_Bool, and_parts, and_from, ltb-true, leb-true, le-leb, or_right, true≢false}
-use Rattle.std.proofs.lemmas.Bool.Decides.{nat_tests}
 use Rattle.std.proofs.lemmas.Option.{same_Some}
 use Rattle.cc_base.specs.Lattices.{LatticeOf, OrderLaws}
 use Rattle.cc_base.specs.IntegerDomains.{IntegersOf, BoundLaws, RangeLaws}
@@ -68,6 +67,7 @@ use Rattle.store_sound.proofs.operations.MachineStores.{store_goes}
 use Rattle.store_sound.proofs.operations.StoreRows.{Fits}
 use Rattle.store_sound.proofs.chars.ByteStores.{byte_of, byte_goes}
 use Rattle.store_sound.proofs.operations.LoadSound.{base_there, instance_there}
+use Rattle.store_sound.proofs.operations.TouchSound.{past_end}
 use Rattle.store_sound.specs.Programs.Premises.{HasPremises}
 use Rattle.transfer_sound.specs.Values.SoundSteps.{IsReached, InGammaAfter}
 use Rattle.transfer_sound.proofs.values.MoveSteps.{near_has}
@@ -78,9 +78,9 @@ use Rattle.transfer_sound.proofs.memory.ScalarClasses.{class_pair}
 use Rattle.transfer_sound.proofs.memory.StoreSteps.{store_sound}
 use Rattle.transfer_exact.specs.Values.ExactNumbers.{ExactLaws}
 use Rattle.transfer_exact.specs.Values.SingleRows.{ExactState, IsPlainProgram}
-use Rattle.transfer_exact.specs.Values.SingleSteps.{IsDefined, ExactAfter, IsExact, StepIsExact}
+use Rattle.transfer_exact.specs.Values.SingleSteps.{IsDefined, IsExact, StepIsExact}
 use Rattle.transfer_exact.specs.Values.SingleValues.{IsNowhere, IsIntoOne, ExactByLife, ExactPointer, ExactScalar}
-use Rattle.transfer_exact.proofs.values.Told.{stop_told, if_some_told, result_told}
+use Rattle.transfer_exact.proofs.values.Told.{stop_told, if_some_told, result_told, goes_told}
 use Rattle.transfer_exact.proofs.values.Violated.{AreViolated, none_violated, one_there, behind_there, same_violated}
 use Rattle.transfer_exact.specs.Accesses.TypedAccesses.{HasObjects, IsAtLeaf, PointsToKind, IsTyped, IsTypedStore}
 use Rattle.transfer_exact.proofs.places.HeldReads.{seen}
@@ -92,15 +92,12 @@ use Rattle.transfer_exact.proofs.places.Written.{IsWritten}
 use Rattle.transfer_exact.proofs.places.OneTouch.{touching, TouchesNothing, TouchesOne, nowhere, outside, literal, inside}
 use Rattle.transfer_exact.proofs.places.Touching.{touching_violated}
 
-literal_kind : (kind : BaseKind) → is_literal (storage_for kind) ≡ is_literal_kind kind
+pub literal_kind : (kind : BaseKind) → is_literal (storage_for kind) ≡ is_literal_kind kind
 literal_kind Static = refl
 literal_kind Automatic = refl
 literal_kind Literal = refl
 literal_kind Newest = refl
 literal_kind Older = refl
-
-past_end : (a b c d : ℕ) → (nat_le a b && nat_le c d) ≡ false → a ≤ b → d < c
-past_end a b c d h k = grind (arith, nat_tests)
 
 first_only : (x : Content) (k : ℕ) (y : Content) → slice_get (x ∷ []) k ≡ Some y → (k ≡ 0) × (x ≡ y)
 first_only x zero y e = (refl, same_Some x y e)
@@ -141,17 +138,8 @@ module _ {I : Type 0} {l : LatticeOf I} {n : IntegersOf I} {gamma : I → ℤ �
   module _ (naming : Naming) (row : List (Cell I)) (s : ProgramState) (r : IsReached l n gamma flow naming row s) (t : ExactState l n flow row (state_of s)) (told : Violations) (clean : AreViolated told s.world.violated) where
     keeps_told : (kept : Option (ℕ × ℕ)) → has_kept (names_of flow) kept ≡ true → IsDefined (keeping s kept) → IsExact l n flow (Some (move_temp l n flow kept row)) told (keeping s kept)
     unfolding move_temp
-    keeps_told None fits d = record {
-      goes_on = λ u w e.
-          let now : ProgramState = record s { at = suc s.at } in
-          let a : now ≡ u = cc in
-          let b : s.world ≡ w = cc in
-          let here : ExactAfter l n flow (Some row) (record now { world = s.world }) = record { row = row; is = refl; tells = t } in
-          subst (λ z. ExactAfter l n flow (Some row) (record z { world = w })) a
-          (subst (λ z. ExactAfter l n flow (Some row) (record now { world = z })) b here);
-      ends = λ why w e. cc;
-      violated = clean;
-    }
+    keeps_told None fits d = let now : ProgramState = record s { at = suc s.at } in
+        goes_told l n flow _ _ now s.world clean (record { row = row; is = refl; tells = t })
     keeps_told (Some k) fits d =
         let few = ltb-true k.0 flow.temps (and_parts (has_temp (names_of flow) k.0) (has_temp (names_of flow) k.1) fits).0 in
         if_some_told l n flow _ told s (s.temps k.1) _ d (λ v e d.

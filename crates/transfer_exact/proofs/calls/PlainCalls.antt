@@ -60,6 +60,7 @@ use Rattle.store_sound.specs.Concretization.Coverage.{state_of}
 use Rattle.store_sound.specs.Programs.Premises.{HasPremises}
 use Rattle.transfer_sound.specs.Values.SoundSteps.{IsReached}
 use Rattle.transfer_sound.proofs.values.NearScalars.{IsNearNumber}
+use Rattle.transfer_sound.proofs.values.BinarySteps.{met_one}
 use Rattle.struct_copies_sound.proofs.Calls.{first_argument}
 use Rattle.transfer_exact.specs.Values.SingleNumbers.{IsOne}
 use Rattle.transfer_exact.specs.Values.ExactNumbers.{ExactLaws}
@@ -67,11 +68,11 @@ use Rattle.transfer_exact.specs.Values.SingleValues.{ExactNumber, ExactScalar}
 use Rattle.transfer_exact.specs.Values.SingleRows.{ExactState}
 use Rattle.transfer_exact.specs.Values.SingleSteps.{IsDefined, IsExact, StepIsExact}
 use Rattle.transfer_exact.specs.Values.SingleLaws.{IsPlainFunction, IsPlainCall}
-use Rattle.transfer_exact.proofs.values.Faults.{met_one, met_none}
+use Rattle.transfer_exact.proofs.values.Faults.{met_none}
 use Rattle.transfer_exact.proofs.values.PutExact.{IsExactResult}
 use Rattle.transfer_exact.proofs.values.Told.{stop_told, if_some_told, result_told}
 use Rattle.transfer_exact.proofs.values.ValueSteps.{tells_number}
-use Rattle.transfer_exact.proofs.values.Violated.{AreViolated, none_violated, none_at_all, each_violated, one_there, behind_there}
+use Rattle.transfer_exact.proofs.values.Violated.{AreViolated, never, none_violated, one_there, behind_there}
 
 -- ---- the number of an unsigned character
 
@@ -108,23 +109,8 @@ saturate_is (pos k) h g = omega (arith, ints)
 saturate_is (negsuc k) h g = omega (arith, ints)
 
 character_violated : (b : Bool) (rules : List Rule) → (b ≡ true → Contains rules Chrsgnext) → AreViolated (record no_violations { chrsgnext = b }) rules
-character_violated b rules h = let e = none_at_all rules in each_violated (record no_violations { chrsgnext = b }) rules (record {
-  accfree = e.accfree;
-  chrsgnext = h;
-  dblfree = e.dblfree;
-  diverr = e.diverr;
-  insufmem = e.insufmem;
-  intoflow = e.intoflow;
-  invptr = e.invptr;
-  libptr = e.libptr;
-  nonnullcs = e.nonnullcs;
-  nullref = e.nullref;
-  ptrobj = e.ptrobj;
-  strmod = e.strmod;
-  taintsink = e.taintsink;
-  uninitref = e.uninitref;
-  xfree = e.xfree;
-})
+character_violated b rules h Chrsgnext e = h e
+character_violated b rules h r e = never e
 
 module _ {I : Type 0} {l : LatticeOf I} {n : IntegersOf I} {gamma : I → ℤ → Type 0} (q : BoundLaws l n gamma) where
   one_between : (a z : ℤ) → a ≡ z → IsOne n (between_or_least l n a a) z

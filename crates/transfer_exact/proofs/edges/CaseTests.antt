@@ -1,10 +1,8 @@
 -- Cases of a switch are told: the object that is switched on has the label's value, without labels.
-use Rattle.std.proofs.Common.{◌≡◌, ℕ, Bool, true, false, cond, Option, Some, None, List, length, arith, subst, sym, refl, ap, ◌∙◌}
+use Rattle.std.proofs.Common.{◌≡◌, ℕ, Bool, true, false, cond, Some, None, List, length, arith, subst, sym, refl, ap, ◌∙◌}
 use Rattle.std.specs.Prelude.{slice_get, ℤ, int_le, is_some}
 use Rattle.std.specs.Int.{int_max}
 use Rattle.std.proofs.lemmas.Int.{ints, clamps}
-use Rattle.std.proofs.lemmas.Bool.{true≢false}
-use Rattle.std.proofs.lemmas.Bool.Decides.{Decides-int_eq}
 use Rattle.std.proofs.lemmas.Option.{same_Some}
 use Rattle.cc_base.specs.Lattices.{LatticeOf, OrderLaws}
 use Rattle.cc_base.specs.NumberRanges.{range_met}
@@ -22,7 +20,7 @@ use Rattle.transfer_checks.specs.ViolationSets.{no_violations}
 use Rattle.memory_model.specs.Memory.Labels.{Labels, no_labels}
 use Rattle.memory_model.specs.Memory.ScalarSizes.{class_bytes}
 use Rattle.memory_model.specs.Memory.Instances.{Memory, live, life_at, bytes_of, bytes_at}
-use Rattle.memory_model.specs.Memory.Scalars.{Scalar, integer, pointer}
+use Rattle.memory_model.specs.Memory.Scalars.{integer}
 use Rattle.memory_model.specs.Effects.Accesses.{class_in}
 use Rattle.memory_model.specs.Effects.Tests.{object, side_scalar, object_relabelled, is_number, passing, pass_case}
 use Rattle.memory_model.specs.Effects.Worlds.{World, with_memory}
@@ -38,11 +36,11 @@ use Rattle.transfer_sound.specs.Tests.ScalarObjects.{IsScalarObject, IsCaseObjec
 use Rattle.transfer_sound.proofs.tests.Relabelling.{IsRelabelling, set_relabels}
 use Rattle.transfer_sound.proofs.tests.ScalarCells.{size_is}
 use Rattle.transfer_sound.proofs.tests.TestSteps.{object_has}
+use Rattle.transfer_sound.proofs.tests.CaseSteps.{case_scalar}
 use Rattle.transfer_exact.specs.Values.SingleNumbers.{IsOne}
 use Rattle.transfer_exact.specs.Values.SingleRows.{ExactState}
-use Rattle.transfer_exact.specs.Values.SingleSteps.{IsDefined, ExactAfter, IsExact}
-use Rattle.transfer_exact.proofs.values.Told.{if_some_told}
-use Rattle.transfer_exact.proofs.values.Violated.{none_violated}
+use Rattle.transfer_exact.specs.Values.SingleSteps.{IsDefined, IsExact}
+use Rattle.transfer_exact.proofs.values.Told.{if_some_told, clean_goes_told}
 use Rattle.transfer_exact.proofs.edges.RelabelledObjects.{IsNumberHeld, number_held, relabelled_tells}
 
 -- ---- numbers
@@ -62,11 +60,6 @@ module _ {I : Type 0} {l : LatticeOf I} {n : IntegersOf I} {gamma : I → ℤ �
 
   pub met_one : (x : I) (z : ℤ) → IsOne n x z → IsOne n (of_range l n (range_met (n.bounds x) z z)) z
   met_one x z e = ap (λ r. n.bounds (of_range l n (range_met r z z))) e ∙ (ap (λ r. n.bounds (of_range l n r)) (range_own z) ∙ of_own z)
-
-case_scalar : (value : ℤ) (o : Option Scalar) → is_number value o ≡ true → (la : Labels) × (o ≡ Some (integer value la))
-case_scalar value None h = absurd (true≢false (sym h))
-case_scalar value (Some (integer z la)) h = let e : z ≡ value = (Decides-int_eq z value).0 h in (la, ap (λ x. Some (integer x la)) e)
-case_scalar value (Some (pointer p)) h = absurd (true≢false (sym h))
 
 -- ---- the object
 
@@ -128,17 +121,9 @@ module _ {I : Type 0} {l : LatticeOf I} {n : IntegersOf I} {gamma : I → ℤ �
             let k = case_scalar value (side_scalar flow.model memory (object i (of.Int kind))) e in
             let some : is_some (n.bounds x) ≡ true = ap is_some (one k.0 k.1) in
             let is : refine_case l n flow b value row ≡ Some case_row = ap (λ z. refine_case_at l n (position_of z) value row) t.is ∙ ap (λ z. cond z (Some case_row) None) some in
-            record {
-              goes_on = λ y u f.
-                  let new : World = with_memory s.world after in
-                  let now : ProgramState = record s { world = new } in
-                  let a : now ≡ y = cc in
-                  let g : new ≡ u = cc in
-                  let there : ExactAfter l n flow (refine_case l n flow b value row) (record now { world = new }) = record { row = case_row; is = is; tells = case_tells k.0 k.1 } in
-                  subst (λ z. ExactAfter l n flow (refine_case l n flow b value row) (record z { world = u })) a (subst (λ z. ExactAfter l n flow (refine_case l n flow b value row) (record now { world = z })) g there);
-              ends = λ why u f. cc;
-              violated = none_violated s.world.violated;
-            }
+            let new : World = with_memory s.world after in
+            let now : ProgramState = record s { world = new } in
+            clean_goes_told l n flow _ now new (record { row = case_row; is = is; tells = case_tells k.0 k.1 })
 
   -- a case looks at the size and the sign of the type alone
   same_case : (i : ℕ) (value : ℤ) (w : World) (a k : IntType) → a.bytes ≡ k.bytes → a.signed ≡ k.signed → pass_case flow.model i a value w ≡ pass_case flow.model i k value w

@@ -1,7 +1,6 @@
 -- Jumps, branches and switches are told, where tests and cases are.
 use Rattle.std.proofs.Common.{◌≡◌, ℕ, Bool, true, false, not, ◌||◌, Option, Some, None, List, [], ◌∷◌, length, take, drop, arith, subst, sym, refl, ap, ap₂, ◌∙◌, inl, inr}
-use Rattle.std.specs.Prelude.{ℤ, pos, slice_get, nat_lt}
-use Rattle.std.specs.List.{list_all}
+use Rattle.std.specs.Prelude.{ℤ, pos, slice_get}
 use Rattle.std.specs.Ordering.{int_eq}
 use Rattle.std.proofs.lemmas.Int.{ints}
 use Rattle.std.proofs.lemmas.Bool.{cases_Bool, and_parts, ltb-true, true≢false}
@@ -9,7 +8,7 @@ use Rattle.cc_base.specs.Lattices.{LatticeOf}
 use Rattle.cc_base.specs.IntegerDomains.{IntegersOf, BoundLaws}
 use Rattle.cc_base.specs.IntegerLaws.{SoundLaws}
 use Rattle.cc_base.specs.declared.limit_table.Limits.{Limits}
-use Rattle.cfg.specs.WellFormed.{names_of, On, Once, TwoWays, ByCases, leads, are_led, are_blocks, fits_edge, fits_taken, has_temp, is_number, fits_test, is_well_formed}
+use Rattle.cfg.specs.WellFormed.{names_of, On, Once, TwoWays, ByCases, leads, are_led, fits_edge, fits_taken, has_temp, is_number, fits_test, is_well_formed}
 use Rattle.cfg.specs.declared.flow_edges.CaseTest.{CaseTest}
 use Rattle.cfg.specs.declared.flow_edges.Edge.{Edge}
 use Rattle.cfg.specs.declared.flow_edges.EdgeKind.{EdgeKind}
@@ -39,12 +38,10 @@ use Rattle.semantics.specs.CfgMachine.FlowSteps.{block_of, on_edge, switching, a
 use Rattle.store_sound.specs.Concretization.ValueMeaning.{Naming}
 use Rattle.store_sound.specs.Concretization.Coverage.{state_of}
 use Rattle.store_sound.specs.Programs.Premises.{HasPremises}
-use Rattle.store_sound.proofs.programs.ShapedBases.{all_at}
 use Rattle.transfer_sound.specs.Values.SoundSteps.{IsReached, InGammaAfter, IsStoodFor}
-use Rattle.transfer_sound.proofs.values.Admitted.{none_admitted, same_admitted}
 use Rattle.transfer_sound.proofs.induction.Blocks.{IsBlock, block_facts}
-use Rattle.transfer_sound.specs.Edges.EdgeSteps.{TestIsSound, KindIsSound, TestsAreSound}
-use Rattle.transfer_sound.proofs.edges.EdgeSteps.{is_near}
+use Rattle.transfer_sound.specs.Edges.EdgeSteps.{KindIsSound, TestsAreSound}
+use Rattle.transfer_sound.proofs.edges.EdgeSteps.{is_near, edge_fits, test_good}
 use Rattle.transfer_sound.proofs.edges.TakenEdges.{FitsLead, body_led, HasLast, has_last, IsTakenEdge, taken_edge}
 use Rattle.transfer_exact.specs.Values.ExactNumbers.{truth_of, ExactLaws}
 use Rattle.transfer_exact.specs.Values.SingleRows.{ExactState}
@@ -52,6 +49,7 @@ use Rattle.transfer_exact.specs.Values.SingleSteps.{IsDefined, ExactAfter, IsExa
 use Rattle.transfer_exact.proofs.values.PutExact.{put_tells}
 use Rattle.transfer_exact.proofs.values.ValueSteps.{tells_number, truth_told}
 use Rattle.transfer_exact.proofs.values.Violated.{none_violated}
+use Rattle.transfer_exact.proofs.values.Told.{clean_goes_told}
 use Rattle.transfer_exact.specs.Edges.WayLaws.{WaysAreApart, FitsWay, IsWay, TestIsExact, CaseIsExact, KindIsExact, TestsAreExact, EdgeExact, EdgeIsExact}
 
 -- ---- which edges are taken
@@ -139,15 +137,7 @@ module _ {I : Type 0} {l : LatticeOf I} {n : IntegersOf I} {gamma : I → ℤ �
       }
 
   kept_told : (kept : Option (ℕ × ℤ)) → fits_taken (names_of flow) kept ≡ true → (after : Option (List (Cell I))) (reply : Reply ProgramState) → IsStoodFor l n gamma flow after no_violations reply → IsExact l n flow after no_violations reply → IsExact l n flow (kept_behind l n flow kept after) no_violations (behind reply (λ t w. goes (with_put kept t) w))
-  kept_told kept fits after (goes t w) st h = record {
-    goes_on = λ s u e.
-        let a : with_put kept t ≡ s = cc in
-        let b : w ≡ u = cc in
-        subst (λ z. ExactAfter l n flow (kept_behind l n flow kept after) (record z { world = u })) a
-        (subst (λ z. ExactAfter l n flow (kept_behind l n flow kept after) (record (with_put kept t) { world = z })) b (put_behind kept fits after t w (st.goes_on t w refl) (h.goes_on t w refl)));
-    ends = λ why u e. cc;
-    violated = none_violated w.violated;
-  }
+  kept_told kept fits after (goes t w) st h = clean_goes_told l n flow _ (with_put kept t) w (put_behind kept fits after t w (st.goes_on t w refl) (h.goes_on t w refl))
   kept_told kept fits after (stops why w) st h = record {
     goes_on = λ s u e. cc;
     ends = λ y u e. ap (kept_behind l n flow kept) (h.ends why w refl);
@@ -156,32 +146,9 @@ module _ {I : Type 0} {l : LatticeOf I} {n : IntegersOf I} {gamma : I → ℤ �
 
   module _ (naming : Naming) (row : List (Cell I)) (s : ProgramState) (r : IsReached l n gamma flow naming row s) (t : ExactState l n flow row (state_of s)) where
     here_told : IsExact l n flow (Some row) no_violations (goes s s.world)
-    here_told = record {
-      goes_on = λ y u e.
-          let a : s ≡ y = cc in
-          let b : s.world ≡ u = cc in
-          let here : ExactAfter l n flow (Some row) (record s { world = s.world }) = record { row = row; is = refl; tells = t } in
-          subst (λ z. ExactAfter l n flow (Some row) (record z { world = u })) a (subst (λ z. ExactAfter l n flow (Some row) (record s { world = z })) b here);
-      ends = λ why u e. cc;
-      violated = none_violated s.world.violated;
-    }
-
-    here_good : IsStoodFor l n gamma flow (Some row) no_violations (goes s s.world)
-    here_good = record {
-      goes_on = λ t u e.
-          let a : s ≡ t = cc in
-          let b : s.world ≡ u = cc in
-          let here : InGammaAfter l n gamma flow (Some row) (record s { world = s.world }) = record { row = row; is = refl; long = r.long; naming = naming; stands_for = r.stands_for; short = r.short } in
-          subst (λ z. InGammaAfter l n gamma flow (Some row) (record z { world = u })) a (subst (λ z. InGammaAfter l n gamma flow (Some row) (record s { world = z })) b here);
-      admits = same_admitted no_violations s.world.violated [] r.begun (none_admitted no_violations);
-    }
+    here_told = clean_goes_told l n flow _ s s.world (record { row = row; is = refl; tells = t })
 
     -- ---- branches
-
-    test_good : (test : Option Test) → TestIsSound l n gamma flow test → IsStoodFor l n gamma flow (refine_if l n flow test row) no_violations (testing f s test)
-    unfolding refine_if
-    test_good None h = here_good
-    test_good (Some test) h = h naming row s r
 
     test_told : (test : Option Test) → TestIsExact l n gamma flow test → IsDefined (testing f s test) → IsExact l n flow (refine_if l n flow test row) no_violations (testing f s test)
     unfolding refine_if
@@ -196,7 +163,7 @@ module _ {I : Type 0} {l : LatticeOf I} {n : IntegersOf I} {gamma : I → ℤ �
     branch_way from u v e d scalar (kind.When truth test kept) fit sound told fits taken def =
         let a = and_parts (fits_test (names_of flow) test) (fits_taken (names_of flow) kept) fits in
         let can = can_is from u v e d truth ∙ taken in
-        rw can (kept_told kept a.1 (refine_if l n flow test row) (testing f s test) (test_good test sound) (test_told test told (defined_first (testing f s test) _ def)))
+        rw can (kept_told kept a.1 (refine_if l n flow test row) (testing f s test) (test_good q c flow p naming row s r test sound) (test_told test told (defined_first (testing f s test) _ def)))
     branch_way from u v e d scalar kind.Jump fit sound told fits taken def = absurd fit
     branch_way from u v e d scalar (kind.Case test) fit sound told fits taken def = absurd fit
     branch_way from u v e d scalar (kind.Other values) fit sound told fits taken def = absurd fit
@@ -267,13 +234,6 @@ module _ {I : Type 0} {l : LatticeOf I} {n : IntegersOf I} {gamma : I → ℤ �
       facts : IsBlock flow s.block holder.holder
       facts = block_facts flow limits good s.block holder.holder holder.block_is
 
-      edge_fits : (number : ℕ) (e : Edge) → slice_get flow.edges.items number ≡ Some e → fits_edge (names_of flow) e.kind ≡ true
-      edge_fits number e at =
-          let a = and_parts (nat_lt 0 (length flow.blocks.items)) _ good in
-          let b = and_parts (are_blocks (names_of flow) (length flow.blocks.items) flow.edges.items 0 0 flow.blocks.items flow.edges.items) _ a.1 in
-          let d = and_parts (list_all (λ (e : Edge). fits_edge (names_of flow) e.kind) flow.edges.items) _ b.1 in
-          all_at (λ (z : Edge). fits_edge (names_of flow) z.kind) flow.edges.items number e d.0 at
-
       decides : (o : Operation) → i.operation ≡ o → (b : ℕ) → b ≡ s.block → deciding_temp flow b ≡ deciding_of (Some (record i { operation = o }))
       decides o same b e = ap (deciding_temp flow) e ∙ (ap deciding_of last ∙ ap (λ z. deciding_of (Some (record i { operation = z }))) same)
 
@@ -327,7 +287,7 @@ module _ {I : Type 0} {l : LatticeOf I} {n : IntegersOf I} {gamma : I → ℤ �
           by_temp None e y w g = let h : stuck_at s ≡ goes y w = ap (λ z. if_some s z (on_edge f s)) (sym e) ∙ g in cc
           by_temp (Some v) e y w g =
               edge_tells (op.Branch u scalar) same (λ z. cc) (lead_branch u scalar) v
-              (λ number it at from fit taken def. branch_way it.from u v e (decides (op.Branch u scalar) same it.from from) scalar it.kind fit (sound number it at) (tests number it at) (edge_fits number it at) taken def)
+              (λ number it at from fit taken def. branch_way it.from u v e (decides (op.Branch u scalar) same it.from from) scalar it.kind fit (sound number it at) (tests number it at) (edge_fits limits flow good number it at) taken def)
               (λ it from fit taken. branch_off it.from u v e (decides (op.Branch u scalar) same it.from from) scalar it.kind fit taken)
               (subst (λ z. IsDefined (if_some s z (on_edge f s))) e d) y w (ap (λ z. if_some s z (on_edge f s)) (sym e) ∙ g)
 

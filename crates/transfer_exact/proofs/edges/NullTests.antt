@@ -1,19 +1,16 @@
 -- Tests of a pointer object against a null constant are told: the cell of the object tells the pointer that is there.
-use Rattle.std.proofs.Common.{◌≡◌, ℕ, zero, suc, ◌+◌, ◌-◌, ◌*◌, ◌<◌, ◌≤◌, ◌^◌, Bool, true, false, cond, Option, Some, None, List, [], ◌∷◌, length, take, arith, subst, sym, refl, ap, ◌∙◌, inl, inr}
+use Rattle.std.proofs.Common.{◌≡◌, ℕ, zero, suc, ◌-◌, ◌<◌, Bool, true, false, cond, Option, Some, None, List, [], ◌∷◌, take, arith, subst, sym, refl, ap, ◌∙◌, inl, inr}
 use Rattle.std.specs.Prelude.{slice_get, ℤ, pos, ◌-ℤ◌}
-use Rattle.std.specs.Option.{unwrap_or}
 use Rattle.std.proofs.lemmas.Int.{ints}
 use Rattle.std.proofs.lemmas.Bool.{cases_Bool, true≢false}
 use Rattle.std.proofs.lemmas.Option.{same_Some}
 use Rattle.cc_base.specs.Lattices.{LatticeOf}
 use Rattle.cc_base.specs.NumberRanges.{Range}
 use Rattle.cc_base.specs.IntegerDomains.{IntegersOf, BoundLaws, IsNear}
-use Rattle.cc_base.specs.IntegerTypes.{is_size}
 use Rattle.cc_base.specs.declared.integer_operators.Rel.{Rel}
 use Rattle.cc_base.specs.declared.integer_operators.Rel.TheVariants.{Lt, Le, Gt, Ge, Eq, Ne}
 use Rattle.c_layout.specs.declared.leaf_lists.Class.TheVariants.{Pointer}
 use Rattle.c_layout.specs.declared.leaf_lists.Leaf.{Leaf}
-use Rattle.cfg.specs.WellFormed.{base_values}
 use Rattle.cfg.specs.declared.flow_edges.Side.TheVariants as side
 use Rattle.cfg.specs.declared.flow_edges.Test.{Test}
 use Rattle.cfg.specs.declared.machine_instructions.Scalar.TheVariants as of
@@ -21,7 +18,7 @@ use Rattle.cfg.specs.declared.programs.Flow.{Flow}
 use Rattle.pointer_domain.specs.declared.pointer_sets.Pointers.{Pointers}
 use Rattle.value_domain.specs.declared.values.values.Value as values
 use Rattle.value_domain.specs.declared.values.row_cells.Cell.{Cell}
-use Rattle.value_domain.specs.declared.values.row_cells.Cell.TheVariants.{Nothing, Value}
+use Rattle.value_domain.specs.declared.values.row_cells.Cell.TheVariants.{Value}
 use Rattle.store_cells.specs.NearValues.{is_near, near_part, part_near, near_number, near_pointer, near_value}
 use Rattle.store_cells.specs.RowPositions.{leaf_position, cell_at, value_in, value_at, put_value}
 use Rattle.transfer_edges.specs.Refinements.{position_of, named_by, not_null, tested_pointer, tested_value, refine_pointer_at, refine_pointer, refine_named, refine_in, refine}
@@ -43,28 +40,21 @@ use Rattle.store_sound.specs.Concretization.Coverage.{state_of}
 use Rattle.store_sound.specs.Concretization.Places.{IsPlaceOf}
 use Rattle.store_sound.specs.Concretization.ValueMeaning.{Naming}
 use Rattle.store_sound.proofs.operations.CellReads.{scalar_pointer_is}
-use Rattle.store_sound.proofs.operations.Classes.{class_size}
-use Rattle.store_sound.proofs.operations.Only.{cell_put}
-use Rattle.store_sound.proofs.operations.Slices.{get_set_other}
-use Rattle.store_sound.proofs.operations.StoreRows.{leaf_is}
+use Rattle.store_sound.proofs.operations.Classes.{class_size, size_above}
 use Rattle.store_sound.specs.Programs.Premises.{HasPremises}
 use Rattle.transfer_sound.specs.Values.SoundSteps.{IsReached}
 use Rattle.transfer_sound.proofs.values.NearScalars.{IsNearNumber}
 use Rattle.transfer_sound.specs.Tests.ScalarObjects.{IsScalarObject, IsNullTest}
+use Rattle.transfer_sound.proofs.tests.ScalarRows.{leaf_there, only_leaf, place_here, place_zero, outside, own_value}
 use Rattle.transfer_exact.specs.Values.SingleNumbers.{IsOne}
 use Rattle.transfer_exact.specs.Values.SingleValues.{IsNowhere, ExactByLife, ExactPointer, ExactHeld}
 use Rattle.transfer_exact.specs.Values.SingleRows.{HoldsPointing, HoldsScalar, ExactLeaf, ExactState}
-use Rattle.transfer_exact.specs.Values.SingleSteps.{IsDefined, ExactAfter, IsExact}
+use Rattle.transfer_exact.specs.Values.SingleSteps.{IsDefined, IsExact}
 use Rattle.transfer_exact.proofs.values.NearExact.{near_one, near_none}
-use Rattle.transfer_exact.proofs.values.Told.{if_some_told}
-use Rattle.transfer_exact.proofs.values.Violated.{none_violated}
+use Rattle.transfer_exact.proofs.values.Told.{if_some_told, clean_goes_told}
 use Rattle.transfer_exact.proofs.accesses.Moves.{change_tells}
 
 -- ---- the pointer that is read is that of the first byte
-
-size_above : (n : ℕ) → is_size n ≡ true → 0 < n
-size_above zero h = cc
-size_above (suc n) h = omega arith
 
 cond_gives : {A : Type 0} (b : Bool) (x y : A) → cond b (Some x) None ≡ Some y → x ≡ y
 cond_gives true x y h = same_Some x y h
@@ -159,47 +149,6 @@ module _ {I : Type 0} {l : LatticeOf I} {n : IntegersOf I} {gamma : I → ℤ �
   abbrev after : List (Cell I)
   after = put_value row place (tested_value l v rel)
 
-  fits : t.info.first + base_values t.info ≤ 2 ^ 64 - 1
-  fits = let k = p.laid.laid.close b t.info t.is in let small = p.laid.laid.small in omega (arith, k, small)
-
-  one_cell : length t.info.shape.cells ≡ 1
-  one_cell = ap length t.cells
-
-  place_is : place ≡ t.info.first + 0
-  place_is = let c = one_cell in leaf_is t.info 0 fits (omega (arith, c))
-
-  keeps : (x : ℕ) → (x ≡ place → ⊥) → cell_at after x ≡ cell_at row x
-  keeps x ne = ap (λ z. unwrap_or z Nothing) (get_set_other row place x (Value (tested_value l v rel)) ne)
-
-  outside : (x : ℕ) → (t.info.first ≤ x → x < t.info.first + base_values t.info → ⊥) → cell_at after x ≡ cell_at row x
-  outside x h = keeps x (λ e. let c = one_cell in let d = place_is in h (omega (arith, e, d)) (omega (arith, e, d, c)))
-
-  own_value : value_at l n after place ≡ near_value l n (tested_value l v rel)
-  unfolding value_at
-  own_value =
-      let k = p.laid.laid.close b t.info t.is in
-      let far = p.laid.long in
-      let c = one_cell in
-      let d = place_is in
-      let long = r.long in
-      ap (λ z. near_value l n (value_in l z)) (cell_put row place (Value (tested_value l v rel)) (omega (arith, k, far, long, c, d)))
-
-  leaf_there : slice_get t.info.shape.cells 0 ≡ Some t.leaf
-  leaf_there = ap (λ z. slice_get z 0) t.cells
-
-  place_here : IsPlaceOf t.leaf 0
-  place_here = record { turn = 0; few = let k = t.count in omega (arith, k); there = let k = t.offset in omega (arith, k) }
-
-  place_zero : (o : ℕ) → IsPlaceOf t.leaf o → o ≡ 0
-  place_zero o h =
-      let a = t.offset in
-      let c = t.count in
-      let few = h.few in
-      let first : h.turn ≡ 0 = omega (arith, c, few) in
-      let none : t.leaf.stride * h.turn ≡ t.leaf.stride * 0 = ap (λ z. t.leaf.stride * z) first in
-      let there = h.there in
-      omega (arith, a, none, there)
-
   module _ (x : MachinePointer) (scalar : side_scalar flow.model memory (object i of.Pointer) ≡ Some (pointer x)) (hold : pointers_hold rel x null ≡ true) where
     abbrev cs : List Content
     cs = contents (object_bytes flow.model memory i of.Pointer)
@@ -227,29 +176,22 @@ module _ {I : Type 0} {l : LatticeOf I} {n : IntegersOf I} {gamma : I → ℤ �
     own_leaf : ExactLeaf l n flow (state_of s) (value_at l n after place) i 0 t.leaf
     unfolding value_at
     own_leaf =
-        let was = st.leaves b 0 i 0 t.info t.leaf t.is leaf_there en place_here in
+        let was = st.leaves b 0 i 0 t.info t.leaf t.is (leaf_there t) en (place_here t) in
         record {
           held = was.held;
           holds = was.holds;
-          tells = subst (λ z. ExactHeld n s.bases memory z was.held) (sym own_value)
+          tells = subst (λ z. ExactHeld n s.bases memory z was.held) (sym (own_value p t row (tested_value l v rel) l n r.long))
               (held_tells q s.bases memory (value_in l (cell_at row place)) rel was.held (λ y e. subst (λ z. pointers_hold rel z null ≡ true) (sym (is_read y (subst (HoldsScalar flow memory i 0 t.leaf) e was.holds))) hold) was.tells);
         }
 
     own : (j : ℕ) (leaf : Leaf) (o : ℕ) → slice_get t.info.shape.cells j ≡ Some leaf → IsPlaceOf leaf o → ExactLeaf l n flow (state_of s) (value_at l n after (leaf_position t.info j)) i o leaf
-    own j leaf o e there = by_index j (sym (ap (λ z. slice_get z j) t.cells) ∙ e)
-      where
-        by_index : (j : ℕ) → slice_get (t.leaf ∷ []) j ≡ Some leaf → ExactLeaf l n flow (state_of s) (value_at l n after (leaf_position t.info j)) i o leaf
-        by_index zero f =
-            let same : t.leaf ≡ leaf = same_Some t.leaf leaf f in
-            let begins : 0 ≡ o = sym (place_zero o (subst (λ z. IsPlaceOf z o) (sym same) there)) in
-            subst (λ z. ExactLeaf l n flow (state_of s) (value_at l n after place) i z leaf) begins (subst (ExactLeaf l n flow (state_of s) (value_at l n after place) i 0) same own_leaf)
-        by_index (suc j) f = cc
+    own j leaf o e = only_leaf t (λ j leaf. IsPlaceOf leaf o → ExactLeaf l n flow (state_of s) (value_at l n after (leaf_position t.info j)) i o leaf) (λ there. subst (λ z. ExactLeaf l n flow (state_of s) (value_at l n after place) i z t.leaf) (sym (place_zero t o there)) own_leaf) j leaf e
 
     refined_tells : ExactState l n flow after (state_of s)
     refined_tells = change_tells l n flow p row after (state_of s) memory b i t.info t.is en st (record {
       lives = λ j. refl;
       others = λ j o ne. refl;
-      outside = outside;
+      outside = outside p t row (tested_value l v rel);
       apart = λ d j e ne f. ne (same_Some d b (sym (r.stands_for.lives.named d j e) ∙ (ap naming f ∙ r.stands_for.lives.named b i en)));
     }) own
 
@@ -272,17 +214,9 @@ module _ {I : Type 0} {l : LatticeOf I} {n : IntegersOf I} {gamma : I → ℤ �
   null_told goal is false e d = absurd (d (with_memory s.world memory) refl)
   null_told goal is true e d =
       let k = is_held (side_scalar flow.model memory (object i of.Pointer)) e in
-      record {
-        goes_on = λ y u f.
-            let new : World = with_memory s.world memory in
-            let now : ProgramState = record s { world = new } in
-            let a : now ≡ y = cc in
-            let g : new ≡ u = cc in
-            let there : ExactAfter l n flow goal (record now { world = new }) = record { row = after; is = is; tells = refined_tells k.at k.is k.hold } in
-            subst (λ z. ExactAfter l n flow goal (record z { world = u })) a (subst (λ z. ExactAfter l n flow goal (record now { world = z })) g there);
-        ends = λ why u f. cc;
-        violated = none_violated s.world.violated;
-      }
+      let new : World = with_memory s.world memory in
+      let now : ProgramState = record s { world = new } in
+      clean_goes_told l n flow _ now new (record { row = after; is = is; tells = refined_tells k.at k.is k.hold })
 
 module _ {I : Type 0} {l : LatticeOf I} {n : IntegersOf I} {gamma : I → ℤ → Type 0} (q : BoundLaws l n gamma) (flow : Flow) (p : HasPremises flow) (naming : Naming) (row : List (Cell I)) (s : ProgramState) (r : IsReached l n gamma flow naming row s) (st : ExactState l n flow row (state_of s)) where
   pub null_test_told : (test : Test) → IsNullTest flow test → IsDefined (testing (flow_view flow) s (Some test)) → IsExact l n flow (refine l n flow test row) no_violations (testing (flow_view flow) s (Some test))

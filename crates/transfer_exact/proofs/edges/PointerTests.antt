@@ -19,9 +19,8 @@ use Rattle.lower_templates.specs.Views.ProgramViews.{flow_view}
 use Rattle.store_sound.specs.Concretization.Coverage.{state_of}
 use Rattle.transfer_sound.specs.Tests.ScalarObjects.{IsPointerTest}
 use Rattle.transfer_exact.specs.Values.SingleRows.{ExactState}
-use Rattle.transfer_exact.specs.Values.SingleSteps.{IsDefined, ExactAfter, IsExact}
-use Rattle.transfer_exact.proofs.values.Told.{if_some_told}
-use Rattle.transfer_exact.proofs.values.Violated.{none_violated}
+use Rattle.transfer_exact.specs.Values.SingleSteps.{IsDefined, IsExact}
+use Rattle.transfer_exact.proofs.values.Told.{if_some_told, clean_goes_told}
 
 module _ {I : Type 0} (l : LatticeOf I) (n : IntegersOf I) (flow : Flow) (row : List (Cell I)) (s : ProgramState) (t : ExactState l n flow row (state_of s)) where
   any_side_told : (after : Option (List (Cell I))) (x : Side) (use_it : TestedSide → Reply ProgramState) → IsDefined (with_side s x use_it) → ((ts : TestedSide) → IsDefined (use_it ts) → IsExact l n flow after no_violations (use_it ts)) → IsExact l n flow after no_violations (with_side s x use_it)
@@ -31,17 +30,9 @@ module _ {I : Type 0} (l : LatticeOf I) (n : IntegersOf I) (flow : Flow) (row : 
 
   stays_told : (after : Option (List (Cell I))) → after ≡ Some row → (c : Bool) → IsDefined (in_world s (passing c (with_memory s.world s.world.memory))) → IsExact l n flow after no_violations (in_world s (passing c (with_memory s.world s.world.memory)))
   stays_told after is false d = absurd (d (with_memory s.world s.world.memory) refl)
-  stays_told after is true d = record {
-    goes_on = λ u w f.
-        let new : World = with_memory s.world s.world.memory in
-        let now : ProgramState = record s { world = new } in
-        let a : now ≡ u = cc in
-        let e : new ≡ w = cc in
-        let there : ExactAfter l n flow after (record now { world = new }) = record { row = row; is = is; tells = t } in
-        subst (λ z. ExactAfter l n flow after (record z { world = w })) a (subst (λ z. ExactAfter l n flow after (record now { world = z })) e there);
-    ends = λ why w f. cc;
-    violated = none_violated s.world.violated;
-  }
+  stays_told after is true d = let new : World = with_memory s.world s.world.memory in
+      let now : ProgramState = record s { world = new } in
+      clean_goes_told l n flow _ now new (record { row = row; is = is; tells = t })
 
   -- the run goes on where the test in a common type, or in none, agrees with memory
   abbrev asked : Test → Option IntType → Reply ProgramState

@@ -1,7 +1,6 @@
 -- A row tells the state where the number of one object is told anew and its bytes get other labels.
-use Rattle.std.proofs.Common.{◌≡◌, ℕ, zero, suc, ◌+◌, ◌-◌, ◌*◌, ◌<◌, ◌≤◌, ◌^◌, Option, Some, None, List, [], ◌∷◌, map, length, arith, subst, sym, ap, ap₂, ◌∙◌}
+use Rattle.std.proofs.Common.{◌≡◌, ℕ, ◌+◌, ◌-◌, Option, Some, None, List, map, length, arith, subst, sym, ap, ap₂, ◌∙◌}
 use Rattle.std.specs.Prelude.{slice_get, ℤ}
-use Rattle.std.specs.Option.{unwrap_or}
 use Rattle.std.proofs.lemmas.Int.{ints}
 use Rattle.std.proofs.lemmas.List.{length-map}
 use Rattle.std.proofs.lemmas.Option.{same_Some, slice_get_within}
@@ -9,12 +8,11 @@ use Rattle.cc_base.specs.Lattices.{LatticeOf}
 use Rattle.cc_base.specs.IntegerDomains.{IntegersOf, BoundLaws}
 use Rattle.c_layout.specs.declared.leaf_lists.Class.{Class}
 use Rattle.c_layout.specs.declared.leaf_lists.Leaf.{Leaf}
-use Rattle.cfg.specs.WellFormed.{base_values}
 use Rattle.cfg.specs.declared.programs.Flow.{Flow}
 use Rattle.value_domain.specs.declared.values.label_sets.Labels as sets
 use Rattle.value_domain.specs.declared.values.values.Value as values
 use Rattle.value_domain.specs.declared.values.row_cells.Cell.{Cell}
-use Rattle.value_domain.specs.declared.values.row_cells.Cell.TheVariants.{Nothing, Value}
+use Rattle.value_domain.specs.declared.values.row_cells.Cell.TheVariants.{Value}
 use Rattle.domain_theorems.proofs.values.Numbers.{RangeHas, bounds_have}
 use Rattle.store_cells.specs.NearValues.{near_value}
 use Rattle.store_cells.specs.RowPositions.{leaf_position, cell_at, value_in, value_at, put_value}
@@ -29,13 +27,12 @@ use Rattle.store_sound.specs.Concretization.Places.{IsPlaceOf}
 use Rattle.store_sound.specs.Concretization.RowMeaning.{MachineState}
 use Rattle.store_sound.specs.Concretization.SeenLabels.{as_set}
 use Rattle.store_sound.specs.Concretization.ValueMeaning.{Naming}
-use Rattle.store_sound.proofs.operations.Only.{cell_put}
-use Rattle.store_sound.proofs.operations.Slices.{get_there, get_map, get_set_other}
-use Rattle.store_sound.proofs.operations.StoreRows.{leaf_is}
+use Rattle.store_sound.proofs.operations.Slices.{get_there, get_map}
 use Rattle.store_sound.specs.Programs.Premises.{HasPremises}
 use Rattle.transfer_sound.specs.Tests.ScalarObjects.{IsScalarObject}
 use Rattle.transfer_sound.proofs.tests.Relabelling.{IsRelabelling}
 use Rattle.transfer_sound.proofs.tests.ScalarCells.{same_numbers}
+use Rattle.transfer_sound.proofs.tests.ScalarRows.{leaf_there, only_leaf, place_here, place_zero, outside, own_value}
 use Rattle.transfer_exact.specs.Values.SingleNumbers.{IsOne}
 use Rattle.transfer_exact.specs.Values.SingleValues.{ExactNumber, ExactHeld, ExactScalar}
 use Rattle.transfer_exact.specs.Values.SingleRows.{HoldsNumber, HoldsScalar, ExactLeaf, ExactState}
@@ -93,31 +90,6 @@ module _ {I : Type 0} {l : LatticeOf I} {n : IntegersOf I} {gamma : I → ℤ �
   abbrev v : values.Value I
   v = value_at l n row place
 
-  fits : t.info.first + base_values t.info ≤ 2 ^ 64 - 1
-  fits = let k = p.laid.laid.close b t.info t.is in let small = p.laid.laid.small in omega (arith, k, small)
-
-  one_cell : length t.info.shape.cells ≡ 1
-  one_cell = ap length t.cells
-
-  place_is : place ≡ t.info.first + 0
-  place_is = let c = one_cell in leaf_is t.info 0 fits (omega (arith, c))
-
-  leaf_there : slice_get t.info.shape.cells 0 ≡ Some t.leaf
-  leaf_there = ap (λ z. slice_get z 0) t.cells
-
-  place_here : IsPlaceOf t.leaf 0
-  place_here = record { turn = 0; few = let k = t.count in omega (arith, k); there = let k = t.offset in omega (arith, k) }
-
-  place_zero : (o : ℕ) → IsPlaceOf t.leaf o → o ≡ 0
-  place_zero o h =
-      let a = t.offset in
-      let c = t.count in
-      let few = h.few in
-      let first : h.turn ≡ 0 = omega (arith, c, few) in
-      let none : t.leaf.stride * h.turn ≡ t.leaf.stride * 0 = ap (λ z. t.leaf.stride * z) first in
-      let there = h.there in
-      omega (arith, a, none, there)
-
   -- the number in the object, and its labels
   pub record IsNumberHeld (a : ℤ) : Type 0 where
     pub la : Labels
@@ -125,7 +97,7 @@ module _ {I : Type 0} {l : LatticeOf I} {n : IntegersOf I} {gamma : I → ℤ �
     pub tells : ExactNumber n state.entered state.memory v a la
 
   pub number_held : (a : ℤ) → gamma v.num a → IsNumberHeld a
-  number_held a h = let was = st.leaves b 0 i 0 t.info t.leaf t.is leaf_there en place_here in by_held was.held was.holds was.tells
+  number_held a h = let was = st.leaves b 0 i 0 t.info t.leaf t.is (leaf_there t) en (place_here t) in by_held was.held was.holds was.tells
     where
       has : RangeHas (n.bounds v.num) a
       has = bounds_have q v.num a h
@@ -154,21 +126,6 @@ module _ {I : Type 0} {l : LatticeOf I} {n : IntegersOf I} {gamma : I → ℤ �
     abbrev behind : MachineState
     behind = record { memory = new; temps = state.temps; entered = state.entered }
 
-    keeps : (x : ℕ) → (x ≡ place → ⊥) → cell_at after x ≡ cell_at row x
-    keeps x ne = ap (λ z. unwrap_or z Nothing) (get_set_other row place x (Value changed) ne)
-
-    outside : (x : ℕ) → (t.info.first ≤ x → x < t.info.first + base_values t.info → ⊥) → cell_at after x ≡ cell_at row x
-    outside x h = keeps x (λ e. let c = one_cell in let d = place_is in h (omega (arith, e, d)) (omega (arith, e, d, c)))
-
-    own_value : value_at l n after place ≡ near_value l n changed
-    unfolding value_at
-    own_value =
-        let k = p.laid.laid.close b t.info t.is in
-        let far = p.laid.long in
-        let c = one_cell in
-        let d = place_is in
-        ap (λ z. near_value l n (value_in l z)) (cell_put row place (Value changed) (omega (arith, k, far, long, c, d)))
-
     changed_tells : ExactScalar n state.entered new (near_value l n changed) (integer a (g held.la))
     unfolding value_at
     changed_tells = record {
@@ -182,23 +139,16 @@ module _ {I : Type 0} {l : LatticeOf I} {n : IntegersOf I} {gamma : I → ℤ �
     own_leaf = record {
       held = Some (integer a (g held.la));
       holds = holds_relabels w flow 0 t.leaf a held.la held.holds;
-      tells = subst (λ z. ExactScalar n state.entered new z (integer a (g held.la))) (sym own_value) changed_tells;
+      tells = subst (λ z. ExactScalar n state.entered new z (integer a (g held.la))) (sym (own_value p t row changed l n long)) changed_tells;
     }
 
     own : (j : ℕ) (leaf : Leaf) (o : ℕ) → slice_get t.info.shape.cells j ≡ Some leaf → IsPlaceOf leaf o → ExactLeaf l n flow behind (value_at l n after (leaf_position t.info j)) i o leaf
-    own j leaf o e there = by_index j (sym (ap (λ z. slice_get z j) t.cells) ∙ e)
-      where
-        by_index : (j : ℕ) → slice_get (t.leaf ∷ []) j ≡ Some leaf → ExactLeaf l n flow behind (value_at l n after (leaf_position t.info j)) i o leaf
-        by_index zero f =
-            let same : t.leaf ≡ leaf = same_Some t.leaf leaf f in
-            let begins : 0 ≡ o = sym (place_zero o (subst (λ z. IsPlaceOf z o) (sym same) there)) in
-            subst (λ z. ExactLeaf l n flow behind (value_at l n after place) i z leaf) begins (subst (ExactLeaf l n flow behind (value_at l n after place) i 0) same own_leaf)
-        by_index (suc j) f = cc
+    own j leaf o e = only_leaf t (λ j leaf. IsPlaceOf leaf o → ExactLeaf l n flow behind (value_at l n after (leaf_position t.info j)) i o leaf) (λ there. subst (λ z. ExactLeaf l n flow behind (value_at l n after place) i z t.leaf) (sym (place_zero t o there)) own_leaf) j leaf e
 
     pub relabelled_tells : ExactState l n flow after behind
     relabelled_tells = change_tells l n flow p row after state new b i t.info t.is en st (record {
       lives = w.rewrite.alike.lives;
       others = w.rewrite.others;
-      outside = outside;
+      outside = outside p t row changed;
       apart = λ d j e ne f. ne (same_Some d b (sym (names d j e) ∙ (ap naming f ∙ names b i en)));
     }) own

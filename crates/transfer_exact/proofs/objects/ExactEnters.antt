@@ -50,21 +50,16 @@ use Rattle.transfer_sound.proofs.enter.GrownMemory.{grows, names_too, byte_stays
 use Rattle.transfer_sound.proofs.enter.GrownSanity.{blank_long, blank_byte}
 use Rattle.transfer_sound.proofs.objects.BlankRows as blank
 use Rattle.transfer_sound.proofs.objects.WholeObjects.{some_kind}
+use Rattle.transfer_sound.proofs.enter.Entering.{put_own, put_other}
 use Rattle.transfer_exact.specs.Values.SingleRows.{IsPlainProgram, HoldsScalar, ExactLeaf, ExactState}
 use Rattle.transfer_exact.specs.Values.SingleSteps.{IsDefined, ExactAfter, IsExact, StepIsExact}
 use Rattle.transfer_exact.specs.Values.SingleValues.{IsBlank, ExactByLife, ExactScalar, ExactHeld}
 use Rattle.transfer_exact.proofs.values.NearExact.{near_none}
-use Rattle.transfer_exact.proofs.values.Violated.{none_violated}
 use Rattle.transfer_exact.specs.Accesses.StoreLaws.{IsEntered}
 use Rattle.transfer_exact.specs.Accesses.TypedAccesses.{HasObjects}
 use Rattle.transfer_exact.proofs.accesses.Moves.{holds_moves}
 use Rattle.transfer_exact.proofs.places.OneLeaf.{owned, place_is}
-
-put_own : {A : Type 0} (f : ℕ → Option A) (b : ℕ) (x : A) → put_at f b x b ≡ Some x
-put_own f b x = grind arith
-
-put_other : {A : Type 0} (f : ℕ → Option A) (b d : ℕ) (x : A) → (d ≡ b → ⊥) → put_at f b x d ≡ f d
-put_other f b d x h = grind arith
+use Rattle.transfer_exact.proofs.values.Told.{clean_goes_told}
 
 none_some : {A : Type 0} (o : Option A) (x : A) → o ≡ None → o ≡ Some x → ⊥
 none_some None x e f = cc
@@ -220,14 +215,7 @@ module _ {I : Type 0} {l : LatticeOf I} {n : IntegersOf I} {gamma : I → ℤ �
 
     told_by : (o : Option ℕ) → s.bases b ≡ o → IsDefined (entering (flow_view flow) s b o) → IsExact l n flow behind_it no_violations (entering (flow_view flow) s b o)
     told_by (Some i) e d = absurd (d s.world refl)
-    told_by None e d = subst (λ z. IsExact l n flow behind_it no_violations (enter (flow_view flow) s b z)) (sym at) (record {
-      goes_on = λ x u f.
-          let a : now ≡ x = cc in
-          let c : behind_world ≡ u = cc in
-          subst (λ z. ExactAfter l n flow behind_it (record z { world = u })) a (subst (λ z. ExactAfter l n flow behind_it (record now { world = z })) c (tells_here e));
-      ends = λ why u f. cc;
-      violated = none_violated s.world.violated;
-    })
+    told_by None e d = subst (λ z. IsExact l n flow behind_it no_violations (enter (flow_view flow) s b z)) (sym at) (clean_goes_told l n flow _ now behind_world (tells_here e))
 
   enter_told : (b : ℕ) → fits_operation (names_of flow) (op.Enter b) ≡ true → IsDefined (act_step (flow_view flow) (act (op.Enter b)) s) → StepIsExact l n flow row (op.Enter b) s
   unfolding operate forget operation_violations

@@ -1,5 +1,5 @@
 -- Objects that are left are told.
-use Rattle.std.proofs.Common.{◌≡◌, ℕ, suc, ◌+◌, true, false, Option, Some, List, arith, subst, sym, ap, ◌∙◌, inl, inr}
+use Rattle.std.proofs.Common.{◌≡◌, ℕ, suc, ◌+◌, true, false, Some, List, arith, subst, sym, ap, ◌∙◌, inl, inr}
 use Rattle.std.specs.Prelude.{slice_get, ℤ}
 use Rattle.std.proofs.lemmas.Option.{same_Some, slice_get_within}
 use Rattle.cc_base.specs.Lattices.{LatticeOf}
@@ -36,18 +36,15 @@ use Rattle.store_sound.specs.Programs.Premises.{HasPremises}
 use Rattle.transfer_sound.specs.Values.SoundSteps.{IsReached}
 use Rattle.transfer_sound.proofs.leave.LeftMemory.{IsEnded, life_ends, byte_was}
 use Rattle.transfer_sound.proofs.objects.WholeObjects.{some_kind}
+use Rattle.transfer_sound.proofs.leave.Leaving.{clear_other}
 use Rattle.transfer_exact.specs.Values.SingleRows.{IsPlainProgram, ExactLeaf, ExactState}
-use Rattle.transfer_exact.specs.Values.SingleSteps.{IsDefined, ExactAfter, StepIsExact}
+use Rattle.transfer_exact.specs.Values.SingleSteps.{IsDefined, StepIsExact}
 use Rattle.transfer_exact.specs.Values.SingleValues.{ExactScalar}
-use Rattle.transfer_exact.proofs.values.Told.{if_some_told}
-use Rattle.transfer_exact.proofs.values.Violated.{none_violated}
+use Rattle.transfer_exact.proofs.values.Told.{if_some_told, clean_goes_told}
 use Rattle.transfer_exact.specs.Accesses.StoreLaws.{IsLeft}
 use Rattle.transfer_exact.proofs.accesses.Moves.{holds_moves}
 use Rattle.transfer_exact.proofs.objects.LeftValues.{scalar_left, held_left}
 use Rattle.transfer_exact.proofs.objects.LeftRows.{small, value_left}
-
-clear_other : {A : Type 0} (f : ℕ → Option A) (b d : ℕ) (x : A) → clear_at f b d ≡ Some x → (d ≡ b → ⊥) × (f d ≡ Some x)
-clear_other f b d x e = grind arith
 
 module _ {I : Type 0} {l : LatticeOf I} {n : IntegersOf I} {gamma : I → ℤ → Type 0} (flow : Flow) (p : HasPremises flow) (plain : IsPlainProgram flow) (naming : Naming) (row : List (Cell I)) (s : ProgramState) (r : IsReached l n gamma flow naming row s) (t : ExactState l n flow row (state_of s)) where
   module _ (b i : ℕ) (info : BaseInfo) (at : slice_get flow.bases.items b ≡ Some info) (entered : s.bases b ≡ Some i) (declared : info.shape.heap ≡ false) where
@@ -109,21 +106,13 @@ module _ {I : Type 0} {l : LatticeOf I} {n : IntegersOf I} {gamma : I → ℤ �
   leave_told b fits d =
       let k = some_kind flow.bases.items b fits in
       let info : BaseInfo = k.0 in
-      if_some_told l n flow _ no_violations s (s.bases b) _ d (λ i e d. record {
-        goes_on = λ x u f.
-            let w : World = left i s.world in
-            let now : ProgramState = record s { at = suc s.at; bases = clear_at s.bases b; world = w } in
-            let a : now ≡ x = cc in
-            let c : w ≡ u = cc in
-            let here : ExactAfter l n flow (Some (at_base (leave_object l b) (slice_get flow.bases.items b) row)) (record now { world = w }) = record {
-              row = leave_object l b info row;
-              is = ap (λ z. Some (at_base (leave_object l b) z row)) k.1;
-              tells = left_tells b i info k.1 e (plain.no_heap b info k.1);
-            } in
-            subst (λ z. ExactAfter l n flow (Some (at_base (leave_object l b) (slice_get flow.bases.items b) row)) (record z { world = u })) a (subst (λ z. ExactAfter l n flow (Some (at_base (leave_object l b) (slice_get flow.bases.items b) row)) (record now { world = z })) c here);
-        ends = λ why u f. cc;
-        violated = none_violated s.world.violated;
-      })
+      if_some_told l n flow _ no_violations s (s.bases b) _ d (λ i e d. let w : World = left i s.world in
+      let now : ProgramState = record s { at = suc s.at; bases = clear_at s.bases b; world = w } in
+      clean_goes_told l n flow _ now w (record {
+        row = leave_object l b info row;
+        is = ap (λ z. Some (at_base (leave_object l b) z row)) k.1;
+        tells = left_tells b i info k.1 e (plain.no_heap b info k.1);
+      }))
 
   pub leave_step_told : (o : Operation) → IsLeft o s → fits_operation (names_of flow) o ≡ true → IsDefined (act_step (flow_view flow) (act o) s) → StepIsExact l n flow row o s
   leave_step_told (op.Leave b) is fits d = leave_told b fits d

@@ -1,5 +1,5 @@
 -- A value whose pointers into a base have ended tells what it told, when the instance of the base has ended.
-use Rattle.std.proofs.Common.{◌≡◌, ℕ, ◌<◌, Bool, true, false, cond, Option, Some, None, arith, subst, sym, refl, ap, ◌∙◌, inl, inr}
+use Rattle.std.proofs.Common.{◌≡◌, ℕ, ◌<◌, Bool, true, false, cond, Option, Some, None, subst, sym, refl, ap, ◌∙◌, inl, inr}
 use Rattle.std.proofs.lemmas.Bool.{cases_Bool, cases_eq, lt-ltb}
 use Rattle.std.proofs.lemmas.Option.{same_Some}
 use Rattle.cc_base.specs.Lattices.{LatticeOf}
@@ -18,11 +18,9 @@ use Rattle.memory_model.specs.Memory.Scalars.{Scalar, integer, pointer}
 use Rattle.memory_model.specs.Effects.NumberedTables.{clear_at}
 use Rattle.transfer_sound.proofs.leave.LeftMemory.{IsEnded}
 use Rattle.transfer_sound.proofs.leave.EndedValues.{left_value}
+use Rattle.transfer_sound.proofs.leave.Leaving.{clear_keeps}
 use Rattle.transfer_exact.specs.Values.SingleValues.{IsNowhere, IsIntoOne, ExactByLife, ExactPointer, ExactScalar, ExactHeld}
 use Rattle.transfer_exact.proofs.objects.LeftBases.{sole_without, sole_has, sole_lacks}
-
-clear_keeps : {A : Type 0} (f : ℕ → Option A) (b d : ℕ) (x : A) → (d ≡ b → ⊥) → f d ≡ Some x → clear_at f b d ≡ Some x
-clear_keeps f b d x h e = grind arith
 
 module _ {I : Type 0} (l : LatticeOf I) (n : IntegersOf I) (names : ℕ → Option ℕ) {old new : Memory} (b i : ℕ) (small : b < most_bases) (here : names b ≡ Some i) (alive : life_at old i ≡ live)
     (one : (d : ℕ) → names d ≡ Some i → d ≡ b) (w : IsEnded old new i) where

@@ -1,9 +1,10 @@
 -- What the machine reads where a leaf holds a scalar, or is indeterminate.
-use Rattle.std.proofs.Common.{◌≡◌, ℕ, suc, ◌+◌, ◌-◌, ◌<◌, ◌≤◌, Bool, true, false, cond, ◌||◌, Option, Some, None, List, [], ◌∷◌, length, arith, subst, sym, refl, ap, ◌∙◌}
+use Rattle.std.proofs.Common.{◌≡◌, ℕ, suc, ◌+◌, ◌-◌, ◌<◌, ◌≤◌, Bool, true, false, cond, Option, Some, None, List, [], ◌∷◌, length, arith, subst, sym, refl, ap, ◌∙◌}
 use Rattle.std.specs.Prelude.{slice_get, ℤ}
 use Rattle.std.proofs.lemmas.Bool.{and_from, eq-eqb, true≢false, or_right}
 use Rattle.std.proofs.lemmas.List.{length-map}
 use Rattle.std.proofs.lemmas.Option.{same_Some, slice_get_within}
+use Rattle.std.proofs.Math.Bool.{or_self, or-false}
 use Rattle.cc_base.specs.declared.int_types.IntType.{IntType}
 use Rattle.cc_base.specs.declared.diagnostics.Rule.TheVariants as rule
 use Rattle.c_layout.specs.declared.leaf_lists.Class.{Class}
@@ -83,16 +84,8 @@ no_blank_numbers (c ∷ cs) (n ∷ ns) e h =
     let r = no_blank_numbers cs ns (omega (arith, e)) (λ k x y a b. h (suc k) x y a b) in
     rw (f, r) refl
 
-or_no : (b : Bool) → (b || false) ≡ b
-or_no true = refl
-or_no false = refl
-
-or_self : (b : Bool) → (b || b) ≡ b
-or_self true = refl
-or_self false = refl
-
 join_none : (s : Labels) → labels_join s no_labels ≡ s
-join_none s = λ i. record { low = or_no s.low i; high = or_no s.high i; changed = or_no s.changed i }
+join_none s = λ i. record { low = or-false s.low i; high = or-false s.high i; changed = or-false s.changed i }
 
 join_self : (s : Labels) → labels_join s s ≡ s
 join_self s = λ i. record { low = or_self s.low i; high = or_self s.high i; changed = or_self s.changed i }

@@ -1,7 +1,8 @@
 -- Sets of one base, and of none, in a program of objects alone.
-use Rattle.std.proofs.Common.{◌≡◌, ℕ, ◌<◌, Bool, true, false, cond, not, ◌&&◌, ◌||◌, Some, List, arith, refl, ap, ◌∙◌, inl, inr}
+use Rattle.std.proofs.Common.{◌≡◌, ℕ, ◌<◌, Bool, true, false, cond, not, ◌&&◌, Some, List, arith, refl, ap, ◌∙◌, inl, inr}
 use Rattle.std.specs.Prelude.{slice_get, nat_lt}
 use Rattle.std.proofs.lemmas.Bool.{cases_Bool, and_from, and_parts, lt-ltb, ltb-true}
+use Rattle.std.proofs.Math.Bool.{or-false}
 use Rattle.cc_base.specs.Lattices.{LatticeOf}
 use Rattle.cc_base.specs.IntegerDomains.{IntegersOf}
 use Rattle.c_layout.specs.declared.shapes.BaseInfo.{BaseInfo}
@@ -20,10 +21,6 @@ use Rattle.transfer_exact.proofs.places.OneTurn.{walk_idle, walk_once}
 
 abbrev pub AreObjects : List BaseInfo → Type 0
 AreObjects bases = (b : ℕ) (base : BaseInfo) → slice_get bases b ≡ Some base → base.shape.heap ≡ false
-
-or_no : (b : Bool) → (b || false) ≡ b
-or_no true = refl
-or_no false = refl
 
 -- ---- one base
 
@@ -56,7 +53,7 @@ module _ (bases : List BaseInfo) (b : ℕ) (base : BaseInfo) (at : slice_get bas
   pub literal_is : any_literal bases (only_base b) ≡ is_literal_kind base.kind
   unfolding any_literal
   literal_is =
-      walk_once (is_literal_or (only_base b)) 0 bases false b b base at (omega arith) (λ i d other e f n t. rw (has_no_other b d (λ g. n (omega (arith, f, g)))) (or_no t))
+      walk_once (is_literal_or (only_base b)) 0 bases false b b base at (omega arith) (λ i d other e f n t. rw (has_no_other b d (λ g. n (omega (arith, f, g)))) (or-false t))
       ∙ ap (λ z. z && is_literal_kind base.kind) (has_own b small)
 
   module _ {I : Type 0} (l : LatticeOf I) (n : IntegersOf I) (row : List (Cell I)) (object : base.shape.heap ≡ false) where

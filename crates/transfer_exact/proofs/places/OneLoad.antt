@@ -25,7 +25,7 @@ use Rattle.transfer_exact.proofs.places.OneTurn.{walk_idle, walk_once}
 use Rattle.transfer_exact.proofs.places.OneBase.{has_own, has_no_other}
 use Rattle.transfer_exact.proofs.places.OneLeaf.{own_selected, other_unselected, none_other, no_padding}
 
-signs_agree : (p s : Bool) → (p || same_sign s s) ≡ true
+pub signs_agree : (p s : Bool) → (p || same_sign s s) ≡ true
 signs_agree true s = refl
 signs_agree false true = refl
 signs_agree false false = refl

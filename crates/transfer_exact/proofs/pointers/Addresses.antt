@@ -1,8 +1,8 @@
 -- Pointers to named objects are told.
-use Rattle.std.proofs.Common.{◌≡◌, ℕ, ◌<◌, ◌≤◌, true, ◌&&◌, Option, Some, None, List, arith, subst, sym, refl, ap}
+use Rattle.std.proofs.Common.{◌≡◌, ℕ, ◌<◌, ◌≤◌, true, ◌&&◌, Option, Some, List, arith, subst, sym, refl, ap}
 use Rattle.std.specs.Prelude.{ℤ, pos, ◌-ℤ◌, slice_get}
 use Rattle.std.proofs.lemmas.Int.{ints}
-use Rattle.std.proofs.lemmas.Bool.{and_parts, leb-true, ltb-true, true≢false}
+use Rattle.std.proofs.lemmas.Bool.{and_parts, ltb-true}
 use Rattle.cc_base.specs.Lattices.{LatticeOf}
 use Rattle.cc_base.specs.IntegerDomains.{IntegersOf, BoundLaws}
 use Rattle.c_layout.specs.declared.shapes.BaseInfo.{BaseInfo}
@@ -29,7 +29,7 @@ use Rattle.store_sound.specs.Concretization.SoundMemory.{IsWithin}
 use Rattle.store_sound.specs.Concretization.Coverage.{state_of}
 use Rattle.store_sound.specs.Programs.Premises.{HasPremises}
 use Rattle.transfer_sound.specs.Values.SoundSteps.{IsReached}
-use Rattle.transfer_sound.proofs.values.PartSteps.{kind_is}
+use Rattle.transfer_sound.proofs.values.PartSteps.{kind_is, reached_by}
 use Rattle.transfer_exact.specs.Values.SingleNumbers.{IsOne}
 use Rattle.transfer_exact.specs.Values.SingleValues.{IsIntoOne, ExactByLife}
 use Rattle.transfer_exact.specs.Values.SingleRows.{ExactState}
@@ -38,16 +38,6 @@ use Rattle.transfer_exact.proofs.values.Told.{if_some_told}
 use Rattle.transfer_exact.proofs.values.Violated.{none_violated}
 use Rattle.transfer_exact.proofs.pointers.Objects.{IsObject, object_is, base_small}
 use Rattle.transfer_exact.proofs.pointers.PointersExact.{pointer_given}
-
--- an object that an offset lies in, or at whose end
-record IsReachedBy (offset : ℕ) (o : Option BaseInfo) : Type 0 where
-  info : BaseInfo
-  is : o ≡ Some info
-  inside : offset ≤ info.size
-
-reached_by : (offset : ℕ) (o : Option BaseInfo) → reaches offset o ≡ true → IsReachedBy offset o
-reached_by offset None h = absurd (true≢false (sym h))
-reached_by offset (Some info) h = record { info = info; is = refl; inside = leb-true offset info.size h }
 
 pub live_tells : {I : Type 0} {n : IntegersOf I} (entered : ℕ → Option ℕ) (x : _) (life : Life) (i offset lo hi : ℕ) → life ≡ live → IsIntoOne {I = I} n entered x i offset lo hi → ExactByLife n entered x life i offset lo hi
 live_tells entered x live i offset lo hi e h = h

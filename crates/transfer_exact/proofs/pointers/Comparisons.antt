@@ -1,12 +1,11 @@
 -- Differences and relations of pointers are told.
-use Rattle.std.proofs.Common.{◌≡◌, ℕ, suc, ◌*◌, ◌/◌, ◌<◌, ◌≤◌, Bool, true, false, cond, not, ◌||◌, ◌&&◌, Option, Some, None, List, length, arith, subst, sym, refl, ap, ap₂, ◌∙◌, inl, inr}
-use Rattle.std.specs.Prelude.{ℤ, pos, negsuc, ◌+ℤ◌, ◌-ℤ◌, ◌≤ℤ◌, int_div, int_le, ◌==◌, nat_lt}
+use Rattle.std.proofs.Common.{◌≡◌, ℕ, ◌<◌, Bool, true, false, cond, not, ◌||◌, ◌&&◌, Option, Some, None, List, length, arith, subst, sym, refl, ap, ap₂, ◌∙◌, inl, inr}
+use Rattle.std.specs.Prelude.{ℤ, pos, ◌+ℤ◌, ◌-ℤ◌, int_div, int_le, ◌==◌, nat_lt}
 use Rattle.std.specs.Ordering.{int_eq}
 use Rattle.std.proofs.lemmas.Int.{ints}
 use Rattle.std.proofs.lemmas.Bool.{cases_eq, and_parts, and_from, eq-eqb, ne_eqb, ltb-true, true≢false}
-use Rattle.std.proofs.Math.Nat.{mul-le-mul_left}
-use Rattle.std.proofs.lemmas.Nat.{div_below}
 use Rattle.std.proofs.lemmas.Bool.Decides.{Decides-int_eq}
+use Rattle.std.proofs.Math.Bool.{or-true, and-false}
 use Rattle.cc_base.specs.Lattices.{LatticeOf}
 use Rattle.cc_base.specs.IntegerTypes.{least_of, greatest_of}
 use Rattle.cc_base.specs.IntegerDomains.{IntegersOf, BoundLaws, of_range}
@@ -18,7 +17,6 @@ use Rattle.cc_base.specs.declared.integer_operators.Rel.{Rel}
 use Rattle.cc_base.specs.declared.integer_operators.Rel.TheVariants.{Lt, Le, Gt, Ge, Eq, Ne}
 use Rattle.cc_base.specs.declared.integer_operators.Tri.{Tri}
 use Rattle.cc_base.specs.declared.integer_operators.Tri.TheVariants.{Never}
-use Rattle.c_layout.specs.declared.data_model.Model.{Model}
 use Rattle.c_layout.specs.declared.leaf_lists.Class.TheVariants as class
 use Rattle.c_layout.specs.declared.shapes.BaseKind.{BaseKind}
 use Rattle.c_layout.specs.declared.shapes.BaseKind.TheVariants.{Static, Automatic, Literal, Newest, Older}
@@ -62,19 +60,20 @@ use Rattle.semantics.specs.CfgMachine.FlowSteps.{act_step}
 use Rattle.store_sound.specs.Concretization.ValueMeaning.{Naming}
 use Rattle.store_sound.specs.Concretization.SoundMemory.{IsWithin, IsPointerIn, storage_for}
 use Rattle.store_sound.specs.Concretization.Coverage.{state_of}
-use Rattle.store_sound.proofs.operations.Sets.{only_is}
+use Rattle.store_sound.proofs.operations.Sets.{only_is, only_has}
 use Rattle.store_sound.proofs.operations.Slices.{get_there}
 use Rattle.store_sound.specs.Programs.Premises.{HasPremises}
 use Rattle.transfer_sound.specs.Values.SoundSteps.{IsReached}
 use Rattle.transfer_sound.proofs.values.ResultRows.{truth_near}
+use Rattle.transfer_sound.proofs.values.BinarySteps.{met_one}
+use Rattle.transfer_sound.proofs.values.ComparisonSteps.{quotient_within, IsWithinTop, distance_type}
 use Rattle.transfer_exact.specs.Values.SingleNumbers.{IsOne}
 use Rattle.transfer_exact.specs.Values.ExactNumbers.{truth_of, ExactLaws}
 use Rattle.transfer_exact.specs.Values.SingleValues.{IsNowhere, IsIntoOne, ExactByLife, ExactPointer, ExactScalar}
 use Rattle.transfer_exact.specs.Values.SingleRows.{ExactState, IsPlainProgram}
 use Rattle.transfer_exact.specs.Values.SingleSteps.{IsDefined, IsExact, StepIsExact}
-use Rattle.transfer_exact.proofs.values.Faults.{met_one}
 use Rattle.transfer_exact.proofs.values.Told.{if_some_told, pointer_told, result_told}
-use Rattle.transfer_exact.proofs.values.ValueSteps.{only_has, negated_truth, tells_truth, truth_put, tells_number, number_put}
+use Rattle.transfer_exact.proofs.values.ValueSteps.{negated_truth, tells_truth, truth_put, tells_number, number_put}
 use Rattle.transfer_exact.proofs.values.Violated.{AreViolated, pointing, pointing_violated, never}
 use Rattle.transfer_exact.proofs.places.OneBase.{not_empty}
 use Rattle.transfer_exact.proofs.places.OneTouch.{one_range}
@@ -82,43 +81,12 @@ use Rattle.transfer_exact.proofs.pointers.Objects.{same_base}
 use Rattle.transfer_exact.proofs.pointers.PointersExact.{rule_told}
 use Rattle.transfer_exact.proofs.pointers.SoleBases.{sole_count, sole_meets, sole_within, single_has, sole_apart, sole_none}
 
--- ---- quotients
-
-smaller : (a m : ℕ) → 0 < m → a / m ≤ a
-smaller a m h =
-    let t : suc a * 1 ≤ suc a * m = mul-le-mul_left (suc a) (omega (arith, h)) in
-    let d = div_below a m (suc a) h (omega (arith, t)) in
-    omega (arith, d)
-
-record IsWithinTop (z : ℤ) (top : ℕ) : Type 0 where
-  from : (pos 0 -ℤ pos top) ≤ℤ z
-  to : z ≤ℤ pos top
-
-quotient_within : (x : ℤ) (m top : ℕ) → 0 < m → IsWithinTop x top → IsWithinTop (int_div x (pos m)) top
-quotient_within (pos a) m top h w = let d = smaller a m h in let e = w.to in record { from = omega (arith, ints, d); to = omega (arith, ints, d, e) }
-quotient_within (negsuc a) m top h w = let d = smaller (suc a) m h in let e = w.from in record { from = omega (arith, ints, d, e); to = omega (arith, ints, d) }
-
--- a number of elements between offsets of an object that is not too long is one of ptrdiff_t
-distance_type : (m : Model) (z : ℤ) (top : ℕ) → IsWithinTop z top → pos top ≤ℤ greatest_of (kind_of m class.Pointer true) → (least_of (kind_of m class.Pointer true) ≤ℤ z) × (z ≤ℤ greatest_of (kind_of m class.Pointer true))
-distance_type m z top w h =
-    let a = w.from in
-    let b = w.to in
-    (omega (arith, ints, a, h), omega (arith, ints, b, h))
-
 single_kind : (kind : BaseKind) → is_allocated (storage_for kind) ≡ false → is_single_kind kind ≡ true
 single_kind Static h = refl
 single_kind Automatic h = refl
 single_kind Literal h = refl
 single_kind Newest h = refl
 single_kind Older h = absurd (true≢false h)
-
-or_true : (b : Bool) → (b || true) ≡ true
-or_true true = refl
-or_true false = refl
-
-and_false : (b : Bool) → (b && false) ≡ false
-and_false true = refl
-and_false false = refl
 
 none_is : (s : Bases) → bases_empty s ≡ true → s ≡ no_base
 none_is s e = bases_order.antisymmetric s no_base (empty_within s no_base e) (bases_order.least_below s)
@@ -213,10 +181,10 @@ module _ {I : Type 0} {l : LatticeOf I} {n : IntegersOf I} {gamma : I → ℤ �
     equal_parts a b c d m any ea eb ec ed em = λ i. cond (any i) (tri_of (ea i || (eb i && ec i)) (not (ed i) && not (em i))) Never
 
     some_null : (x.null || y.null) ≡ true → must ≡ false
-    some_null e = ap (λ z. same_one_base x y single && (not z && ranges_same_one (offsets n x) (offsets n y))) e ∙ and_false (same_one_base x y single)
+    some_null e = ap (λ z. same_one_base x y single && (not z && ranges_same_one (offsets n x) (offsets n y))) e ∙ and-false (same_one_base x y single)
 
     unlike_null : (x.null || y.null) ≡ true → are_alike x y single ≡ false
-    unlike_null e = ap (λ z. same_one_base x y single && z) (de_morgan x.null y.null ∙ ap not e) ∙ and_false (same_one_base x y single)
+    unlike_null e = ap (λ z. same_one_base x y single && z) (de_morgan x.null y.null ∙ ap not e) ∙ and-false (same_one_base x y single)
       where
         de_morgan : (a b : Bool) → (not a && not b) ≡ not (a || b)
         de_morgan true b = refl
@@ -334,7 +302,7 @@ module _ {I : Type 0} {l : LatticeOf I} {n : IntegersOf I} {gamma : I → ℤ �
       left_ended e h = some_ended (ap (λ z. z || is_ended s.world.memory pb) e) (meet_left x y false true h) (ap (λ z. z && is_any y) (any_of x false true h))
 
       right_ended : is_ended s.world.memory pb ≡ true → bases_meet x.bases y.bases ≡ false → IsNowhere y false true → Pair
-      right_ended e apart k = some_ended (ap (λ z. is_ended s.world.memory pa || z) e ∙ or_true (is_ended s.world.memory pa)) apart (ap (λ z. is_any x && z) (any_of y false true k) ∙ and_false (is_any x))
+      right_ended e apart k = some_ended (ap (λ z. is_ended s.world.memory pa || z) e ∙ or-true (is_ended s.world.memory pa)) apart (ap (λ z. is_any x && z) (any_of y false true k) ∙ and-false (is_any x))
 
     pair_of : Known x pa → Known y pb → Pair
     pair_of (at_ended e h) hy = left_ended (at_ended e h) hy e h
@@ -404,7 +372,7 @@ module _ {I : Type 0} {l : LatticeOf I} {n : IntegersOf I} {gamma : I → ℤ �
 
     difference_good : (size : ℕ) → 0 < size → Pair x y pa pb → Told (difference_between l n flow row to x y size) pair_told (pointer_difference size pa pb s.world)
     difference_good size some pair = compared_told pair _ _
-        (λ e. ap (λ z. cond (not (size == 0) && z) (put_number n flow row to (difference_of l n flow x y size)) None) e ∙ ap (λ z. cond z (put_number n flow row to (difference_of l n flow x y size)) None) (and_false (not (size == 0))))
+        (λ e. ap (λ z. cond (not (size == 0) && z) (put_number n flow row to (difference_of l n flow x y size)) None) e ∙ ap (λ z. cond z (put_number n flow row to (difference_of l n flow x y size)) None) (and-false (not (size == 0))))
         (λ g.
         let a = g.w.below in
         let b = g.w.within in

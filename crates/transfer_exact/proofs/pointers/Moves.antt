@@ -1,6 +1,6 @@
 -- Pointers that are moved are told.
-use Rattle.std.proofs.Common.{◌≡◌, ℕ, zero, suc, ◌<◌, ◌≤◌, Bool, true, false, cond, not, ◌||◌, ◌&&◌, Option, Some, None, List, [], ◌∷◌, ◌++◌, arith, subst, sym, refl, ap, ap₂, ◌∙◌}
-use Rattle.std.specs.Prelude.{ℤ, pos, negsuc, neg_ℤ, ◌+ℤ◌, ◌-ℤ◌, ◌*ℤ◌, ◌≤ℤ◌, ◌<ℤ◌, unsigned_abs, int_le, int_lt}
+use Rattle.std.proofs.Common.{◌≡◌, ℕ, ◌<◌, ◌≤◌, Bool, true, false, cond, not, ◌||◌, ◌&&◌, Option, Some, None, List, [], ◌∷◌, ◌++◌, arith, subst, sym, refl, ap, ap₂, ◌∙◌}
+use Rattle.std.specs.Prelude.{ℤ, pos, neg_ℤ, ◌+ℤ◌, ◌-ℤ◌, ◌*ℤ◌, ◌≤ℤ◌, ◌<ℤ◌, unsigned_abs, int_le, int_lt}
 use Rattle.std.specs.List.{Contains}
 use Rattle.std.proofs.lemmas.Int.{ints}
 use Rattle.std.proofs.lemmas.Bool.{and_parts, ltb-true, true≢false}
@@ -18,7 +18,6 @@ use Rattle.cfg.specs.declared.machine_instructions.Operation.TheVariants as op
 use Rattle.cfg.specs.declared.programs.Flow.{Flow}
 use Rattle.pointer_domain.specs.BaseSets.{bases_empty}
 use Rattle.pointer_domain.specs.PointerTables.{moved_to, shifted, length_above}
-use lib.IntN.{negsuc-*ℤ-pos}
 use Rattle.pointer_domain.specs.declared.pointer_sets.Pointers.{Pointers}
 use Rattle.value_domain.specs.Values.LabelSets as set
 use Rattle.value_domain.specs.declared.values.label_sets.Labels as declared
@@ -52,13 +51,15 @@ use Rattle.store_sound.specs.Concretization.SoundMemory.{IsWithin, IsPointerIn}
 use Rattle.store_sound.specs.Concretization.Coverage.{state_of}
 use Rattle.store_sound.specs.Programs.Premises.{HasPremises}
 use Rattle.transfer_sound.specs.Values.SoundSteps.{IsReached}
-use Rattle.transfer_sound.proofs.values.MoveSteps.{abs_is, near_has}
+use Rattle.transfer_sound.proofs.values.MoveSteps.{abs_is, near_has, directed, distance_is}
 use Rattle.transfer_sound.proofs.values.NearScalars.{IsNearNumber}
+use Rattle.transfer_sound.proofs.values.BinarySteps.{met_one}
+use Rattle.transfer_sound.proofs.values.TypeRanges.{le_from}
 use Rattle.transfer_exact.specs.Values.SingleNumbers.{IsOne}
 use Rattle.transfer_exact.specs.Values.SingleValues.{IsNowhere, IsIntoOne, ExactByLife, ExactPointer, ExactScalar}
 use Rattle.transfer_exact.specs.Values.SingleRows.{ExactState}
 use Rattle.transfer_exact.specs.Values.SingleSteps.{IsDefined, IsExact, StepIsExact}
-use Rattle.transfer_exact.proofs.values.Faults.{met_one, met_none}
+use Rattle.transfer_exact.proofs.values.Faults.{met_none}
 use Rattle.transfer_exact.proofs.values.NearExact.{near_one}
 use Rattle.transfer_exact.proofs.values.Told.{if_some_told, number_told, pointer_told}
 use Rattle.transfer_exact.proofs.values.Violated.{pointing_violated, never, one_there, behind_there}
@@ -66,9 +67,6 @@ use Rattle.transfer_exact.proofs.places.OneBase.{not_empty}
 use Rattle.transfer_exact.proofs.places.OneTouch.{one_range}
 use Rattle.transfer_exact.proofs.pointers.Addresses.{live_tells}
 use Rattle.transfer_exact.proofs.pointers.PointersExact.{rule_told, pointer_given}
-
-le_from : (a b : ℤ) → int_le a b ≡ true → a ≤ℤ b
-le_from a b h = grind (arith, ints)
 
 not_le : (a b : ℤ) → int_le a b ≡ false → b <ℤ a
 not_le a b h = grind (arith, ints)
@@ -79,22 +77,8 @@ same_le a b c d h = grind (arith, ints)
 within_is : (a b : ℤ) → pos 0 ≤ℤ a → a ≤ℤ b → (int_lt a (pos 0) || int_lt b a) ≡ false
 within_is a b h k = grind (arith, ints)
 
-neg_times : (z : ℤ) (f : ℕ) → neg_ℤ (z *ℤ pos f) ≡ (neg_ℤ z *ℤ pos f)
-neg_times (pos zero) f = omega (arith, ints)
-neg_times (pos (suc n)) f = let e = negsuc-*ℤ-pos n f in omega (arith, ints, e)
-neg_times (negsuc n) f = let e = negsuc-*ℤ-pos n f in omega (arith, ints, e)
-
 unlabelled_is : (s : Labels) (t : declared.Labels) → t ≡ as_set s → set.is_unlabelled t ≡ is_unlabelled s
 unlabelled_is s t e = ap set.is_unlabelled e
-
--- the number by which a pointer is moved
-abbrev directed : Bool → ℤ → ℤ
-directed true z = neg_ℤ z
-directed false z = z
-
-distance_is : (back : Bool) (z : ℤ) (scale : ℕ) → distance_of back z scale ≡ (directed back z *ℤ pos scale)
-distance_is false z scale = refl
-distance_is true z scale = neg_times z scale
 
 noted_there : (before : List Rule) (b : Bool) (r : Rule) → b ≡ true → Contains (before ++ cond b (r ∷ []) []) r
 noted_there before true r e = behind_there before (r ∷ []) r (one_there r)

@@ -3,7 +3,7 @@ use Rattle.std.proofs.Common.{◌≡◌, ℕ, ◌+◌, ◌≤◌, ◌<◌, Bool,
 use Rattle.std.specs.Prelude.{ℤ, pos, ◌+ℤ◌, ◌-ℤ◌, ◌≤ℤ◌, int_le, int_lt, nat_le, is_none}
 use Rattle.std.proofs.lemmas.Int.{ints}
 use Rattle.std.proofs.lemmas.Bool.{and_parts, leb-true, ltb-true}
-use Rattle.std.proofs.lemmas.Bool.Decides.{nat_tests}
+use Rattle.std.proofs.Math.Bool.{or-true}
 use Rattle.cc_base.specs.Lattices.{LatticeOf}
 use Rattle.cc_base.specs.NumberRanges.{range_sum, range_met, upper_or}
 use Rattle.cc_base.specs.IntegerDomains.{IntegersOf, BoundLaws, of_range}
@@ -44,14 +44,16 @@ use Rattle.store_sound.specs.Concretization.ValueMeaning.{Naming}
 use Rattle.store_sound.specs.Concretization.SoundMemory.{IsWithin, IsPointerIn}
 use Rattle.store_sound.specs.Concretization.Coverage.{state_of}
 use Rattle.store_sound.proofs.operations.Slices.{get_there}
+use Rattle.store_sound.proofs.operations.TouchSound.{past_end}
 use Rattle.store_sound.specs.Programs.Premises.{HasPremises}
 use Rattle.transfer_sound.specs.Values.SoundSteps.{IsReached}
 use Rattle.transfer_sound.proofs.values.NearScalars.{near_offset, near_distance}
+use Rattle.transfer_sound.proofs.values.BinarySteps.{met_one}
 use Rattle.transfer_exact.specs.Values.SingleNumbers.{IsOne}
 use Rattle.transfer_exact.specs.Values.SingleValues.{IsNowhere, IsIntoOne, ExactByLife, ExactPointer, ExactScalar}
 use Rattle.transfer_exact.specs.Values.SingleRows.{ExactState, IsPlainProgram}
 use Rattle.transfer_exact.specs.Values.SingleSteps.{IsDefined, IsExact, StepIsExact}
-use Rattle.transfer_exact.proofs.values.Faults.{met_one, met_none}
+use Rattle.transfer_exact.proofs.values.Faults.{met_none}
 use Rattle.transfer_exact.proofs.values.NearExact.{near_one, near_none}
 use Rattle.transfer_exact.proofs.values.Told.{if_some_told, pointer_told}
 use Rattle.transfer_exact.proofs.values.Violated.{AreViolated, pointing, pointing_violated, never}
@@ -59,13 +61,6 @@ use Rattle.transfer_exact.proofs.places.OneBase.{not_empty, live_is, none_live, 
 use Rattle.transfer_exact.proofs.places.OneTouch.{one_range}
 use Rattle.transfer_exact.proofs.pointers.Addresses.{live_tells, one_is}
 use Rattle.transfer_exact.proofs.pointers.PointersExact.{rule_told, nothing_there, pointer_given}
-
-or_true : (b : Bool) → (b || true) ≡ true
-or_true true = refl
-or_true false = refl
-
-past_end : (a b c d : ℕ) → (nat_le a b && nat_le c d) ≡ false → a ≤ b → d < c
-past_end a b c d h k = grind (arith, nat_tests)
 
 within_is : (a b c : ℤ) → pos 0 ≤ℤ a → b ≤ℤ c → (int_lt a (pos 0) || int_lt c b) ≡ false
 within_is a b c h k = grind (arith, ints)
@@ -145,8 +140,8 @@ module _ {I : Type 0} {l : LatticeOf I} {n : IntegersOf I} {gamma : I → ℤ �
       outside_good : hi < (offset + from) + size → IsExact l n flow (put_pointer l flow row to (narrowed l n part_rest from size)) part_told (giving s to (stopped_by s.world rule.Invptr))
       outside_good past =
           let none : places_within l n x from size ≡ l.least = ap (of_range l n) (met_is ∙ met_none place (pos 0) ((room -ℤ pos from) -ℤ pos size) (too_far place ((room -ℤ pos from) -ℤ pos size) (omega (arith, ints, past)))) in
-          let out : (int_lt (place +ℤ pos from) (pos 0) || int_lt room (place +ℤ pos (from + size))) ≡ true = ap (λ z. int_lt (place +ℤ pos from) (pos 0) || z) (beyond room (place +ℤ pos (from + size)) (omega (arith, ints, past))) ∙ or_true (int_lt (place +ℤ pos from) (pos 0)) in
-          let no_place : is_nowhere n live_set (places_within l n x from size) ≡ true = ap (λ z. bases_empty live_set || is_none (n.bounds z)) none ∙ (ap (λ z. bases_empty live_set || is_none z) q.least_bounds ∙ or_true (bases_empty live_set)) in
+          let out : (int_lt (place +ℤ pos from) (pos 0) || int_lt room (place +ℤ pos (from + size))) ≡ true = ap (λ z. int_lt (place +ℤ pos from) (pos 0) || z) (beyond room (place +ℤ pos (from + size)) (omega (arith, ints, past))) ∙ or-true (int_lt (place +ℤ pos from) (pos 0)) in
+          let no_place : is_nowhere n live_set (places_within l n x from size) ≡ true = ap (λ z. bases_empty live_set || is_none (n.bounds z)) none ∙ (ap (λ z. bases_empty live_set || is_none z) q.least_bounds ∙ or-true (bases_empty live_set)) in
           let nothing : inside_part ≡ no_pointer l = ap (λ z. cond z (no_pointer l) (record x { bases = live_set; rel = places_within l n x from size; null = false; ended = false })) no_place in
           rule_told l n flow s to _ part_told s.world rule.Invptr (nothing_put nothing) (λ there.
           violated_by false true not_null (ap₂ (λ a b. not a && b) some_live (leaves_is ∙ out)) _ (pointing_violated _ _ _ _ _ never (λ e. there) never never))

@@ -41,14 +41,13 @@ use Rattle.transfer_sound.proofs.objects.WholeObjects.{some_kind}
 use Rattle.struct_copies_sound.specs.SpellSteps.{SpellsBytes}
 use Rattle.struct_copies_sound.proofs.Texts.{contents}
 use Rattle.transfer_exact.specs.Values.SingleRows.{IsPlainProgram, ExactLeaf, ExactState}
-use Rattle.transfer_exact.specs.Values.SingleSteps.{IsDefined, ExactAfter, StepIsExact}
-use Rattle.transfer_exact.proofs.values.Told.{if_some_told}
-use Rattle.transfer_exact.proofs.values.Violated.{none_violated}
+use Rattle.transfer_exact.specs.Values.SingleSteps.{IsDefined, StepIsExact}
+use Rattle.transfer_exact.proofs.values.Told.{if_some_told, clean_goes_told}
 use Rattle.transfer_exact.proofs.places.OneLeaf.{place_is}
 use Rattle.transfer_exact.specs.Accesses.TypedAccesses.{HasObjects}
 use Rattle.transfer_exact.proofs.accesses.Moves.{change_tells}
 use Rattle.transfer_exact.specs.Spelling.CopyLaws.{IsSpelled}
-use Rattle.transfer_exact.proofs.spelling.SpelledRows.{spelled_within}
+use Rattle.store_sound.proofs.regions.SpelledParts.{spelled_within}
 use Rattle.transfer_exact.proofs.spelling.SpelledLeaves.{written, spelled_leaves}
 
 module _ {I : Type 0} {l : LatticeOf I} {n : IntegersOf I} {gamma : I → ℤ → Type 0} (q : BoundLaws l n gamma) (flow : Flow) (p : HasPremises flow) (objects : HasObjects flow) (plain : IsPlainProgram flow) (naming : Naming) (row : List (Cell I)) (s : ProgramState) (r : IsReached l n gamma flow naming row s) (t : ExactState l n flow row (state_of s)) where
@@ -110,21 +109,13 @@ module _ {I : Type 0} {l : LatticeOf I} {n : IntegersOf I} {gamma : I → ℤ �
         let k = some_kind flow.bases.items b fitting.0 in
         let info : BaseInfo = k.0 in
         let fits : has_room offset room (Some info) ≡ true = subst (λ z. has_room offset room z ≡ true) k.1 fitting.1 in
-        if_some_told l n flow _ no_violations s (s.bases b) _ d (λ i e d. record {
-          goes_on = λ t u f.
-              let w : World = spelled i offset room text s.world in
-              let now : ProgramState = record s { at = suc s.at; world = w } in
-              let a : now ≡ t = cc in
-              let c : w ≡ u = cc in
-              let here : ExactAfter l n flow (Some (row_behind (slice_get flow.bases.items b))) (record now { world = w }) = record {
-                row = spell_object l n offset room text info row;
-                is = ap (λ z. Some (row_behind z)) k.1;
-                tells = spelled_tells b i offset room text info k.1 e (plain.no_heap b info k.1) fits h;
-              } in
-              subst (λ z. ExactAfter l n flow (Some (row_behind (slice_get flow.bases.items b))) (record z { world = u })) a (subst (λ z. ExactAfter l n flow (Some (row_behind (slice_get flow.bases.items b))) (record now { world = z })) c here);
-          ends = λ why u f. cc;
-          violated = none_violated s.world.violated;
-        })
+        if_some_told l n flow _ no_violations s (s.bases b) _ d (λ i e d. let w : World = spelled i offset room text s.world in
+        let now : ProgramState = record s { at = suc s.at; world = w } in
+        clean_goes_told l n flow _ now w (record {
+          row = spell_object l n offset room text info row;
+          is = ap (λ z. Some (row_behind z)) k.1;
+          tells = spelled_tells b i offset room text info k.1 e (plain.no_heap b info k.1) fits h;
+        }))
 
   pub spell_step_told : (o : Operation) → IsSpelled flow o s → fits_operation (names_of flow) o ≡ true → IsDefined (act_step (flow_view flow) (act o) s) → StepIsExact l n flow row o s
   spell_step_told (op.Spell b offset room text) is fitted d = spell_told b offset room text fitted is d

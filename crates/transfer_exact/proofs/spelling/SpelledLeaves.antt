@@ -33,10 +33,10 @@ use Rattle.store_sound.proofs.operations.Slices.{get_there}
 use Rattle.store_sound.proofs.operations.StoreRows.{Fits}
 use Rattle.store_sound.specs.Programs.Premises.{HasPremises}
 use Rattle.store_sound.proofs.regions.ContentRegions.{IsWritten, contents_written}
+use Rattle.store_sound.proofs.programs.ShapedBases.{ends_inside}
 use Rattle.struct_copies_sound.proofs.leaves.Structs.{owned_at}
 use Rattle.struct_copies_sound.specs.SpellSteps.{SpellsBytes}
 use Rattle.struct_copies_sound.proofs.Texts.{contents, contents_long, content_is}
-use Rattle.struct_copies_sound.proofs.SpelledZeros.{ends_inside}
 use Rattle.transfer_exact.specs.Values.SingleRows.{IsPlainProgram, ExactLeaf}
 use Rattle.transfer_exact.proofs.places.HeldReads.{inside}
 use Rattle.transfer_exact.proofs.places.OneLeaf.{owned}

@@ -7,50 +7,24 @@ use Rattle.cc_base.specs.Lattices.{LatticeOf}
 use Rattle.cc_base.specs.IntegerDomains.{IntegersOf}
 use Rattle.c_layout.specs.declared.leaf_lists.Leaf.{Leaf}
 use Rattle.c_layout.specs.declared.shapes.BaseInfo.{BaseInfo}
-use Rattle.c_layout.specs.declared.shapes.ZeroPart.{ZeroPart}
-use Rattle.cfg.specs.WellFormed.{base_values, base_cells}
+use Rattle.cfg.specs.WellFormed.{base_values}
 use Rattle.cfg.specs.declared.programs.Flow.{Flow}
 use Rattle.value_domain.specs.declared.values.values.Value as values
 use Rattle.value_domain.specs.declared.values.row_cells.Cell.{Cell}
-use Rattle.value_domain.specs.declared.values.row_cells.Cell.TheVariants.{Value, First}
+use Rattle.value_domain.specs.declared.values.row_cells.Cell.TheVariants.{Value}
 use Rattle.store_cells.specs.NearValues.{near_value}
-use Rattle.store_cells.specs.RowPositions.{leaf_position, zero_position, value_in, value_at}
-use Rattle.store.specs.Spelling.{written_count, is_one_place, is_spelled, one_character, characters, spell_cell, spell_leaf_at, spell_leaf, spell_leaves, first_zero_of, spell_part, spell_zero, spell_object}
+use Rattle.store_cells.specs.RowPositions.{leaf_position, value_in, value_at}
+use Rattle.store.specs.Spelling.{written_count, is_one_place, is_spelled, one_character, spell_cell, spell_leaf_at, spell_leaf, spell_leaves, first_zero_of, spell_zero, spell_object}
 use Rattle.store_cells.specs.Walks.{walk}
-use Rattle.store_sound.proofs.operations.Only.{Only, only_same, only_put, only_cond, cell_put}
-use Rattle.store_sound.proofs.operations.StoreRows.{Fits, leaf_is, join_only}
+use Rattle.store_sound.proofs.operations.Only.{cell_put}
+use Rattle.store_sound.proofs.operations.StoreRows.{Fits, leaf_is}
 use Rattle.store_sound.proofs.operations.StoreValues.{same_value}
-use Rattle.store_sound.specs.Regions.RegionWrites.{WritesWithin}
-use Rattle.store_sound.proofs.regions.Layers.{leaves_within, leaf_turn, zeros_within, layers_within, value_turn}
+use Rattle.store_sound.proofs.regions.Layers.{leaf_turn, value_turn}
+use Rattle.store_sound.proofs.regions.SpelledParts.{leaf_only, zeros_only}
 
 module _ {I : Type 0} (l : LatticeOf I) (n : IntegersOf I) (flow : Flow) (base : BaseInfo) (fits : Fits base) (offset room : ℕ) (text : List ℕ) where
   abbrev count : ℕ
   count = written_count room text
-
-  leaf_only : (j : ℕ) (leaf : Leaf) → Only (leaf_position base j) (leaf_position base j + 1) (spell_leaf l n base offset count text leaf j)
-  unfolding spell_leaf_at spell_cell
-  leaf_only j leaf =
-      let p : ℕ = leaf_position base j in
-      only_cond p (p + 1) (is_spelled leaf offset count) _ (λ row. row)
-      (only_cond p (p + 1) (is_one_place leaf) _ _ (only_put p (p + 1) p (λ row. Value (one_character l n leaf offset text)) (omega arith) (omega arith)) (join_only l n flow.model p (characters l n leaf offset count text)))
-      (only_same p (p + 1))
-
-  leaves_only : Only base.first (base.first + length base.shape.cells) (spell_leaves l n base offset count text)
-  unfolding spell_leaves
-  leaves_only = leaves_within base fits (spell_leaf l n base offset count text) leaf_only
-
-  zero_only : (z : ℕ) (part : ZeroPart) → Only (zero_position base z) (zero_position base z + 1) (spell_part base offset (first_zero_of n room text) part z)
-  zero_only z part =
-      let p : ℕ = zero_position base z in
-      only_cond p (p + 1) _ _ (λ row. row) (only_put p (p + 1) p (λ row. First (first_zero_of n room text)) (omega arith) (omega arith)) (only_same p (p + 1))
-
-  zeros_only : Only (base.first + base_cells base) ((base.first + base_cells base) + length base.shape.zeros) (spell_zero base offset (first_zero_of n room text))
-  unfolding spell_zero
-  zeros_only = zeros_within base fits (spell_part base offset (first_zero_of n room text)) zero_only
-
-  pub spelled_within : WritesWithin base.first (base.first + base_values base) (spell_object l n offset room text base)
-  unfolding spell_object
-  spelled_within = layers_within base (spell_leaves l n base offset count text) (λ row. row) (spell_zero base offset (first_zero_of n room text)) leaves_only (only_same _ _) zeros_only
 
   module _ (row : List (Cell I)) (long : base.first + base_values base ≤ length row) (j : ℕ) (leaf : Leaf) (among : slice_get base.shape.cells j ≡ Some leaf) (one : leaf.count ≡ 1) where
     turn_is : (r : List (Cell I)) → length r ≡ length row → (before : values.Value I) → value_at l n r (leaf_position base j) ≡ before → (spelled : Bool) → is_spelled leaf offset count ≡ spelled → value_at l n (spell_leaf l n base offset count text leaf j r) (leaf_position base j) ≡ cond spelled (near_value l n (one_character l n leaf offset text)) before
@@ -68,7 +42,7 @@ module _ {I : Type 0} (l : LatticeOf I) (n : IntegersOf I) (flow : Flow) (base :
         let top = slice_get_within base.shape.cells j leaf among in
         let here = leaf_is base j fits top in
         let rest : List (Cell I) = walk (spell_leaf l n base offset count text) 0 base.shape.cells row in
-        same_value l n rest (spell_zero base offset (first_zero_of n room text) rest) (leaf_position base j) (zeros_only.keeps rest (leaf_position base j) (λ g h. omega (arith, g, here, top)))
+        same_value l n rest (spell_zero base offset (first_zero_of n room text) rest) (leaf_position base j) ((zeros_only l n flow base fits offset room text).keeps rest (leaf_position base j) (λ g h. omega (arith, g, here, top)))
         ∙ value_turn l n (λ v. v ≡ value_at l n row (leaf_position base j)) (λ v. v ≡ cond spelled (near_value l n (one_character l n leaf offset text)) (value_at l n row (leaf_position base j))) (leaf_position base j) (spell_leaf l n base offset count text leaf j) row rest
-        (leaf_turn base fits (spell_leaf l n base offset count text) leaf_only j leaf among row)
+        (leaf_turn base fits (spell_leaf l n base offset count text) (leaf_only l n flow base fits offset room text) j leaf among row)
         (λ r same e. turn_is r same (value_at l n row (leaf_position base j)) e spelled f) refl

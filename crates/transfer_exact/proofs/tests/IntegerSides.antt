@@ -27,12 +27,12 @@ use Rattle.memory_model.specs.Memory.Instances.{Memory, bytes_at, byte_at}
 use Rattle.memory_model.specs.Memory.Labels.{Labels, no_labels, labels_join, is_unlabelled, dropped_labels}
 use Rattle.memory_model.specs.Memory.ScalarSizes.{class_bytes}
 use Rattle.memory_model.specs.Memory.Scalars.{Scalar}
-use Rattle.memory_model.specs.Effects.Tests.{TestedSide, object, constant, scalar_size, object_bytes, labels_of, joined, side_labels, bounded}
+use Rattle.memory_model.specs.Effects.Tests.{TestedSide, object, scalar_size, object_bytes, labels_of, joined, side_labels}
 use Rattle.store_sound.specs.Concretization.Matching.{number_in}
 use Rattle.store_sound.specs.Concretization.RowMeaning.{MachineState}
 use Rattle.store_sound.specs.Concretization.SeenLabels.{as_set}
 use Rattle.store_sound.specs.Concretization.ValueMeaning.{Naming}
-use Rattle.store_sound.proofs.operations.Classes.{class_size}
+use Rattle.store_sound.proofs.operations.Classes.{class_size, size_above}
 use Rattle.store_sound.proofs.operations.Slices.{get_there, get_take}
 use Rattle.store_sound.specs.Programs.Premises.{HasPremises}
 use Rattle.transfer_sound.proofs.values.TypeRanges.{le_from}
@@ -81,13 +81,6 @@ joined_all la b (c ∷ bytes) h = ap (λ z. labels_join z (joined (c ∷ bytes))
 joined_some : (la : Labels) (bytes : List Byte) → 0 < length bytes → ((k : ℕ) (x : Byte) → slice_get bytes k ≡ Some x → labels_of x.content ≡ la) → joined bytes ≡ la
 joined_some la [] some h = absurd (omega (arith, some))
 joined_some la (b ∷ bytes) some h = joined_all la b bytes h
-
-size_above : (n : ℕ) → is_size n ≡ true → 0 < n
-size_above zero h = cc
-size_above (suc n) h = omega arith
-
-pub bounded_constant : (m : _) (rel : Rel) (k : IntType) (z : ℤ) (other : Labels) (memory : Memory) → bounded m rel k (constant z) other memory ≡ memory
-bounded_constant m rel k z other memory = elim (cases_Bool (is_unlabelled other)) [ inl e ↦ rw e refl | inr e ↦ rw e refl ]
 
 -- ---- numbers
 

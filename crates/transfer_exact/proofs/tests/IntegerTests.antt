@@ -47,8 +47,7 @@ use Rattle.transfer_exact.specs.Values.SingleNumbers.{IsOne}
 use Rattle.transfer_exact.specs.Values.SingleRows.{ExactState}
 use Rattle.transfer_exact.specs.Values.SingleSteps.{IsDefined, ExactAfter, IsExact}
 use Rattle.transfer_exact.proofs.values.NearExact.{near_one}
-use Rattle.transfer_exact.proofs.values.Told.{if_some_told}
-use Rattle.transfer_exact.proofs.values.Violated.{none_violated}
+use Rattle.transfer_exact.proofs.values.Told.{if_some_told, clean_goes_told}
 use Rattle.transfer_exact.proofs.edges.CaseTests.{met_one}
 use Rattle.transfer_exact.proofs.tests.IntegerSides.{labels_exact, refined_one, object_tells}
 use Rattle.transfer_exact.proofs.edges.RelabelledObjects.{IsNumberHeld, relabelled_tells}
@@ -106,16 +105,9 @@ module _ {I : Type 0} {l : LatticeOf I} {n : IntegersOf I} {gamma : I → ℤ �
 
   passing_told : (goal : Option (List (Cell I))) (after : Memory) (b : Bool) → (b ≡ true → ExactAfter l n flow goal (record s { world = with_memory s.world after })) → IsDefined (in_world s (passing b (with_memory s.world after))) → IsExact l n flow goal no_violations (in_world s (passing b (with_memory s.world after)))
   passing_told goal after false h d = absurd (d (with_memory s.world after) refl)
-  passing_told goal after true h d = record {
-    goes_on = λ y u f.
-        let new : World = with_memory s.world after in
-        let now : ProgramState = record s { world = new } in
-        let a : now ≡ y = cc in
-        let g : new ≡ u = cc in
-        subst (λ z. ExactAfter l n flow goal (record z { world = u })) a (subst (λ z. ExactAfter l n flow goal (record now { world = z })) g (h refl));
-    ends = λ why u f. cc;
-    violated = none_violated s.world.violated;
-  }
+  passing_told goal after true h d = let new : World = with_memory s.world after in
+      let now : ProgramState = record s { world = new } in
+      clean_goes_told l n flow _ now new (h refl)
 
   side_told : (goal : Option (List (Cell I))) (x : Side) → NamesScalar flow x → (use_it : TestedSide → Reply ProgramState) → IsDefined (with_side s x use_it) → ((i : ℕ) → IsSeen flow s.bases x i → IsDefined (use_it (tested x i)) → IsExact l n flow goal no_violations (use_it (tested x i))) → IsExact l n flow goal no_violations (with_side s x use_it)
   side_told goal (side.Object b kind) t use_it d h = if_some_told l n flow goal no_violations s (s.bases b) (λ i. use_it (object i kind)) d (λ i e d. h i (t, e) d)

@@ -32,10 +32,10 @@ use Rattle.store_sound.proofs.operations.StoreRows.{leaf_is}
 use Rattle.store_sound.specs.Programs.Premises.{HasPremises}
 use Rattle.transfer_sound.specs.Tests.ScalarObjects.{IsScalarObject}
 use Rattle.transfer_sound.proofs.tests.Relabelling.{IsRelabelling, side_change, bounded_relabels}
-use Rattle.transfer_sound.proofs.tests.TestSides.{tested, IsSeen}
+use Rattle.transfer_sound.proofs.tests.TestSides.{tested, IsSeen, bounded_constant}
 use Rattle.transfer_exact.specs.Values.SingleNumbers.{IsOne}
 use Rattle.transfer_exact.specs.Values.SingleRows.{ExactState}
-use Rattle.transfer_exact.proofs.tests.IntegerSides.{labels_exact, bounded_constant}
+use Rattle.transfer_exact.proofs.tests.IntegerSides.{labels_exact}
 use Rattle.transfer_exact.proofs.edges.RelabelledObjects.{IsNumberHeld, number_held, relabelled_tells}
 
 bounded_nothing : (m : _) (rel : Rel) (k : IntType) (other : Labels) (memory : Memory) → bounded m rel k nothing other memory ≡ memory

@@ -7,6 +7,7 @@ use Rattle.cfg.specs.declared.programs.Flow.{Flow}
 use Rattle.value_domain.specs.declared.values.values.Value.{Value}
 use Rattle.value_domain.specs.declared.values.row_cells.Cell.{Cell}
 use Rattle.transfer_checks.specs.declared.violation_sets.Violations.{Violations}
+use Rattle.transfer_checks.specs.ViolationSets.{no_violations}
 use Rattle.transfer_checks.specs.Temporaries.{put_temp}
 use Rattle.memory_model.specs.Memory.Labels.{Labels}
 use Rattle.memory_model.specs.Memory.Bytes.{MachinePointer}
@@ -22,7 +23,7 @@ use Rattle.store_sound.specs.Programs.Premises.{HasPremises}
 use Rattle.transfer_sound.specs.Values.SoundSteps.{IsReached}
 use Rattle.transfer_exact.specs.Values.SingleRows.{ExactState}
 use Rattle.transfer_exact.specs.Values.SingleSteps.{IsDefined, ExactAfter, IsExact}
-use Rattle.transfer_exact.proofs.values.Violated.{AreViolated}
+use Rattle.transfer_exact.proofs.values.Violated.{AreViolated, none_violated}
 use Rattle.transfer_exact.proofs.values.PutExact.{IsExactResult, put_tells}
 
 module _ {I : Type 0} (l : LatticeOf I) (n : IntegersOf I) (flow : Flow) (after : Option (List (Cell I))) (admitted : Violations) where
@@ -32,6 +33,17 @@ module _ {I : Type 0} (l : LatticeOf I) (n : IntegersOf I) (flow : Flow) (after 
   -- where the run stops there is no row
   pub stop_told : (why : Why) (w : World) → after ≡ None → AreViolated admitted w.violated → Told (stops why w)
   stop_told why w e h = record { goes_on = λ s u f. cc; ends = λ y u f. e; violated = h }
+
+  -- the run goes on, and the row behind tells its state
+  pub goes_told : (s : ProgramState) (w : World) → AreViolated admitted w.violated → ExactAfter l n flow after (record s { world = w }) → Told (goes s w)
+  goes_told s w h here = record {
+    goes_on = λ t u e.
+        let a : s ≡ t = cc in
+        let b : w ≡ u = cc in
+        subst (λ z. ExactAfter l n flow after (record z { world = u })) a (subst (λ z. ExactAfter l n flow after (record s { world = z })) b here);
+    ends = λ why u e. cc;
+    violated = h;
+  }
 
   pub if_some_told : {A : Type 0} (s : ProgramState) (o : Option A) (use_it : A → Reply ProgramState) → IsDefined (if_some s o use_it) → ((x : A) → o ≡ Some x → IsDefined (use_it x) → Told (use_it x)) → Told (if_some s o use_it)
   if_some_told s None use_it d h = absurd (d s.world refl)
@@ -62,12 +74,10 @@ module _ {I : Type 0} {l : LatticeOf I} {n : IntegersOf I} {gamma : I → ℤ �
 
     -- the run goes on behind the instruction, with its result in a temporary
     pub result_told : (after : Option (List (Cell I))) (admitted : Violations) → after ≡ Some (put_temp flow row to x) → AreViolated admitted w.violated → IsExact l n flow after admitted (giving s to (goes v w))
-    result_told after admitted is h = record {
-      goes_on = λ t u e.
-          let a : standing_behind to v w ≡ t = cc in
-          let b : w ≡ u = cc in
-          subst (λ z. ExactAfter l n flow after (record z { world = u })) a
-          (subst (λ z. ExactAfter l n flow after (record (standing_behind to v w) { world = z })) b (given_behind after is));
-      ends = λ why u e. cc;
-      violated = h;
-    }
+    result_told after admitted is h = goes_told l n flow after admitted (standing_behind to v w) w h (given_behind after is)
+
+-- ---- steps that violate nothing
+
+module _ {I : Type 0} (l : LatticeOf I) (n : IntegersOf I) (flow : Flow) (after : Option (List (Cell I))) where
+  pub clean_goes_told : (s : ProgramState) (w : World) → ExactAfter l n flow after (record s { world = w }) → IsExact l n flow after no_violations (goes s w)
+  clean_goes_told s w here = goes_told l n flow after no_violations s w (none_violated w.violated) here

@@ -3,7 +3,8 @@ use Rattle.std.proofs.Common.{◌≡◌, ℕ, ◌<◌, ◌^◌, ◌-◌, Bool, t
 use Rattle.std.specs.Prelude.{ℤ, pos, negsuc, ◌≤ℤ◌, int_le}
 use Rattle.std.specs.Ordering.{int_eq}
 use Rattle.std.proofs.lemmas.Int.{ints}
-use Rattle.std.proofs.lemmas.Bool.{cases_Bool, and_parts, or_left, or_right, ltb-true, true≢false, lt-ltb}
+use Rattle.std.proofs.lemmas.Bool.{cases_Bool, and_parts, or_left, or_right, ltb-true, true≢false}
+use Rattle.std.proofs.Math.Bool.{and_self}
 use lib.Signed.{≤ℤ_refl}
 use Rattle.cc_base.specs.Lattices.{LatticeOf}
 use Rattle.cc_base.specs.IntegerTypes.{is_size, in_type, wrap_into, least_of, greatest_of}
@@ -20,7 +21,6 @@ use Rattle.cc_base.specs.declared.integer_operators.Rel.TheVariants.{Ne}
 use Rattle.cc_base.specs.declared.integer_operators.Tri.{Tri}
 use Rattle.cc_base.specs.declared.integer_operators.Tri.TheVariants.{Yes, Never}
 use Rattle.cc_base.specs.declared.integer_operators.UnOp.{UnOp}
-use Rattle.cc_base.specs.declared.integer_operators.UnOp.TheVariants.{Neg, Compl}
 use Rattle.interval_domain.specs.Intervals.IntervalNumbers.{by_size}
 use Rattle.cfg.specs.ModelKinds.{is_int_type}
 use Rattle.cfg.specs.WellFormed.{names_of, is_number, is_scalar, has_temp, has_amount, fits_operation}
@@ -31,8 +31,7 @@ use Rattle.cfg.specs.declared.machine_instructions.Scalar.TheVariants as of
 use Rattle.cfg.specs.declared.machine_instructions.Operation.{Operation}
 use Rattle.cfg.specs.declared.machine_instructions.Operation.TheVariants as op
 use Rattle.cfg.specs.declared.programs.Flow.{Flow}
-use Rattle.pointer_domain.specs.BaseSets.{no_base, bases_has, bases_empty}
-use Rattle.pointer_domain.specs.BaseFacts.{with_has_same}
+use Rattle.pointer_domain.specs.BaseSets.{bases_empty}
 use Rattle.pointer_domain.specs.PointerTables.{is_any}
 use Rattle.pointer_domain.specs.declared.pointer_sets.Pointers.{Pointers}
 use Rattle.value_domain.specs.declared.values.values.Value.{Value}
@@ -42,7 +41,7 @@ use Rattle.value_domain.specs.declared.values.label_sets.Labels.{Labels as SetLa
 use Rattle.value_domain.specs.Values.ValueTables.{number_value, pointer_value, truth_value, value_arith, value_unary, value_convert, value_truth, ranges_leave, negated_leave, range_fits}
 use Rattle.domain_theorems.proofs.values.EqualityStands.{has_some}
 use Rattle.store_cells.specs.ByteWrites.{null_pointer}
-use Rattle.store_objects.specs.LiveBases.{most_bases, only_base}
+use Rattle.store_objects.specs.LiveBases.{only_base}
 use Rattle.transfer_checks.specs.IntegerChecks.{unary_violations, binary_violations, ranges_violate, overflow_violations}
 use Rattle.transfer_checks.specs.Temporaries.{temp_value, amount_value, put_temp}
 use Rattle.transfer_checks.specs.ViolationSets.{no_violations}
@@ -69,12 +68,14 @@ use Rattle.store_sound.specs.Concretization.SoundMemory.{IsPointerIn, IsScalarIn
 use Rattle.store_sound.specs.Concretization.Coverage.{state_of}
 use Rattle.store_sound.specs.Operations.Scalars.{IsOfKind}
 use Rattle.store_sound.specs.Programs.Premises.{HasPremises}
+use Rattle.store_sound.proofs.operations.Sets.{only_has}
 use Rattle.transfer_sound.specs.Values.OperandTypes.{HasNumberOf, HasKind, HasOperands}
 use Rattle.transfer_sound.specs.Values.SoundSteps.{IsReached}
-use Rattle.transfer_sound.proofs.values.BinarySteps.{same_operated}
+use Rattle.transfer_sound.proofs.values.BinarySteps.{same_operated, left_is}
 use Rattle.transfer_sound.proofs.values.NearScalars.{IsNearNumber}
 use Rattle.transfer_sound.proofs.values.TypeRanges.{type_near}
 use Rattle.transfer_sound.proofs.values.ResultRows.{truth_near}
+use Rattle.transfer_sound.proofs.values.ValueSteps.{is_near, same_negated, size_of, negation_is}
 use Rattle.transfer_exact.specs.Values.SingleNumbers.{IsOne, IsNone}
 use Rattle.transfer_exact.specs.Values.ExactNumbers.{FitsRight, truth_of, IsResult, ExactLaws}
 use Rattle.transfer_exact.specs.Values.SingleValues.{ExactByLife, ExactPointer, ExactNumber, ExactPointing, ExactScalar}
@@ -85,27 +86,7 @@ use Rattle.transfer_exact.proofs.values.NearExact.{near_one}
 use Rattle.transfer_exact.proofs.values.PutExact.{IsExactResult}
 use Rattle.transfer_exact.proofs.values.Violated.{AreViolated, none_violated, behind_violated}
 use Rattle.transfer_exact.proofs.values.Told.{stop_told, if_some_told, number_told, result_told}
-use Rattle.transfer_exact.proofs.values.Faults.{and_self, left_is, negation_is, faults_violated, unary_violated}
-
-same_negated : (o : UnOp) (s : Labels) (k : IntType) (leaves : Bool) → as_set (negated_labels o s k leaves) ≡ set.negated_labels o (as_set s) k leaves
-same_negated Neg s k leaves = refl
-same_negated Compl s k leaves = refl
-
-is_near : (z : ℤ) → is_number z ≡ true → IsNearNumber z
-is_near z h =
-    let p = and_parts (int_le (negsuc (2 ^ 63 - 1)) z) (int_le z (pos (2 ^ 64 - 1))) h in
-    let f = low z p.0 in
-    let g = high z p.1 in
-    record { from = omega (arith, ints, f); to = omega (arith, ints, g) }
-  where
-    low : (z : ℤ) → int_le (negsuc (2 ^ 63 - 1)) z ≡ true → negsuc (2 ^ 63 - 1) ≤ℤ z
-    low z h = grind (arith, ints)
-
-    high : (z : ℤ) → int_le z (pos (2 ^ 64 - 1)) ≡ true → z ≤ℤ pos (2 ^ 64 - 1)
-    high z h = grind (arith, ints)
-
-size_of : (f : Flow) (k : IntType) → is_int_type f.model k ≡ true → is_size k.bytes ≡ true
-size_of f k h = (and_parts (is_size k.bytes) _ h).0
+use Rattle.transfer_exact.proofs.values.Faults.{faults_violated, unary_violated}
 
 -- 1 is a number of each type
 one_in : (k : IntType) → is_size k.bytes ≡ true → in_type k (pos 1) ≡ true
@@ -133,9 +114,6 @@ one_fits Shr k size = tt
 pub negated_truth : (b : Bool) → negated (truth_of b) ≡ truth_of (not b)
 negated_truth true = refl
 negated_truth false = refl
-
-pub only_has : (b : ℕ) → b < most_bases → bases_has (only_base b) b ≡ true
-only_has b h = rw (lt-ltb b most_bases h) (with_has_same no_base b)
 
 module _ {I : Type 0} (l : LatticeOf I) (n : IntegersOf I) (entered : ℕ → Option ℕ) (memory : Memory) where
   pub tells_number : (x : I) (labels : SetLabels) (z : ℤ) (la : Labels) → IsOne n x z → labels ≡ as_set la → ExactNumber n entered memory (number_value l x labels) z la

@@ -49,12 +49,12 @@ use Rattle.store_sound.proofs.operations.LoadSound.{instance_there}
 use Rattle.store_sound.proofs.operations.Only.{cell_put}
 use Rattle.store_sound.proofs.operations.Slices.{get_take, get_drop, get_set_other}
 use Rattle.store_sound.proofs.operations.StoreRows.{leaf_is, zero_is}
+use Rattle.store_sound.proofs.operations.Reading.{nil_unsigned}
 use Rattle.store_sound.specs.Programs.Premises.{HasPremises}
-use Rattle.transfer_sound.specs.Values.SoundSteps.{IsReached, InGammaAfter, StepIsSound}
-use Rattle.transfer_sound.proofs.values.Admitted.{none_admitted, same_admitted}
+use Rattle.transfer_sound.specs.Values.SoundSteps.{IsReached, StepIsSound}
 use Rattle.transfer_sound.proofs.values.NearScalars.{near_number_stands}
 use Rattle.transfer_sound.proofs.values.PartSteps.{declared_storage}
-use Rattle.transfer_sound.proofs.values.Replies.{if_some_good}
+use Rattle.transfer_sound.proofs.values.Replies.{if_some_good, clean_goes_good}
 use Rattle.transfer_sound.specs.Clear.ClearSteps.{IsClear}
 use Rattle.transfer_sound.proofs.clear.FullParts.{IsFull, parts_full}
 use Rattle.transfer_sound.proofs.objects.Rewrites.{rewrite_sane}
@@ -66,10 +66,6 @@ use Rattle.transfer_sound.proofs.objects.WholeObjects.{automatic_declared, autom
 
 abbrev nil : Content
 nil = number 0 no_labels
-
-nil_unsigned : (ns : List Labelled) → ((k : ℕ) (x : Labelled) → slice_get ns k ≡ Some x → x.number ≡ 0) → unsigned_of ns ≡ 0
-nil_unsigned [] h = refl
-nil_unsigned (x ∷ xs) h = let a = h 0 x refl in let b = nil_unsigned xs (λ k y e. h (suc k) y e) in omega (arith, a, b)
 
 pow_some : (n : ℕ) → 0 < 2 ^ n
 pow_some zero = omega arith
@@ -254,23 +250,16 @@ module _ {I : Type 0} {l : LatticeOf I} {n : IntegersOf I} {gamma : I → ℤ �
       let info : BaseInfo = k.0 in
       let declared : info.shape.heap ≡ false = sym (p.shaped.each b info k.1).kind ∙ declared_storage info.kind (automatic_storage info.kind k.2) in
       let full = parts_full limits flow good b info k.1 declared in
-      if_some_good l n gamma flow _ no_violations s r.begun (s.bases b) _ (λ i e. record {
-        goes_on = λ t u f.
-            let w : World = cleared i s.world in
-            let now : ProgramState = record s { at = suc s.at; world = w } in
-            let a : now ≡ t = cc in
-            let c : w ≡ u = cc in
-            let here : InGammaAfter l n gamma flow (Some (at_base (clear_object l n) (slice_get flow.bases.items b) row)) (record now { world = w }) = record {
-              row = clear_object l n info row;
-              is = ap (λ z. Some (at_base (clear_object l n) z row)) k.1;
-              long = sym (ap (λ z. length (at_base (clear_object l n) z row)) k.1) ∙ (clear_length b ∙ r.long);
-              naming = naming;
-              stands_for = cleared_stands q flow p naming row s r b i info k.1 e declared (automatic_declared info.kind k.2) full;
-              short = still_short q flow p naming row s r b i info k.1 e declared (automatic_declared info.kind k.2) nil;
-            } in
-            subst (λ z. InGammaAfter l n gamma flow (Some (at_base (clear_object l n) (slice_get flow.bases.items b) row)) (record z { world = u })) a (subst (λ z. InGammaAfter l n gamma flow (Some (at_base (clear_object l n) (slice_get flow.bases.items b) row)) (record now { world = z })) c here);
-        admits = same_admitted no_violations s.world.violated [] r.begun (none_admitted no_violations);
-      })
+      if_some_good l n gamma flow _ no_violations s r.begun (s.bases b) _ (λ i e. let w : World = cleared i s.world in
+      let now : ProgramState = record s { at = suc s.at; world = w } in
+      clean_goes_good l n gamma flow _ _ now w r.begun (record {
+        row = clear_object l n info row;
+        is = ap (λ z. Some (at_base (clear_object l n) z row)) k.1;
+        long = sym (ap (λ z. length (at_base (clear_object l n) z row)) k.1) ∙ (clear_length b ∙ r.long);
+        naming = naming;
+        stands_for = cleared_stands q flow p naming row s r b i info k.1 e declared (automatic_declared info.kind k.2) full;
+        short = still_short q flow p naming row s r b i info k.1 e declared (automatic_declared info.kind k.2) nil;
+      }))
     where
       clear_length : (b : ℕ) → length (at_base (clear_object l n) (slice_get flow.bases.items b) row) ≡ length row
       clear_length b = clear_keeps l n flow.bases.items b row

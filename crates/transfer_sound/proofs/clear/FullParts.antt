@@ -1,7 +1,7 @@
 -- The arrays of first zeros in an object have bytes, and lie within it.
 use Rattle.std.proofs.Common.{◌≡◌, ℕ, zero, suc, ◌+◌, ◌-◌, ◌<◌, ◌≤◌, true, false, not, cond, ◌&&◌, Some, List, [], ◌∷◌, arith, subst, sym, refl, ◌∙◌, inl, inr}
 use Rattle.std.specs.Prelude.{slice_get, ◌==◌, nat_lt, nat_le}
-use Rattle.std.proofs.lemmas.Bool.{cases_Bool, and_parts, leb-true, true≢false}
+use Rattle.std.proofs.lemmas.Bool.{cases_Bool, and_parts, true≢false}
 use Rattle.std.proofs.lemmas.Option.{same_Some}
 use Rattle.cc_base.specs.declared.limit_table.Limits.{Limits}
 use Rattle.c_layout.specs.declared.leaf_lists.Class.TheVariants.{Char}
@@ -14,15 +14,8 @@ use Rattle.cfg.specs.BaseShapes.{is_extent, ends_by, part_size, are_leaves, are_
 use Rattle.cfg.specs.WellFormed.{is_well_formed}
 use Rattle.cfg.specs.declared.programs.Flow.{Flow}
 use Rattle.store_sound.proofs.programs.CountedBytes.{each_even}
-use Rattle.store_sound.proofs.programs.ShapedBases.{all_at}
+use Rattle.store_sound.proofs.programs.ShapedBases.{all_at, ends_inside}
 use Rattle.store_sound.proofs.programs.WellFormedPremises.{well_formed_good}
-
-ends_inside : (at size limit : ℕ) → ends_by at size limit ≡ true → at + size ≤ limit
-ends_inside at size limit h =
-    let a = and_parts (nat_le at limit) (nat_le size (limit - at)) h in
-    let b = leb-true at limit a.0 in
-    let c = leb-true size (limit - at) a.1 in
-    omega (arith, b, c)
 
 part_inside : (room from : ℕ) (ps : List ZeroPart) → are_parts room from ps ≡ true → (z : ℕ) (part : ZeroPart) → slice_get ps z ≡ Some part → part.offset + part_size part ≤ room
 part_inside room from [] h z part e = cc

@@ -48,12 +48,13 @@ use Rattle.transfer_sound.specs.Values.SoundSteps.{IsReached, InGammaAfter, IsSt
 use Rattle.transfer_sound.proofs.values.Admitted.{AreAdmitted, none_admitted, same_admitted}
 use Rattle.transfer_sound.proofs.values.PutTemps.{IsResult, put_stands, put_long}
 use Rattle.transfer_sound.proofs.values.Truths.{true_holds, false_fails}
-use Rattle.transfer_sound.proofs.values.TypeRanges.{le_told, le_from}
+use Rattle.transfer_sound.proofs.values.TypeRanges.{le_told, le_from, same_int}
 use Rattle.transfer_sound.proofs.values.NearScalars.{IsNearNumber}
 use Rattle.transfer_sound.specs.Induction.SoundEnds.{EdgeBehind, EndIsSound}
 use Rattle.transfer_sound.proofs.induction.Blocks.{IsBlock, block_facts}
 use Rattle.transfer_sound.specs.Edges.EdgeSteps.{IsPlainEnd, TestIsSound, CaseIsSound, KindIsSound, TestsAreSound}
 use Rattle.transfer_sound.proofs.edges.TakenEdges.{FitsLead, body_led, HasLast, has_last, IsTakenEdge, taken_edge}
+use Rattle.transfer_sound.proofs.values.Replies.{goes_good, clean_goes_good}
 
 -- ---- numbers
 
@@ -67,9 +68,6 @@ is_near z h =
 range_includes : (r : Range) (z : ℤ) → RangeHas r z → includes r z ≡ true
 range_includes None z h = absurd h
 range_includes (Some p) z h = and_from _ _ (le_told p.0 z h.0) (le_told z p.1 h.1)
-
-same_int : (a b : ℤ) → int_eq a b ≡ true → a ≡ b
-same_int a b h = (Decides-int_eq a b).0 h
 
 turned : (a b : ℤ) → int_eq a b ≡ true → int_eq b a ≡ true
 turned a b h = (Decides-int_eq b a).1 (sym (same_int a b h))
@@ -99,6 +97,14 @@ other_range (Some p) z la labels h e = elim (cases_Bool (int_eq p.0 p.1)) [
       | inl f ↦ absurd (true≢false (sym (among_label z la labels (subst (λ y. has_label labels y ≡ true) k f)) ∙ e))
     ]
 
+-- each edge of a well-formed program names what is there
+pub edge_fits : (limits : Limits) (flow : Flow) → is_well_formed limits flow ≡ true → (number : ℕ) (e : Edge) → slice_get flow.edges.items number ≡ Some e → fits_edge (names_of flow) e.kind ≡ true
+edge_fits limits flow good number e at =
+    let a = and_parts (nat_lt 0 (length flow.blocks.items)) _ good in
+    let b = and_parts (are_blocks (names_of flow) (length flow.blocks.items) flow.edges.items 0 0 flow.blocks.items flow.edges.items) _ a.1 in
+    let d = and_parts (list_all (λ (e : Edge). fits_edge (names_of flow) e.kind) flow.edges.items) _ b.1 in
+    all_at (λ (z : Edge). fits_edge (names_of flow) z.kind) flow.edges.items number e d.0 at
+
 module _ {I : Type 0} {l : LatticeOf I} {n : IntegersOf I} {gamma : I → ℤ → Type 0} (q : BoundLaws l n gamma) (c : SoundLaws l n gamma) (flow : Flow) (p : HasPremises flow) where
   abbrev f : FlowView
   f = flow_view flow
@@ -123,30 +129,16 @@ module _ {I : Type 0} {l : LatticeOf I} {n : IntegersOf I} {gamma : I → ℤ �
       }
 
   kept_good : (kept : Option (ℕ × ℤ)) → fits_taken (names_of flow) kept ≡ true → (after : Option (List (Cell I))) (reply : Reply ProgramState) → IsStoodFor l n gamma flow after no_violations reply → IsStoodFor l n gamma flow (kept_behind l n flow kept after) no_violations (behind reply (λ t w. goes (with_put kept t) w))
-  kept_good kept fits after (goes t w) h = record {
-    goes_on = λ s u e.
-        let a : with_put kept t ≡ s = cc in
-        let b : w ≡ u = cc in
-        subst (λ z. InGammaAfter l n gamma flow (kept_behind l n flow kept after) (record z { world = u })) a
-        (subst (λ z. InGammaAfter l n gamma flow (kept_behind l n flow kept after) (record (with_put kept t) { world = z })) b (put_behind kept fits after t w (h.goes_on t w refl)));
-    admits = h.admits;
-  }
+  kept_good kept fits after (goes t w) h = goes_good l n gamma flow _ _ (with_put kept t) w h.admits (put_behind kept fits after t w (h.goes_on t w refl))
   kept_good kept fits after (stops why w) h = record { goes_on = λ s u e. cc; admits = h.admits }
 
   module _ (naming : Naming) (row : List (Cell I)) (s : ProgramState) (r : IsReached l n gamma flow naming row s) where
     here_good : IsStoodFor l n gamma flow (Some row) no_violations (goes s s.world)
-    here_good = record {
-      goes_on = λ t u e.
-          let a : s ≡ t = cc in
-          let b : s.world ≡ u = cc in
-          let here : InGammaAfter l n gamma flow (Some row) (record s { world = s.world }) = record { row = row; is = refl; long = r.long; naming = naming; stands_for = r.stands_for; short = r.short } in
-          subst (λ z. InGammaAfter l n gamma flow (Some row) (record z { world = u })) a (subst (λ z. InGammaAfter l n gamma flow (Some row) (record s { world = z })) b here);
-      admits = same_admitted no_violations s.world.violated [] r.begun (none_admitted no_violations);
-    }
+    here_good = clean_goes_good l n gamma flow _ _ s s.world r.begun (record { row = row; is = refl; long = r.long; naming = naming; stands_for = r.stands_for; short = r.short })
 
     -- ---- branches
 
-    test_good : (test : Option Test) → TestIsSound l n gamma flow test → IsStoodFor l n gamma flow (refine_if l n flow test row) no_violations (testing f s test)
+    pub test_good : (test : Option Test) → TestIsSound l n gamma flow test → IsStoodFor l n gamma flow (refine_if l n flow test row) no_violations (testing f s test)
     unfolding refine_if
     test_good None h = here_good
     test_good (Some test) h = h naming row s r
@@ -259,13 +251,6 @@ module _ {I : Type 0} {l : LatticeOf I} {n : IntegersOf I} {gamma : I → ℤ �
       edge_passes : (v : Scalar) → ((e : EdgeView) (x : IsTakenEdge flow s.block v e (leads o)) → IsStoodFor l n gamma flow (follow l n flow row x.it.from x.it.kind) no_violations (on_way f s (way x.it.kind))) → PassesEdge (on_edge f s v)
       edge_passes v h = taken_passes v h (edge_taken v (edges_of f (block_of f s.block))) refl
 
-      pub edge_fits : (number : ℕ) (e : Edge) → slice_get flow.edges.items number ≡ Some e → fits_edge (names_of flow) e.kind ≡ true
-      edge_fits number e at =
-          let a = and_parts (nat_lt 0 (length flow.blocks.items)) _ good in
-          let b = and_parts (are_blocks (names_of flow) (length flow.blocks.items) flow.edges.items 0 0 flow.blocks.items flow.edges.items) _ a.1 in
-          let d = and_parts (list_all (λ (e : Edge). fits_edge (names_of flow) e.kind) flow.edges.items) _ b.1 in
-          all_at (λ (z : Edge). fits_edge (names_of flow) z.kind) flow.edges.items number e d.0 at
-
       decides : (x : ℕ) → x ≡ s.block → deciding_temp flow x ≡ deciding_of (Some (record i { operation = o }))
       decides x e = ap (deciding_temp flow) e ∙ (ap deciding_of last ∙ ap (λ z. deciding_of (Some (record i { operation = z }))) same)
 
@@ -282,7 +267,7 @@ module _ {I : Type 0} {l : LatticeOf I} {n : IntegersOf I} {gamma : I → ℤ �
           by_temp : (v : Option Scalar) → s.temps t ≡ v → EndIsSound l n gamma flow row (op.Branch t scalar) s
           by_temp None e = sound_by (stuck_at s) (ap (λ z. if_some s z (on_edge f s)) e) (stop_passes limits good i last (op.Branch t scalar) same (λ e. cc) refl _ s.world r.begun)
           by_temp (Some v) e = sound_by (on_edge f s v) (ap (λ z. if_some s z (on_edge f s)) e) (edge_passes limits good i last (op.Branch t scalar) same (λ e. cc) refl v (λ view x.
-              branch_way x.it.from t v e (decides limits good i last (op.Branch t scalar) same (λ e. cc) refl x.it.from x.leaves) x.it.kind x.fits (tests x.number x.it x.is) (edge_fits limits good i last (op.Branch t scalar) same (λ e. cc) refl x.number x.it x.is)
+              branch_way x.it.from t v e (decides limits good i last (op.Branch t scalar) same (λ e. cc) refl x.it.from x.leaves) x.it.kind x.fits (tests x.number x.it x.is) (edge_fits limits flow good x.number x.it x.is)
               (subst (λ z. is_taken v z.taken ≡ true) (sym x.same) x.taken)))
 
       switch_passes : (t : ℕ) (k : _) → (same : i.operation ≡ op.Switch t k) → EndIsSound l n gamma flow row (op.Switch t k) s

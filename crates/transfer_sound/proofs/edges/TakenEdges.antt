@@ -1,5 +1,5 @@
 -- The edge that a run takes is one of its block's, and of a kind that fits the instruction that ends the block.
-use Rattle.std.proofs.Common.{◌≡◌, ℕ, zero, suc, ◌+◌, ◌-◌, ◌<◌, Bool, true, false, ◌&&◌, Option, Some, None, List, [], ◌∷◌, length, take, drop, arith, subst, sym, refl, ap, ◌∙◌, inl, inr, ◌⊎◌}
+use Rattle.std.proofs.Common.{◌≡◌, ℕ, zero, suc, ◌+◌, ◌-◌, ◌<◌, Bool, true, false, ◌&&◌, Option, Some, None, List, [], ◌∷◌, length, take, drop, arith, subst, sym, refl, ap, ◌∙◌, inl, inr}
 use Rattle.std.specs.Prelude.{slice_get, map, ◌==◌, nat_lt}
 use Rattle.std.proofs.lemmas.Bool.{cases_Bool, and_parts, eqb-true, true≢false}
 use Rattle.cfg.specs.WellFormed.{Leads, On, Away, Once, TwoWays, ByCases, ByLine, leads, are_led, are_cases, is_case, is_other, is_jump, is_when, is_no_line, is_line, is_body}
@@ -16,7 +16,7 @@ use Rattle.semantics.specs.CfgMachine.FlowSteps.{block_or, block_of}
 use Rattle.memory_model.specs.Memory.Scalars.{Scalar}
 use Rattle.store_sound.proofs.operations.Slices.{get_map, get_take, get_drop}
 use Rattle.store_sound.proofs.programs.ShapedBases.{all_at}
-use Rattle.transfer_sound.proofs.induction.Blocks.{IsBlock}
+use Rattle.transfer_sound.proofs.induction.Blocks.{IsBlock, leads_cases}
 
 -- ---- kinds
 
@@ -122,14 +122,6 @@ body_off ByCases [] es n h = h
 body_off ByCases (i ∷ is) es n h = absurd (true≢false (sym h))
 body_off ByLine [] es n h = h
 body_off ByLine (i ∷ is) es n h = absurd (true≢false (sym h))
-
-leads_cases : (x : Leads) → (x ≡ On) ⊎ (x ≡ On → ⊥)
-leads_cases On = inl refl
-leads_cases Away = inr (λ e. cc)
-leads_cases Once = inr (λ e. cc)
-leads_cases TwoWays = inr (λ e. cc)
-leads_cases ByCases = inr (λ e. cc)
-leads_cases ByLine = inr (λ e. cc)
 
 off_is_last : (x : Leads) (is : List Instruction) (es : List Edge) (k : ℕ) (i : Instruction) → (x ≡ On → ⊥) → is_body x is es ≡ true → slice_get is k ≡ Some i → ⊥
 off_is_last On is es k i n h e = n refl

@@ -52,12 +52,12 @@ use Rattle.store_sound.proofs.operations.Classes.{class_above}
 use Rattle.store_sound.proofs.operations.Slices.{get_there}
 use Rattle.store_sound.proofs.operations.StoreRows.{leaf_is, class_is, zero_is}
 use Rattle.store_sound.proofs.operations.StoreValues.{same_value, same_zero, same_state}
+use Rattle.store_sound.proofs.operations.StoreLeaves.{live_ended}
 use Rattle.store_sound.specs.Programs.Premises.{HasPremises}
 use Rattle.transfer_sound.specs.Values.SoundSteps.{AreShort, IsReached, InGammaAfter, IsStoodFor, StepIsSound}
-use Rattle.transfer_sound.proofs.values.Admitted.{none_admitted, same_admitted}
 use Rattle.transfer_sound.proofs.values.NearScalars.{near_number_stands}
 use Rattle.transfer_sound.proofs.values.PartSteps.{declared_storage}
-use Rattle.transfer_sound.proofs.values.Replies.{clean_stop_good}
+use Rattle.transfer_sound.proofs.values.Replies.{clean_stop_good, clean_goes_good}
 use Rattle.transfer_sound.proofs.objects.BlankRows as blank
 use Rattle.transfer_sound.proofs.objects.Forgetting.{AreBlank, blank_zero, part_blank}
 use Rattle.transfer_sound.proofs.objects.WholeObjects.{automatic_storage, some_kind}
@@ -72,14 +72,11 @@ is_own_kind Literal h = cc
 is_own_kind Newest h = cc
 is_own_kind Older h = cc
 
-put_own : {A : Type 0} (f : ℕ → Option A) (b : ℕ) (x : A) → put_at f b x b ≡ Some x
+pub put_own : {A : Type 0} (f : ℕ → Option A) (b : ℕ) (x : A) → put_at f b x b ≡ Some x
 put_own f b x = grind arith
 
-put_other : {A : Type 0} (f : ℕ → Option A) (b d : ℕ) (x : A) → (d ≡ b → ⊥) → put_at f b x d ≡ f d
+pub put_other : {A : Type 0} (f : ℕ → Option A) (b d : ℕ) (x : A) → (d ≡ b → ⊥) → put_at f b x d ≡ f d
 put_other f b d x h = grind arith
-
-live_ends : live ≡ ended → ⊥
-live_ends e = cc
 
 module _ {I : Type 0} {l : LatticeOf I} {n : IntegersOf I} {gamma : I → ℤ → Type 0} (q : BoundLaws l n gamma) (flow : Flow) (p : HasPremises flow) (naming : Naming) (row : List (Cell I)) (s : ProgramState) (r : IsReached l n gamma flow naming row s)
     (b : ℕ) (info : BaseInfo) (at : slice_get flow.bases.items b ≡ Some info) (free : s.bases b ≡ None) (declared : info.shape.heap ≡ false) (kind : info.kind ≡ Automatic) where
@@ -116,7 +113,7 @@ module _ {I : Type 0} {l : LatticeOf I} {n : IntegersOf I} {gamma : I → ℤ �
   own_at : (j : ℕ) → IsLiveOf too new b j → j ≡ i
   own_at j h = elim (cases_eq j i) [
     | inl e ↦ e
-    | inr ne ↦ absurd (none j (sym (t.others j ne) ∙ h.named) (λ e. live_ends (sym h.alive ∙ (life_stays w t j ne ∙ e))))
+    | inr ne ↦ absurd (none j (sym (t.others j ne) ∙ h.named) (λ e. live_ended (sym h.alive ∙ (life_stays w t j ne ∙ e))))
   ]
 
   blank_at : (o : ℕ) (x : Byte) → byte_at new i o ≡ Some x → x.content ≡ indeterminate
@@ -346,13 +343,7 @@ module _ {I : Type 0} {l : LatticeOf I} {n : IntegersOf I} {gamma : I → ℤ �
 
     entering_good : (o : Option ℕ) → s.bases b ≡ o → IsStoodFor l n gamma flow behind_it no_violations (entering (flow_view flow) s b o)
     entering_good (Some i) e = clean_stop_good l n gamma flow _ no_violations Stuck s.world r.begun
-    entering_good None e = subst (λ z. IsStoodFor l n gamma flow behind_it no_violations (enter (flow_view flow) s b z)) (sym at) (record {
-      goes_on = λ t u f.
-          let a : now ≡ t = cc in
-          let c : behind_world ≡ u = cc in
-          subst (λ z. InGammaAfter l n gamma flow behind_it (record z { world = u })) a (subst (λ z. InGammaAfter l n gamma flow behind_it (record now { world = z })) c (stands_here e));
-      admits = same_admitted no_violations s.world.violated [] r.begun (none_admitted no_violations);
-    })
+    entering_good None e = subst (λ z. IsStoodFor l n gamma flow behind_it no_violations (enter (flow_view flow) s b z)) (sym at) (clean_goes_good l n gamma flow _ _ now behind_world r.begun (stands_here e))
 
   pub enter_sound : (b : ℕ) → fits_operation (names_of flow) (op.Enter b) ≡ true → StepIsSound l n gamma flow row (op.Enter b) s
   unfolding operate forget operation_violations

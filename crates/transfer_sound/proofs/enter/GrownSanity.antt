@@ -10,12 +10,13 @@ use Rattle.c_layout.specs.declared.shapes.BaseKind.TheVariants.{Automatic, Older
 use Rattle.store_cells.specs.AccessWindows.{last_offset}
 use Rattle.memory_model.specs.Memory.ScalarSizes.{class_bytes}
 use Rattle.memory_model.specs.Memory.Bytes.{indeterminate, Tag, Byte}
-use Rattle.memory_model.specs.Memory.Instances.{automatic, live, ended, freed, Memory, Instance, bytes_of, bytes_at, byte_at, life_of, life_at}
+use Rattle.memory_model.specs.Memory.Instances.{automatic, live, ended, Memory, Instance, bytes_of, bytes_at, byte_at, life_of, life_at}
 use Rattle.memory_model.specs.Memory.Tags.{tag_at}
 use Rattle.memory_model.specs.Effects.ObjectEffects.{blank_bytes, fresh}
 use Rattle.store_sound.specs.Concretization.SoundMemory.{storage_for, IsInstanceOf, IsFreedRightly, IsContentIn, IsContentNamed, IsMemoryOf}
 use Rattle.store_sound.specs.Concretization.ValueMeaning.{Naming}
 use Rattle.store_sound.proofs.operations.TagPlaces.{is_tagged}
+use Rattle.store_sound.proofs.operations.StoreLeaves.{live_freed}
 use Rattle.transfer_sound.proofs.enter.GrownMemory.{IsGrown, NamesToo, life_stays, bytes_stay, byte_stays, content_in_grows, content_named_grows}
 
 -- ---- the bytes of a fresh object
@@ -31,12 +32,6 @@ blank_byte m leaves from (suc n) zero o x h e =
     let d : o ≡ from = omega (arith, h) in
     sym (same_Some (record { content = indeterminate; tag = tag_at m leaves from }) x e) ∙ ap (λ z. record { content = indeterminate; tag = tag_at m leaves z }) (sym d)
 blank_byte m leaves from (suc n) (suc k) o x h e = blank_byte m leaves (suc from) n k o x (omega (arith, h)) e
-
-live_ends : live ≡ ended → ⊥
-live_ends e = cc
-
-live_freed : live ≡ freed → ⊥
-live_freed e = cc
 
 module _ (m : Model) (bases : List BaseInfo) (naming : Naming) (old : Memory) (sane : IsMemoryOf m bases naming old) (b : ℕ) (info : BaseInfo) (at : slice_get bases b ≡ Some info) (kind : info.kind ≡ Automatic)
     (sized : info.size ≤ last_offset) (none : (j : ℕ) → naming j ≡ Some b → (life_at old j ≡ ended → ⊥) → ⊥)

@@ -92,7 +92,7 @@ body_ends TwoWays (i ∷ is) es n h = absurd (true≢false (sym h))
 body_ends ByCases (i ∷ is) es n h = absurd (true≢false (sym h))
 body_ends ByLine (i ∷ is) es n h = absurd (true≢false (sym h))
 
-leads_cases : (x : Leads) → (x ≡ On) ⊎ (x ≡ On → ⊥)
+pub leads_cases : (x : Leads) → (x ≡ On) ⊎ (x ≡ On → ⊥)
 leads_cases On = inl refl
 leads_cases Away = inr (λ e. cc)
 leads_cases Once = inr (λ e. cc)

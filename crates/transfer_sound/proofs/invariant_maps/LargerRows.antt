@@ -1,5 +1,5 @@
 -- A larger row of which no cell is mixed stands for what a smaller one stands for.
-use Rattle.std.specs.Prelude.{◌≡◌, ℕ, ℤ, Bool, true, false, List}
+use Rattle.std.specs.Prelude.{◌≡◌, ℕ, ℤ, true, List}
 use Rattle.std.proofs.lemmas.Bool.{and_parts}
 use Rattle.cc_base.specs.Lattices.{LatticeOf, OrderLaws}
 use Rattle.cc_base.specs.LatticeParts.{flag_leq}
@@ -22,15 +22,11 @@ use Rattle.memory_model.specs.Memory.Bytes.{MachinePointer, null, into}
 use Rattle.memory_model.specs.Memory.Instances.{Memory, Life, live, ended, freed, life_at}
 use Rattle.store_sound.specs.Concretization.ValueMeaning.{Naming, InGammaInto, InGammaByLife, InGammaPointer}
 use Rattle.store_sound.specs.Concretization.RowMeaning.{MachineState, InGamma}
-use Rattle.store_sound.proofs.operations.Larger.{PointerBelow, value_below}
+use Rattle.store_sound.proofs.operations.Larger.{PointerBelow, value_below, flag_up}
 use Rattle.transfer_sound.specs.InvariantMaps.CarriedMaps.{IsUnmixed, AreUnmixed}
 use Rattle.transfer_sound.proofs.invariant_maps.NearBounds.{near_larger}
 use Rattle.transfer_sound.proofs.invariant_maps.ToldRows.{StateTells, ValueTells, row_told}
 use Rattle.transfer_sound.proofs.invariant_maps.UnmixedRows.{unmixed_at}
-
-flag_up : (a b : Bool) → flag_leq a b ≡ true → a ≡ true → b ≡ true
-flag_up true b h e = h
-flag_up false b h e = cc
 
 module _ {I : Type 0} {l : LatticeOf I} {n : IntegersOf I} {gamma : I → ℤ → Type 0} (o : OrderLaws l) (q : BoundLaws l n gamma) where
   -- ---- cells

@@ -44,19 +44,16 @@ use Rattle.store_sound.specs.Concretization.ValueMeaning.{Naming, InGammaScalar,
 use Rattle.store_sound.specs.Concretization.RowMeaning.{IsLiveOf, InGammaCell, InGammaLeaf, InGammaClass, InGamma, array_bytes}
 use Rattle.store_sound.proofs.operations.LoadSound.{instance_there}
 use Rattle.store_sound.proofs.operations.StoreRows.{leaf_is, class_is, zero_is}
+use Rattle.store_sound.proofs.operations.StoreLeaves.{live_ended}
 use Rattle.store_sound.specs.Programs.Premises.{HasPremises}
-use Rattle.transfer_sound.specs.Values.SoundSteps.{AreShort, IsReached, InGammaAfter, StepIsSound}
-use Rattle.transfer_sound.proofs.values.Admitted.{none_admitted, same_admitted}
+use Rattle.transfer_sound.specs.Values.SoundSteps.{AreShort, IsReached, StepIsSound}
 use Rattle.transfer_sound.proofs.values.PartSteps.{declared_storage}
-use Rattle.transfer_sound.proofs.values.Replies.{if_some_good}
+use Rattle.transfer_sound.proofs.values.Replies.{if_some_good, clean_goes_good}
 use Rattle.transfer_sound.proofs.objects.SetCells.{set_keeps}
 use Rattle.transfer_sound.proofs.objects.WholeObjects.{automatic_declared, automatic_storage, some_kind}
 use Rattle.transfer_sound.specs.Leave.LeaveSteps.{IsLeave}
 use Rattle.transfer_sound.proofs.leave.LeftMemory.{IsEnded, life_ends, not_ended, byte_was, scalar_left, named_left, left_sane}
 use Rattle.transfer_sound.proofs.leave.EndedValues.{left_value, scalar_ends, content_ends, none_left}
-
-live_ends : live ≡ ended → ⊥
-live_ends e = cc
 
 module _ {I : Type 0} (l : LatticeOf I) (b : ℕ) where
   -- the cell at a position of the row whose pointers have ended
@@ -79,10 +76,10 @@ module _ {I : Type 0} (l : LatticeOf I) (b : ℕ) where
   ended_state (State s) = refl
   ended_state Mixed = refl
 
-clear_other : {A : Type 0} (f : ℕ → Option A) (b d : ℕ) (x : A) → clear_at f b d ≡ Some x → (d ≡ b → ⊥) × (f d ≡ Some x)
+pub clear_other : {A : Type 0} (f : ℕ → Option A) (b d : ℕ) (x : A) → clear_at f b d ≡ Some x → (d ≡ b → ⊥) × (f d ≡ Some x)
 clear_other f b d x e = grind arith
 
-clear_keeps : {A : Type 0} (f : ℕ → Option A) (b d : ℕ) (x : A) → (d ≡ b → ⊥) → f d ≡ Some x → clear_at f b d ≡ Some x
+pub clear_keeps : {A : Type 0} (f : ℕ → Option A) (b d : ℕ) (x : A) → (d ≡ b → ⊥) → f d ≡ Some x → clear_at f b d ≡ Some x
 clear_keeps f b d x h e = grind arith
 
 module _ {I : Type 0} {l : LatticeOf I} {n : IntegersOf I} {gamma : I → ℤ → Type 0} (flow : Flow) (p : HasPremises flow) (naming : Naming) (row : List (Cell I)) (s : ProgramState) (r : IsReached l n gamma flow naming row s)
@@ -109,14 +106,14 @@ module _ {I : Type 0} {l : LatticeOf I} {n : IntegersOf I} {gamma : I → ℤ �
   bases j d e = let k = r.stands_for.sane.few j d e in let few = p.shaped.few in omega (arith, k, few)
 
   one : (j : ℕ) → naming j ≡ Some b → (life_at old j ≡ ended → ⊥) → j ≡ i
-  one j e h = r.stands_for.sane.one j i b info at kind e named h (λ f. live_ends (sym alive ∙ f))
+  one j e h = r.stands_for.sane.one j i b info at kind e named h (λ f. live_ended (sym alive ∙ f))
 
   -- no live instance of the base is left
   none_live : (j : ℕ) → IsLiveOf naming new b j → ⊥
-  none_live j h = let k = not_ended ends j (λ e. live_ends (sym h.alive ∙ e)) in k.0 (one j h.named k.1)
+  none_live j h = let k = not_ended ends j (λ e. live_ended (sym h.alive ∙ e)) in k.0 (one j h.named k.1)
 
   other_live : (d j : ℕ) → IsLiveOf naming new d j → IsLiveOf naming old d j
-  other_live d j h = let k = not_ended ends j (λ e. live_ends (sym h.alive ∙ e)) in record { named = h.named; alive = sym (ends.others j k.0) ∙ h.alive }
+  other_live d j h = let k = not_ended ends j (λ e. live_ended (sym h.alive ∙ e)) in record { named = h.named; alive = sym (ends.others j k.0) ∙ h.alive }
 
   -- ---- the row
 
@@ -267,23 +264,16 @@ module _ {I : Type 0} {l : LatticeOf I} {n : IntegersOf I} {gamma : I → ℤ �
       let k = some_kind flow.bases.items b fitted in
       let info : BaseInfo = k.0 in
       let declared : info.shape.heap ≡ false = sym (p.shaped.each b info k.1).kind ∙ declared_storage info.kind (automatic_storage info.kind k.2) in
-      if_some_good l n gamma flow _ no_violations s r.begun (s.bases b) _ (λ i e. record {
-        goes_on = λ t u f.
-            let w : World = left i s.world in
-            let now : ProgramState = record s { at = suc s.at; bases = clear_at s.bases b; world = w } in
-            let a : now ≡ t = cc in
-            let c : w ≡ u = cc in
-            let here : InGammaAfter l n gamma flow (Some (at_base (leave_object l b) (slice_get flow.bases.items b) row)) (record now { world = w }) = record {
-              row = leave_object l b info row;
-              is = ap (λ z. Some (at_base (leave_object l b) z row)) k.1;
-              long = sym (ap (λ z. length (at_base (leave_object l b) z row)) k.1) ∙ (leave_length b ∙ r.long);
-              naming = naming;
-              stands_for = left_stands flow p naming row s r b i info k.1 e declared (automatic_declared info.kind k.2);
-              short = left_short flow p naming row s r b i info k.1 e declared (automatic_declared info.kind k.2);
-            } in
-            subst (λ z. InGammaAfter l n gamma flow (Some (at_base (leave_object l b) (slice_get flow.bases.items b) row)) (record z { world = u })) a (subst (λ z. InGammaAfter l n gamma flow (Some (at_base (leave_object l b) (slice_get flow.bases.items b) row)) (record now { world = z })) c here);
-        admits = same_admitted no_violations s.world.violated [] r.begun (none_admitted no_violations);
-      })
+      if_some_good l n gamma flow _ no_violations s r.begun (s.bases b) _ (λ i e. let w : World = left i s.world in
+      let now : ProgramState = record s { at = suc s.at; bases = clear_at s.bases b; world = w } in
+      clean_goes_good l n gamma flow _ _ now w r.begun (record {
+        row = leave_object l b info row;
+        is = ap (λ z. Some (at_base (leave_object l b) z row)) k.1;
+        long = sym (ap (λ z. length (at_base (leave_object l b) z row)) k.1) ∙ (leave_length b ∙ r.long);
+        naming = naming;
+        stands_for = left_stands flow p naming row s r b i info k.1 e declared (automatic_declared info.kind k.2);
+        short = left_short flow p naming row s r b i info k.1 e declared (automatic_declared info.kind k.2);
+      }))
     where
       leave_length : (b : ℕ) → length (at_base (leave_object l b) (slice_get flow.bases.items b) row) ≡ length row
       leave_length b = leave_keeps l n flow.bases.items b row

@@ -64,7 +64,7 @@ use Rattle.transfer_sound.proofs.memory.ScalarClasses.{class_pair}
 
 -- ---- sets of rules
 
-union_is : (s t : Violations) (r : Rule) → violates (violations_union s t) r ≡ (violates s r || violates t r)
+pub union_is : (s t : Violations) (r : Rule) → violates (violations_union s t) r ≡ (violates s r || violates t r)
 union_is s t Accfree = refl
 union_is s t Boolasgn = refl
 union_is s t Chrsgnext = refl

@@ -4,9 +4,7 @@ use Rattle.std.specs.Prelude.{slice_get, pos, ◌-ℤ◌, nat_lt}
 use Rattle.std.proofs.lemmas.Int.{ints}
 use Rattle.std.proofs.Math.Nat.{pow-le-pow_right}
 use Rattle.std.proofs.lemmas.Bool.{cond_both}
-use Rattle.std.proofs.lemmas.Bool.Decides.{nat_tests}
 use Rattle.std.proofs.lemmas.List.{length-map, length-take}
-use Rattle.cc_base.specs.IntegerTypes.{is_size}
 use Rattle.c_layout.specs.declared.data_model.Model.{Model}
 use Rattle.c_layout.specs.declared.shapes.BaseInfo.{BaseInfo}
 use Rattle.cfg.specs.declared.machine_instructions.Scalar.TheVariants as of
@@ -29,13 +27,11 @@ use Rattle.store_sound.proofs.operations.MachineLoads.{load_goes}
 use Rattle.store_sound.proofs.operations.Reading.{region_at, numbers_length, numbers_at}
 use Rattle.store_sound.proofs.operations.Rereading.{unsigned_below}
 use Rattle.store_sound.proofs.operations.Slices.{get_map}
+use Rattle.store_sound.proofs.operations.FreshValues.{eight}
 use Rattle.transfer_sound.proofs.values.NearScalars.{IsNearNumber, IsNearScalar}
 
 few_bits : (n : ℕ) → n ≤ 8 → 2 ^ (8 * n) ≤ 2 ^ 64
 few_bits n h = let k : 8 * n ≤ 64 = omega (arith, h) in pow-le-pow_right {n = 2} (omega arith) k
-
-eight : (n : ℕ) → is_size n ≡ true → n ≤ 8
-eight n h = grind (arith, nat_tests)
 
 number_near : (signed : Bool) (ns : List Labelled) → length ns ≤ 8 → ((k : ℕ) (n : Labelled) → slice_get ns k ≡ Some n → n.number < 256) → IsNearNumber (number_of signed ns)
 number_near false ns few h =

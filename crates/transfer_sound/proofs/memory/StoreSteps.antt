@@ -55,11 +55,11 @@ use Rattle.store_sound.proofs.chars.CharStoreSound.{any_char_store}
 use Rattle.store_sound.proofs.operations.TouchSound.{touch_admitted}
 use Rattle.store_sound.proofs.operations.TouchedRest.{touch_stands}
 use Rattle.store_sound.specs.Programs.Premises.{HasPremises}
-use Rattle.transfer_sound.specs.Values.SoundSteps.{IsReached, InGammaAfter, IsStoodFor, StepIsSound}
+use Rattle.transfer_sound.specs.Values.SoundSteps.{IsReached, IsStoodFor, StepIsSound}
 use Rattle.transfer_sound.proofs.values.Admitted.{AreAdmitted, none_admitted, one_admitted, both_admitted, same_admitted}
 use Rattle.transfer_sound.proofs.values.MoveSteps.{near_has}
 use Rattle.transfer_sound.proofs.values.NearScalars.{IsNearScalar}
-use Rattle.transfer_sound.proofs.values.Replies.{stop_good, if_some_good, result_good}
+use Rattle.transfer_sound.proofs.values.Replies.{stop_good, if_some_good, result_good, goes_good}
 use Rattle.transfer_sound.proofs.memory.MachineReplies.{TouchEnd, went, stopped, touch_end, StoreEnd, stores, leaves, store_end}
 use Rattle.transfer_sound.proofs.memory.ScalarClasses.{class_pair}
 
@@ -78,16 +78,8 @@ module _ {I : Type 0} {l : LatticeOf I} {n : IntegersOf I} {gamma : I → ℤ �
 
     pub keeps_good : (kept : Option (ℕ × ℕ)) → has_kept (names_of flow) kept ≡ true → IsStoodFor l n gamma flow (Some (move_temp l n flow kept row)) told (keeping s kept)
     unfolding move_temp
-    keeps_good None fits = record {
-      goes_on = λ t u e.
-          let now : ProgramState = record s { at = suc s.at } in
-          let a : now ≡ t = cc in
-          let b : s.world ≡ u = cc in
-          let here : InGammaAfter l n gamma flow (Some row) (record now { world = s.world }) = record { row = row; is = refl; long = r.long; naming = naming; stands_for = r.stands_for; short = r.short } in
-          subst (λ z. InGammaAfter l n gamma flow (Some row) (record z { world = u })) a
-          (subst (λ z. InGammaAfter l n gamma flow (Some row) (record now { world = z })) b here);
-      admits = clean;
-    }
+    keeps_good None fits = let now : ProgramState = record s { at = suc s.at } in
+        goes_good l n gamma flow _ _ now s.world clean (record { row = row; is = refl; long = r.long; naming = naming; stands_for = r.stands_for; short = r.short })
     keeps_good (Some k) fits =
         let few = ltb-true k.0 flow.temps (and_parts (has_temp (names_of flow) k.0) (has_temp (names_of flow) k.1) fits).0 in
         if_some_good l n gamma flow _ told s r.begun (s.temps k.1) _ (λ v e.

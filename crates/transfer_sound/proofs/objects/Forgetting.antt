@@ -38,11 +38,10 @@ use Rattle.store_sound.specs.Concretization.Coverage.{state_of}
 use Rattle.store_sound.proofs.operations.Classes.{class_above}
 use Rattle.store_sound.proofs.operations.Slices.{get_take, get_drop, get_there}
 use Rattle.store_sound.specs.Programs.Premises.{HasPremises}
-use Rattle.transfer_sound.specs.Values.SoundSteps.{IsReached, InGammaAfter, StepIsSound}
-use Rattle.transfer_sound.proofs.values.Admitted.{none_admitted, same_admitted}
+use Rattle.transfer_sound.specs.Values.SoundSteps.{IsReached, StepIsSound}
 use Rattle.transfer_sound.proofs.values.NearScalars.{near_number_stands}
 use Rattle.transfer_sound.proofs.values.PartSteps.{declared_storage}
-use Rattle.transfer_sound.proofs.values.Replies.{if_some_good}
+use Rattle.transfer_sound.proofs.values.Replies.{if_some_good, clean_goes_good}
 use Rattle.transfer_sound.specs.Objects.ObjectSteps.{IsForget}
 use Rattle.transfer_sound.proofs.objects.Rewrites.{rewrite_sane}
 use Rattle.transfer_sound.proofs.objects.ObjectRows.{object_stands}
@@ -120,23 +119,16 @@ module _ {I : Type 0} {l : LatticeOf I} {n : IntegersOf I} {gamma : I → ℤ �
       let k = some_kind flow.bases.items b fits in
       let info : BaseInfo = k.0 in
       let declared : info.shape.heap ≡ false = sym (p.shaped.each b info k.1).kind ∙ declared_storage info.kind (automatic_storage info.kind k.2) in
-      if_some_good l n gamma flow _ no_violations s r.begun (s.bases b) _ (λ i e. record {
-        goes_on = λ t u f.
-            let w : World = forgotten i s.world in
-            let now : ProgramState = record s { at = suc s.at; world = w } in
-            let a : now ≡ t = cc in
-            let c : w ≡ u = cc in
-            let here : InGammaAfter l n gamma flow (Some (at_base (blank_object l n) (slice_get flow.bases.items b) row)) (record now { world = w }) = record {
-              row = blank_object l n info row;
-              is = ap (λ z. Some (at_base (blank_object l n) z row)) k.1;
-              long = sym (ap (λ z. length (at_base (blank_object l n) z row)) k.1) ∙ (forget_length b ∙ r.long);
-              naming = naming;
-              stands_for = forgotten_stands q flow p naming row s r b i info k.1 e declared (automatic_declared info.kind k.2);
-              short = still_short q flow p naming row s r b i info k.1 e declared (automatic_declared info.kind k.2) indeterminate;
-            } in
-            subst (λ z. InGammaAfter l n gamma flow (Some (at_base (blank_object l n) (slice_get flow.bases.items b) row)) (record z { world = u })) a (subst (λ z. InGammaAfter l n gamma flow (Some (at_base (blank_object l n) (slice_get flow.bases.items b) row)) (record now { world = z })) c here);
-        admits = same_admitted no_violations s.world.violated [] r.begun (none_admitted no_violations);
-      })
+      if_some_good l n gamma flow _ no_violations s r.begun (s.bases b) _ (λ i e. let w : World = forgotten i s.world in
+      let now : ProgramState = record s { at = suc s.at; world = w } in
+      clean_goes_good l n gamma flow _ _ now w r.begun (record {
+        row = blank_object l n info row;
+        is = ap (λ z. Some (at_base (blank_object l n) z row)) k.1;
+        long = sym (ap (λ z. length (at_base (blank_object l n) z row)) k.1) ∙ (forget_length b ∙ r.long);
+        naming = naming;
+        stands_for = forgotten_stands q flow p naming row s r b i info k.1 e declared (automatic_declared info.kind k.2);
+        short = still_short q flow p naming row s r b i info k.1 e declared (automatic_declared info.kind k.2) indeterminate;
+      }))
     where
       forget_length : (b : ℕ) → length (at_base (blank_object l n) (slice_get flow.bases.items b) row) ≡ length row
       forget_length b = forget_keeps l n flow.bases.items b row

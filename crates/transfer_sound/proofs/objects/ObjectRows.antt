@@ -28,11 +28,9 @@ use Rattle.store_sound.proofs.operations.Frames.{live_moves, content_moves, scal
 use Rattle.store_sound.proofs.operations.StoreRows.{leaf_is, class_is, zero_is}
 use Rattle.store_sound.proofs.operations.StoreValues.{same_value, same_zero, same_state}
 use Rattle.store_sound.proofs.operations.StoreZeros.{same_slices}
+use Rattle.store_sound.proofs.operations.StoreLeaves.{live_ended}
 use Rattle.store_sound.specs.Programs.Premises.{HasPremises}
 use Rattle.transfer_sound.proofs.objects.Rewrites.{IsRewrite}
-
-live_ended : live ≡ ended → ⊥
-live_ended e = cc
 
 module _ {I : Type 0} {l : LatticeOf I} {n : IntegersOf I} {gamma : I → ℤ → Type 0} (flow : Flow) (p : HasPremises flow) (naming : Naming) (row : List (Cell I)) (state : MachineState) (s : InGamma l n gamma flow naming row state)
     (b i : ℕ) (info : BaseInfo) (at : slice_get flow.bases.items b ≡ Some info) (named : naming i ≡ Some b) (alive : life_at state.memory i ≡ live) (declared : info.shape.heap ≡ false) (kind : info.kind ≡ Older → ⊥)

@@ -1,5 +1,5 @@
 -- Cases of a switch refine the row as they change memory.
-use Rattle.std.proofs.Common.{◌≡◌, ℕ, Bool, true, false, cond, Option, Some, None, List, [], length, arith, subst, sym, refl, ap, ◌∙◌}
+use Rattle.std.proofs.Common.{◌≡◌, ℕ, Bool, true, false, cond, Option, Some, None, List, length, arith, subst, sym, refl, ap, ◌∙◌}
 use Rattle.std.specs.Prelude.{slice_get, ℤ, pos, ◌≤ℤ◌, is_some}
 use Rattle.std.proofs.lemmas.Int.{ints}
 use Rattle.std.proofs.lemmas.Bool.{true≢false}
@@ -42,18 +42,17 @@ use Rattle.store_sound.specs.Concretization.RowMeaning.{InGamma}
 use Rattle.store_sound.specs.Concretization.Coverage.{state_of}
 use Rattle.store_sound.proofs.operations.LoadSound.{instance_there}
 use Rattle.store_sound.specs.Programs.Premises.{HasPremises}
-use Rattle.transfer_sound.specs.Values.SoundSteps.{IsReached, InGammaAfter, IsStoodFor}
-use Rattle.transfer_sound.proofs.values.Admitted.{none_admitted, same_admitted}
+use Rattle.transfer_sound.specs.Values.SoundSteps.{IsReached, IsStoodFor}
 use Rattle.transfer_sound.proofs.values.MoveSteps.{near_has}
 use Rattle.transfer_sound.proofs.values.NearScalars.{IsNearNumber}
-use Rattle.transfer_sound.proofs.values.Replies.{clean_stop_good, if_some_good}
+use Rattle.transfer_sound.proofs.values.Replies.{clean_stop_good, if_some_good, clean_goes_good}
 use Rattle.transfer_sound.proofs.values.TypeRanges.{bounds_some}
 use Rattle.transfer_sound.specs.Tests.ScalarObjects.{IsScalarObject, IsCaseObject}
 use Rattle.transfer_sound.proofs.tests.Relabelling.{IsRelabelling, set_relabels}
 use Rattle.transfer_sound.proofs.tests.ScalarCells.{object_numbers, size_is, relabelled_stands}
 use Rattle.transfer_sound.proofs.tests.TestSteps.{is_read, object_has}
 
-case_scalar : (value : ℤ) (o : Option Scalar) → is_number value o ≡ true → (la : Labels) × (o ≡ Some (integer value la))
+pub case_scalar : (value : ℤ) (o : Option Scalar) → is_number value o ≡ true → (la : Labels) × (o ≡ Some (integer value la))
 case_scalar value None h = absurd (true≢false (sym h))
 case_scalar value (Some (integer z la)) h = let e : z ≡ value = (Decides-int_eq z value).0 h in (la, ap (λ x. Some (integer x la)) e)
 case_scalar value (Some (pointer p)) h = absurd (true≢false (sym h))
@@ -126,23 +125,16 @@ module _ {I : Type 0} {l : LatticeOf I} {n : IntegersOf I} {gamma : I → ℤ �
           let k = case_scalar value (side_scalar flow.model memory (object i (of.Int kind))) e in
           let here = case_stands k.0 k.1 in
           let is : refine_case l n flow b value row ≡ Some case_row = ap (λ z. refine_case_at l n (position_of z) value row) t.is ∙ ap (λ z. cond z (Some case_row) None) here.some in
-          record {
-            goes_on = λ y u f.
-                let new : World = with_memory s.world after in
-                let now : ProgramState = record s { world = new } in
-                let a : now ≡ y = cc in
-                let d : new ≡ u = cc in
-                let there : InGammaAfter l n gamma flow (refine_case l n flow b value row) (record now { world = new }) = record {
-                  row = case_row;
-                  is = is;
-                  long = here.long;
-                  naming = naming;
-                  stands_for = here.stands_for;
-                  short = λ z. subst (λ w. pos w ≤ℤ greatest_of (kind_of flow.model Pointer true)) (sym (relabelling.rewrite.alike.lengths z)) (r.short z);
-                } in
-                subst (λ z. InGammaAfter l n gamma flow (refine_case l n flow b value row) (record z { world = u })) a (subst (λ z. InGammaAfter l n gamma flow (refine_case l n flow b value row) (record now { world = z })) d there);
-            admits = same_admitted no_violations s.world.violated [] r.begun (none_admitted no_violations);
-          }
+          let new : World = with_memory s.world after in
+          let now : ProgramState = record s { world = new } in
+          clean_goes_good l n gamma flow _ _ now new r.begun (record {
+            row = case_row;
+            is = is;
+            long = here.long;
+            naming = naming;
+            stands_for = here.stands_for;
+            short = λ z. subst (λ w. pos w ≤ℤ greatest_of (kind_of flow.model Pointer true)) (sym (relabelling.rewrite.alike.lengths z)) (r.short z);
+          })
 
 module _ {I : Type 0} {l : LatticeOf I} {n : IntegersOf I} {gamma : I → ℤ → Type 0} (o : OrderLaws l) (q : BoundLaws l n gamma) (flow : Flow) (p : HasPremises flow) (naming : Naming) (row : List (Cell I)) (s : ProgramState) (r : IsReached l n gamma flow naming row s) where
   -- a case looks at the size and the sign of the type alone

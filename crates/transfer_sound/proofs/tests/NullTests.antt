@@ -1,7 +1,6 @@
 -- Tests of a pointer object against a null constant refine its cell.
-use Rattle.std.proofs.Common.{◌≡◌, ℕ, zero, suc, ◌+◌, ◌-◌, ◌<◌, ◌≤◌, ◌^◌, Bool, true, false, cond, ◌&&◌, Option, Some, None, List, [], ◌∷◌, length, take, arith, subst, sym, refl, ap, ◌∙◌}
+use Rattle.std.proofs.Common.{◌≡◌, ℕ, zero, suc, ◌-◌, Bool, true, false, cond, ◌&&◌, Option, Some, None, List, [], ◌∷◌, take, arith, subst, sym, refl, ap, ◌∙◌}
 use Rattle.std.specs.Prelude.{slice_get, ℤ, ◌==◌}
-use Rattle.std.specs.Option.{unwrap_or}
 use Rattle.std.proofs.lemmas.Bool.{and_parts, eqb-true, true≢false}
 use Rattle.std.proofs.lemmas.List.{length-map, length-take, length-set}
 use Rattle.std.proofs.lemmas.Option.{same_Some, slice_get_within}
@@ -12,7 +11,6 @@ use Rattle.cc_base.specs.declared.integer_operators.Rel.TheVariants.{Lt, Le, Gt,
 use Rattle.c_layout.specs.declared.leaf_lists.Class.{Class}
 use Rattle.c_layout.specs.declared.leaf_lists.Leaf.{Leaf}
 use Rattle.c_layout.specs.declared.shapes.ZeroPart.{ZeroPart}
-use Rattle.cfg.specs.WellFormed.{base_values}
 use Rattle.cfg.specs.declared.flow_edges.Side.TheVariants as side
 use Rattle.cfg.specs.declared.flow_edges.Test.{Test}
 use Rattle.cfg.specs.declared.machine_instructions.Scalar.TheVariants as of
@@ -20,10 +18,10 @@ use Rattle.cfg.specs.declared.programs.Flow.{Flow}
 use Rattle.pointer_domain.specs.declared.pointer_sets.Pointers.{Pointers}
 use Rattle.value_domain.specs.declared.values.values.Value as values
 use Rattle.value_domain.specs.declared.values.row_cells.Cell.{Cell}
-use Rattle.value_domain.specs.declared.values.row_cells.Cell.TheVariants.{Nothing, Value}
+use Rattle.value_domain.specs.declared.values.row_cells.Cell.TheVariants.{Value}
 use Rattle.store_cells.specs.ClassNumbers.{is_pointer}
 use Rattle.store_cells.specs.NearValues.{near_pointer, near_value}
-use Rattle.store_cells.specs.RowPositions.{leaf_position, zero_position, cell_at, value_in, value_at, zero_at, put_value}
+use Rattle.store_cells.specs.RowPositions.{leaf_position, zero_position, value_at, zero_at, put_value}
 use Rattle.transfer_system.specs.Refinements.{position_of, named_by, not_null, tested_value, refine_pointer_at, refine_pointer, refine_named, refine_in, refine}
 use Rattle.transfer_checks.specs.ViolationSets.{no_violations}
 use Rattle.memory_model.specs.Memory.ScalarSizes.{class_bytes}
@@ -44,19 +42,17 @@ use Rattle.store_sound.specs.Concretization.SoundMemory.{IsContentIn, IsPointerI
 use Rattle.store_sound.specs.Concretization.RowMeaning.{InGammaLeaf, InGamma, array_bytes}
 use Rattle.store_sound.specs.Concretization.Coverage.{state_of}
 use Rattle.store_sound.proofs.operations.CellReads.{scalar_pointer_is}
-use Rattle.store_sound.proofs.operations.Only.{cell_put}
-use Rattle.store_sound.proofs.operations.Slices.{get_there, get_map, get_take, get_set_other}
-use Rattle.store_sound.proofs.operations.StoreRows.{leaf_is, zero_is}
+use Rattle.store_sound.proofs.operations.Slices.{get_there, get_map, get_take}
+use Rattle.store_sound.proofs.operations.StoreRows.{zero_is}
 use Rattle.store_sound.proofs.operations.StoreValues.{same_zero}
 use Rattle.store_sound.specs.Programs.Premises.{HasPremises}
-use Rattle.transfer_sound.specs.Values.SoundSteps.{IsReached, InGammaAfter, IsStoodFor}
-use Rattle.transfer_sound.proofs.values.Admitted.{none_admitted, same_admitted}
+use Rattle.transfer_sound.specs.Values.SoundSteps.{IsReached, IsStoodFor}
 use Rattle.transfer_sound.proofs.values.NearScalars.{near_pointer_stands}
-use Rattle.transfer_sound.proofs.values.PartSteps.{declared_storage}
-use Rattle.transfer_sound.proofs.values.Replies.{clean_stop_good, if_some_good}
+use Rattle.transfer_sound.proofs.values.Replies.{clean_stop_good, if_some_good, clean_goes_good}
 use Rattle.transfer_sound.proofs.objects.ObjectRows.{own_instance, object_stands}
 use Rattle.transfer_sound.specs.Tests.ScalarObjects.{IsScalarObject, IsNullTest}
 use Rattle.transfer_sound.proofs.tests.Relabelling.{stays_rewrite}
+use Rattle.transfer_sound.proofs.tests.ScalarRows.{one_cell, only_leaf, not_heap, fits, place_is, keeps, outside, own_value}
 use Rattle.transfer_sound.proofs.tests.ScalarCells.{byte_stands, size_is, not_older}
 
 -- ---- contents that are read as a pointer
@@ -160,34 +156,6 @@ module _ {I : Type 0} {l : LatticeOf I} {n : IntegersOf I} {gamma : I → ℤ �
   alive : life_at memory i ≡ live
   alive = r.stands_for.lives.alive b i en
 
-  declared : t.info.shape.heap ≡ false
-  declared = sym (p.shaped.each b t.info t.is).kind ∙ declared_storage t.info.kind t.declared
-
-  fits : t.info.first + base_values t.info ≤ 2 ^ 64 - 1
-  fits = let k = p.laid.laid.close b t.info t.is in let small = p.laid.laid.small in omega (arith, k, small)
-
-  one_cell : length t.info.shape.cells ≡ 1
-  one_cell = ap length t.cells
-
-  place_is : place ≡ t.info.first + 0
-  place_is = let c = one_cell in leaf_is t.info 0 fits (omega (arith, c))
-
-  keeps : (x : ℕ) → (x ≡ place → ⊥) → cell_at after x ≡ cell_at row x
-  keeps x ne = ap (λ z. unwrap_or z Nothing) (get_set_other row place x (Value (tested_value l v rel)) ne)
-
-  outside : (x : ℕ) → (t.info.first ≤ x → x < t.info.first + base_values t.info → ⊥) → cell_at after x ≡ cell_at row x
-  outside x h = keeps x (λ e. let c = one_cell in let d = place_is in h (omega (arith, e, d)) (omega (arith, e, d, c)))
-
-  own_value : value_at l n after place ≡ near_value l n (tested_value l v rel)
-  unfolding value_at
-  own_value =
-      let k = p.laid.laid.close b t.info t.is in
-      let far = p.laid.long in
-      let c = one_cell in
-      let d = place_is in
-      let long = r.long in
-      ap (λ z. near_value l n (value_in l z)) (cell_put row place (Value (tested_value l v rel)) (omega (arith, k, far, long, c, d)))
-
   module _ (x : MachinePointer) (scalar : side_scalar flow.model memory (object i of.Pointer) ≡ Some (pointer x)) (hold : pointers_hold rel x null ≡ true) where
     abbrev cs : List Content
     cs = contents (object_bytes flow.model memory i of.Pointer)
@@ -218,30 +186,26 @@ module _ {I : Type 0} {l : LatticeOf I} {n : IntegersOf I} {gamma : I → ℤ �
     own_cell = record {
       whole = λ k o ms h place plain held. absurd (true≢false (sym (ap is_pointer t.class) ∙ plain));
       byte = λ k o j content h owns y.
-          let own = own_instance flow p naming row (state_of s) r.stands_for b i t.info t.is named alive declared (not_older flow b of.Pointer t) (stays_rewrite memory i) k h in
+          let own = own_instance flow p naming row (state_of s) r.stands_for b i t.info t.is named alive (not_heap p t) (not_older flow b of.Pointer t) (stays_rewrite memory i) k h in
           let one : Byte = record { content = content; tag = y.tag } in
           let here : byte_at memory i o ≡ Some one = subst (λ u. byte_at memory u o ≡ Some one) own y.here in
           refined_content l n gamma naming memory near_stands rel x hold v t.leaf.class content y.tag (byte_as o one here) (r.stands_for.sane.bytes i o one here) (byte_stands q flow p naming row r.long (state_of s) r.stands_for b i of.Pointer t named alive o one here);
     }
 
     own_leaves : (j : ℕ) (leaf : Leaf) → slice_get t.info.shape.cells j ≡ Some leaf → InGammaLeaf gamma flow naming memory b leaf (value_at l n after (leaf_position t.info j))
-    own_leaves j leaf e = by_index j (sym (ap (λ z. slice_get z j) t.cells) ∙ e)
-      where
-        by_index : (j : ℕ) → slice_get (t.leaf ∷ []) j ≡ Some leaf → InGammaLeaf gamma flow naming memory b leaf (value_at l n after (leaf_position t.info j))
-        by_index zero f = subst (λ z. InGammaLeaf gamma flow naming memory b z (value_at l n after place)) (same_Some t.leaf leaf f) (subst (InGammaLeaf gamma flow naming memory b t.leaf) (sym own_value) own_cell)
-        by_index (suc j) f = cc
+    own_leaves = only_leaf t (λ j leaf. InGammaLeaf gamma flow naming memory b leaf (value_at l n after (leaf_position t.info j))) (subst (InGammaLeaf gamma flow naming memory b t.leaf) (sym (own_value p t row (tested_value l v rel) l n r.long)) own_cell)
 
     own_zeros : (z : ℕ) (zeros : ZeroPart) → slice_get t.info.shape.zeros z ≡ Some zeros → InGammaZero gamma naming memory (zero_at l n after (zero_position t.info z)) (array_bytes zeros (bytes_at memory i))
     own_zeros z zeros e =
         let small = slice_get_within t.info.shape.zeros z zeros e in
-        let g = zero_is t.info z fits (omega (arith, small)) in
-        let c = one_cell in
-        let d = place_is in
-        let same = same_zero l n row after (zero_position t.info z) (keeps (zero_position t.info z) (λ f. omega (arith, f, g, c, d))) in
+        let g = zero_is t.info z (fits p t) (omega (arith, small)) in
+        let c = one_cell t in
+        let d = place_is p t in
+        let same = same_zero l n row after (zero_position t.info z) (keeps p t row (tested_value l v rel) (zero_position t.info z) (λ f. omega (arith, f, g, c, d))) in
         subst (λ y. InGammaZero gamma naming memory y (array_bytes zeros (bytes_at memory i))) (sym same) (r.stands_for.zeros b z i t.info zeros t.is e (record { named = named; alive = alive }))
 
     refined_row : InGamma l n gamma flow naming after (state_of s)
-    refined_row = object_stands flow p naming row (state_of s) r.stands_for b i t.info t.is named alive declared (not_older flow b of.Pointer t) (stays_rewrite memory i) r.stands_for.sane after outside own_leaves own_zeros
+    refined_row = object_stands flow p naming row (state_of s) r.stands_for b i t.info t.is named alive (not_heap p t) (not_older flow b of.Pointer t) (stays_rewrite memory i) r.stands_for.sane after (outside p t row (tested_value l v rel)) own_leaves own_zeros
 
   -- ---- the test
 
@@ -262,16 +226,9 @@ module _ {I : Type 0} {l : LatticeOf I} {n : IntegersOf I} {gamma : I → ℤ �
   null_good goal is false e = clean_stop_good l n gamma flow goal no_violations Stuck (with_memory s.world memory) r.begun
   null_good goal is true e =
       let k = is_held (side_scalar flow.model memory (object i of.Pointer)) e in
-      record {
-        goes_on = λ y u f.
-            let new : World = with_memory s.world memory in
-            let now : ProgramState = record s { world = new } in
-            let a : now ≡ y = cc in
-            let d : new ≡ u = cc in
-            let there : InGammaAfter l n gamma flow goal (record now { world = new }) = record { row = after; is = is; long = length-set row place (Value (tested_value l v rel)) ∙ r.long; naming = naming; stands_for = refined_row k.at k.is k.hold; short = r.short } in
-            subst (λ z. InGammaAfter l n gamma flow goal (record z { world = u })) a (subst (λ z. InGammaAfter l n gamma flow goal (record now { world = z })) d there);
-        admits = same_admitted no_violations s.world.violated [] r.begun (none_admitted no_violations);
-      }
+      let new : World = with_memory s.world memory in
+      let now : ProgramState = record s { world = new } in
+      clean_goes_good l n gamma flow _ _ now new r.begun (record { row = after; is = is; long = length-set row place (Value (tested_value l v rel)) ∙ r.long; naming = naming; stands_for = refined_row k.at k.is k.hold; short = r.short })
 
 module _ {I : Type 0} {l : LatticeOf I} {n : IntegersOf I} {gamma : I → ℤ → Type 0} (q : BoundLaws l n gamma) (flow : Flow) (p : HasPremises flow) (naming : Naming) (row : List (Cell I)) (s : ProgramState) (r : IsReached l n gamma flow naming row s) where
   pub null_test_sound : (test : Test) → IsNullTest flow test → IsStoodFor l n gamma flow (refine l n flow test row) no_violations (testing (flow_view flow) s (Some test))

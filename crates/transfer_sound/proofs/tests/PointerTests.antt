@@ -1,5 +1,5 @@
 -- Tests of pointers that refine nothing leave the row and memory as they were.
-use Rattle.std.proofs.Common.{◌≡◌, Bool, true, false, Option, Some, None, List, [], subst, sym, ap}
+use Rattle.std.proofs.Common.{◌≡◌, Bool, true, false, Option, Some, None, List, subst, sym, ap}
 use Rattle.std.specs.Prelude.{ℤ}
 use Rattle.cc_base.specs.Lattices.{LatticeOf}
 use Rattle.cc_base.specs.IntegerDomains.{IntegersOf}
@@ -17,9 +17,8 @@ use Rattle.semantics.specs.CfgMachine.FlowStates.{ProgramState}
 use Rattle.semantics.specs.CfgMachine.FlowEdges.{with_side, in_world, testing}
 use Rattle.lower_templates.specs.Views.ProgramViews.{flow_view}
 use Rattle.store_sound.specs.Concretization.ValueMeaning.{Naming}
-use Rattle.transfer_sound.specs.Values.SoundSteps.{IsReached, InGammaAfter, IsStoodFor}
-use Rattle.transfer_sound.proofs.values.Admitted.{none_admitted, same_admitted}
-use Rattle.transfer_sound.proofs.values.Replies.{clean_stop_good, if_some_good}
+use Rattle.transfer_sound.specs.Values.SoundSteps.{IsReached, IsStoodFor}
+use Rattle.transfer_sound.proofs.values.Replies.{clean_stop_good, if_some_good, clean_goes_good}
 use Rattle.transfer_sound.specs.Tests.ScalarObjects.{IsPointerTest}
 
 module _ {I : Type 0} {l : LatticeOf I} {n : IntegersOf I} {gamma : I → ℤ → Type 0} (flow : Flow) (naming : Naming) (row : List (Cell I)) (s : ProgramState) (r : IsReached l n gamma flow naming row s) where
@@ -30,16 +29,9 @@ module _ {I : Type 0} {l : LatticeOf I} {n : IntegersOf I} {gamma : I → ℤ �
 
   stays_good : (after : Option (List (Cell I))) → after ≡ Some row → (c : Bool) → IsStoodFor l n gamma flow after no_violations (in_world s (passing c (with_memory s.world s.world.memory)))
   stays_good after is false = clean_stop_good l n gamma flow after no_violations Stuck (with_memory s.world s.world.memory) r.begun
-  stays_good after is true = record {
-    goes_on = λ t u f.
-        let new : World = with_memory s.world s.world.memory in
-        let now : ProgramState = record s { world = new } in
-        let a : now ≡ t = cc in
-        let d : new ≡ u = cc in
-        let there : InGammaAfter l n gamma flow after (record now { world = new }) = record { row = row; is = is; long = r.long; naming = naming; stands_for = r.stands_for; short = r.short } in
-        subst (λ z. InGammaAfter l n gamma flow after (record z { world = u })) a (subst (λ z. InGammaAfter l n gamma flow after (record now { world = z })) d there);
-    admits = same_admitted no_violations s.world.violated [] r.begun (none_admitted no_violations);
-  }
+  stays_good after is true = let new : World = with_memory s.world s.world.memory in
+      let now : ProgramState = record s { world = new } in
+      clean_goes_good l n gamma flow _ _ now new r.begun (record { row = row; is = is; long = r.long; naming = naming; stands_for = r.stands_for; short = r.short })
 
   pub pointer_test_sound : (test : Test) → IsPointerTest test → IsStoodFor l n gamma flow (refine l n flow test row) no_violations (testing (flow_view flow) s (Some test))
   unfolding refine refine_named

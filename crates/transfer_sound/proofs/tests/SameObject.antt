@@ -47,11 +47,10 @@ use Rattle.store_sound.specs.Concretization.SeenLabels.{as_set}
 use Rattle.store_sound.specs.Operations.Scalars.{signed_in}
 use Rattle.store_sound.proofs.operations.LoadSound.{instance_there}
 use Rattle.store_sound.specs.Programs.Premises.{HasPremises}
-use Rattle.transfer_sound.specs.Values.SoundSteps.{IsReached, InGammaAfter, IsStoodFor}
-use Rattle.transfer_sound.proofs.values.Admitted.{none_admitted, same_admitted}
+use Rattle.transfer_sound.specs.Values.SoundSteps.{IsReached, IsStoodFor}
 use Rattle.transfer_sound.proofs.values.MoveSteps.{near_has}
 use Rattle.transfer_sound.proofs.values.NearScalars.{IsNearNumber}
-use Rattle.transfer_sound.proofs.values.Replies.{clean_stop_good}
+use Rattle.transfer_sound.proofs.values.Replies.{clean_stop_good, clean_goes_good}
 use Rattle.transfer_sound.proofs.values.TypeRanges.{bounds_some}
 use Rattle.transfer_sound.proofs.tests.Relabelling.{IsRelabelling, side_change, change_below, change_drops, bounded_relabels, relabellings_follow}
 use Rattle.transfer_sound.proofs.tests.ScalarCells.{object_numbers, size_is, relabelled_stands}
@@ -259,23 +258,16 @@ module _ {I : Type 0} {l : LatticeOf I} {n : IntegersOf I} {gamma : I → ℤ �
 
     by_truth : (t : Bool) → test_holds flow.model s.world.memory same_sides ≡ t → IsStoodFor l n gamma flow (refined_row (side.Object b kl) (side.Object b kr)) no_violations (in_world s (passing t (with_memory s.world after_same)))
     by_truth false e = clean_stop_good l n gamma flow (refined_row (side.Object b kl) (side.Object b kr)) no_violations Stuck (with_memory s.world after_same) r.begun
-    by_truth true e = record {
-      goes_on = λ t u f.
-          let new : World = with_memory s.world after_same in
-          let now : ProgramState = record s { world = new } in
-          let a : now ≡ t = cc in
-          let d : new ≡ u = cc in
-          let here : InGammaAfter l n gamma flow (refined_row (side.Object b kl) (side.Object b kr)) (record now { world = new }) = record {
-            row = row_behind;
-            is = row_is e;
-            long = behind_long o q c flow p naming row s r test.rel k size b i kl kr left right en e;
-            naming = naming;
-            stands_for = behind o q c flow p naming row s r test.rel k size b i kl kr left right en e;
-            short = λ z. subst (λ x. pos x ≤ℤ greatest_of (kind_of flow.model Pointer true)) (sym ((relabels o q c flow p naming row s r test.rel k size b i kl kr left right en e).rewrite.alike.lengths z)) (r.short z);
-          } in
-          subst (λ z. InGammaAfter l n gamma flow (refined_row (side.Object b kl) (side.Object b kr)) (record z { world = u })) a (subst (λ z. InGammaAfter l n gamma flow (refined_row (side.Object b kl) (side.Object b kr)) (record now { world = z })) d here);
-      admits = same_admitted no_violations s.world.violated [] r.begun (none_admitted no_violations);
-    }
+    by_truth true e = let new : World = with_memory s.world after_same in
+        let now : ProgramState = record s { world = new } in
+        clean_goes_good l n gamma flow _ _ now new r.begun (record {
+          row = row_behind;
+          is = row_is e;
+          long = behind_long o q c flow p naming row s r test.rel k size b i kl kr left right en e;
+          naming = naming;
+          stands_for = behind o q c flow p naming row s r test.rel k size b i kl kr left right en e;
+          short = λ z. subst (λ x. pos x ≤ℤ greatest_of (kind_of flow.model Pointer true)) (sym ((relabels o q c flow p naming row s r test.rel k size b i kl kr left right en e).rewrite.alike.lengths z)) (r.short z);
+        })
 
     one_good : IsStoodFor l n gamma flow (refined_row (side.Object b kl) (side.Object b kr)) no_violations (behind_test (object i kl) (object i kr))
     one_good = by_truth (test_holds flow.model s.world.memory same_sides) refl

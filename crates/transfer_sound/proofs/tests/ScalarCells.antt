@@ -1,7 +1,6 @@
 -- The one cell of a scalar object, behind a change of labels, and what it says of the bytes.
-use Rattle.std.proofs.Common.{◌≡◌, ℕ, zero, suc, ◌+◌, ◌-◌, ◌*◌, ◌<◌, ◌≤◌, ◌^◌, Bool, true, false, Option, Some, None, List, [], ◌∷◌, length, take, drop, arith, subst, sym, refl, ap, ◌∙◌}
+use Rattle.std.proofs.Common.{◌≡◌, ℕ, zero, suc, ◌+◌, ◌-◌, ◌<◌, Bool, true, false, Option, Some, None, List, [], ◌∷◌, length, take, drop, arith, subst, sym, refl, ap, ◌∙◌}
 use Rattle.std.specs.Prelude.{slice_get, ℤ, pos}
-use Rattle.std.specs.Option.{unwrap_or}
 use Rattle.std.proofs.lemmas.Bool.{true≢false}
 use Rattle.std.proofs.lemmas.List.{length-map, length-take, length-drop, length-set}
 use Rattle.std.proofs.lemmas.Option.{same_Some, slice_get_within}
@@ -10,16 +9,16 @@ use Rattle.cc_base.specs.IntegerDomains.{IntegersOf, BoundLaws}
 use Rattle.c_layout.specs.declared.leaf_lists.Leaf.{Leaf}
 use Rattle.c_layout.specs.declared.shapes.BaseKind.TheVariants.{Older}
 use Rattle.c_layout.specs.declared.shapes.ZeroPart.{ZeroPart}
-use Rattle.cfg.specs.WellFormed.{base_values, is_declared}
+use Rattle.cfg.specs.WellFormed.{is_declared}
 use Rattle.cfg.specs.declared.programs.Flow.{Flow}
 use Rattle.value_domain.specs.Values.LabelSets.{labels_leq}
 use Rattle.value_domain.specs.declared.values.label_sets.Labels as sets
 use Rattle.value_domain.specs.declared.values.values.Value as values
 use Rattle.value_domain.specs.declared.values.row_cells.Cell.{Cell}
-use Rattle.value_domain.specs.declared.values.row_cells.Cell.TheVariants.{Nothing, Value}
+use Rattle.value_domain.specs.declared.values.row_cells.Cell.TheVariants.{Value}
 use Rattle.store_cells.specs.ClassNumbers.{is_pointer}
 use Rattle.store_cells.specs.NearValues.{near_value}
-use Rattle.store_cells.specs.RowPositions.{leaf_position, zero_position, cell_at, value_in, value_at, zero_at, put_value}
+use Rattle.store_cells.specs.RowPositions.{leaf_position, zero_position, value_at, zero_at, put_value}
 use Rattle.memory_model.specs.Memory.Labels.{Labels}
 use Rattle.memory_model.specs.Memory.ScalarSizes.{class_bytes}
 use Rattle.memory_model.specs.Memory.Bytes.{Content, indeterminate, number, part, Tag, Byte}
@@ -31,24 +30,23 @@ use Rattle.memory_model.specs.Effects.Accesses.{numbers_in}
 use Rattle.memory_model.specs.Effects.Tests.{scalar_size, object_bytes, relabelled}
 use Rattle.store_sound.specs.Concretization.FirstZeroBytes.{seen_as, first_zero}
 use Rattle.store_sound.specs.Concretization.Matching.{Fits, Matched, number_in, Holds}
-use Rattle.store_sound.specs.Concretization.Places.{IsPlaceOf, OwnedByLeaf}
+use Rattle.store_sound.specs.Concretization.Places.{OwnedByLeaf}
 use Rattle.store_sound.specs.Concretization.SeenLabels.{as_set}
 use Rattle.store_sound.specs.Concretization.ValueMeaning.{Naming, InGammaContent, InGammaZero}
 use Rattle.store_sound.specs.Concretization.SoundMemory.{IsContentIn, IsContentNamed}
 use Rattle.store_sound.specs.Concretization.RowMeaning.{MachineState, InGammaLeaf, InGamma, array_of, array_bytes}
 use Rattle.store_sound.proofs.operations.Frames.{pointer_moves, pointer_in_moves}
 use Rattle.store_sound.proofs.operations.LoadSound.{instance_there}
-use Rattle.store_sound.proofs.operations.Only.{cell_put}
 use Rattle.store_sound.proofs.operations.Reading.{numbers_length, numbers_at}
-use Rattle.store_sound.proofs.operations.Slices.{get_map, get_set_other, get_take, get_drop}
+use Rattle.store_sound.proofs.operations.Slices.{get_map, get_take, get_drop}
 use Rattle.store_sound.proofs.operations.StoreMemory.{content_named_moves}
-use Rattle.store_sound.proofs.operations.StoreRows.{leaf_is, zero_is}
+use Rattle.store_sound.proofs.operations.StoreRows.{zero_is}
 use Rattle.store_sound.proofs.operations.StoreValues.{same_zero}
 use Rattle.store_sound.proofs.operations.TagPlaces.{is_tagged}
 use Rattle.store_sound.specs.Programs.Premises.{HasPremises}
 use Rattle.transfer_sound.proofs.values.NearScalars.{IsNearNumber, near_number_stands, near_pointer_stands}
-use Rattle.transfer_sound.proofs.values.PartSteps.{declared_storage}
 use Rattle.transfer_sound.specs.Tests.ScalarObjects.{IsScalarObject}
+use Rattle.transfer_sound.proofs.tests.ScalarRows.{one_cell, leaf_there, only_leaf, place_zero, not_heap, fits, place_is, keeps, outside, own_value}
 use Rattle.transfer_sound.proofs.objects.Rewrites.{IsRewrite, rewrite_sane}
 use Rattle.transfer_sound.proofs.objects.ObjectRows.{own_instance, object_stands}
 
@@ -128,20 +126,14 @@ module _ {I : Type 0} {l : LatticeOf I} {n : IntegersOf I} {gamma : I → ℤ �
   abbrev pub cell_value : values.Value I
   cell_value = value_at l n row position
 
-  declared : t.info.shape.heap ≡ false
-  declared = sym (p.shaped.each b t.info t.is).kind ∙ declared_storage t.info.kind t.declared
-
-  leaf_there : slice_get t.info.shape.cells 0 ≡ Some t.leaf
-  leaf_there = ap (λ z. slice_get z 0) t.cells
-
   cell : InGammaLeaf gamma flow naming state.memory b t.leaf cell_value
-  cell = s.leaves b 0 t.info t.leaf t.is leaf_there
+  cell = s.leaves b 0 t.info t.leaf t.is (leaf_there t)
 
   pub size_is : length (bytes_at state.memory i) ≡ class_bytes flow.model t.leaf.class
   size_is =
       let it = instance_there state.memory i alive in
       let k = s.sane.instances i b t.info it.0 named t.is it.1 in
-      ap (λ z. length (bytes_of z)) it.1 ∙ (k.size declared ∙ (t.size ∙ ap (class_bytes flow.model) (sym t.class)))
+      ap (λ z. length (bytes_of z)) it.1 ∙ (k.size (not_heap p t) ∙ (t.size ∙ ap (class_bytes flow.model) (sym t.class)))
 
   small_byte : (o : ℕ) (x : Byte) → byte_at state.memory i o ≡ Some x → o < class_bytes flow.model t.leaf.class
   unfolding byte_at
@@ -150,18 +142,8 @@ module _ {I : Type 0} {l : LatticeOf I} {n : IntegersOf I} {gamma : I → ℤ �
   owner : (o : ℕ) → o < class_bytes flow.model t.leaf.class → OwnedByLeaf flow.model t.leaf o o
   owner o h = let a = t.offset in let c = t.count in record { start = 0; place = record { turn = 0; few = omega (arith, c); there = omega (arith, a) }; there = omega arith; small = h }
 
-  place_zero : (o : ℕ) → IsPlaceOf t.leaf o → o ≡ 0
-  place_zero o h =
-      let a = t.offset in
-      let c = t.count in
-      let few = h.few in
-      let first : h.turn ≡ 0 = omega (arith, c, few) in
-      let none : t.leaf.stride * h.turn ≡ t.leaf.stride * 0 = ap (λ z. t.leaf.stride * z) first in
-      let there = h.there in
-      omega (arith, a, none, there)
-
   owned_at : (o k : ℕ) → OwnedByLeaf flow.model t.leaf o k → o ≡ k
-  owned_at o k h = let a = place_zero h.start h.place in let c = h.there in omega (arith, a, c)
+  owned_at o k h = let a = place_zero t h.start h.place in let c = h.there in omega (arith, a, c)
 
   matched : (o : ℕ) (x : Byte) → byte_at state.memory i o ≡ Some x → Matched state.memory i o t.leaf.class o x.content
   unfolding byte_at
@@ -172,7 +154,7 @@ module _ {I : Type 0} {l : LatticeOf I} {n : IntegersOf I} {gamma : I → ℤ �
       fits_by (Some tg) h =
           let it = instance_there state.memory i alive in
           let k = s.sane.instances i b t.info it.0 named t.is it.1 in
-          let tagged : tag_at flow.model t.info.shape.cells o ≡ Some tg = sym (k.tags declared o x (sym (ap (λ z. slice_get (bytes_of z) o) it.1) ∙ e)) ∙ h in
+          let tagged : tag_at flow.model t.info.shape.cells o ≡ Some tg = sym (k.tags (not_heap p t) o x (sym (ap (λ z. slice_get (bytes_of z) o) it.1) ∙ e)) ∙ h in
           let g = is_tagged flow.model t.info.shape.cells o tg tagged in
           let one : t.leaf ≡ g.leaf = single_leaf t.leaf g.leaf g.index (sym (ap (λ z. slice_get z g.index) t.cells) ∙ g.among) in
           let own = subst (λ z. OwnedByLeaf flow.model z o tg.at) (sym one) g.owned in
@@ -226,30 +208,6 @@ module _ {I : Type 0} {l : LatticeOf I} {n : IntegersOf I} {gamma : I → ℤ �
     abbrev pub after : List (Cell I)
     after = put_value row position changed
 
-    fits : t.info.first + base_values t.info ≤ 2 ^ 64 - 1
-    fits = let k = p.laid.laid.close b t.info t.is in let small = p.laid.laid.small in omega (arith, k, small)
-
-    one_cell : length t.info.shape.cells ≡ 1
-    one_cell = ap length t.cells
-
-    position_is : position ≡ t.info.first + 0
-    position_is = let c = one_cell in leaf_is t.info 0 fits (omega (arith, c))
-
-    keeps : (x : ℕ) → (x ≡ position → ⊥) → cell_at after x ≡ cell_at row x
-    keeps x ne = ap (λ z. unwrap_or z Nothing) (get_set_other row position x (Value changed) ne)
-
-    outside : (x : ℕ) → (t.info.first ≤ x → x < t.info.first + base_values t.info → ⊥) → cell_at after x ≡ cell_at row x
-    outside x h = keeps x (λ e. let c = one_cell in let d = position_is in h (omega (arith, e, d)) (omega (arith, e, d, c)))
-
-    own_value : value_at l n after position ≡ near_value l n changed
-    unfolding value_at
-    own_value =
-        let k = p.laid.laid.close b t.info t.is in
-        let far = p.laid.long in
-        let c = one_cell in
-        let d = position_is in
-        ap (λ z. near_value l n (value_in l z)) (cell_put row position (Value changed) (omega (arith, k, far, long, c, d)))
-
     -- the numbers of the bytes are those that were there
     numbers_are : (ms : List Labelled) → Holds flow.model new i 0 t.leaf.class ms → number_of t.leaf.signed ms ≡ a
     numbers_are ms h = same_numbers t.leaf.signed ms ns (h.size ∙ sym few) (λ k x y e f.
@@ -274,23 +232,19 @@ module _ {I : Type 0} {l : LatticeOf I} {n : IntegersOf I} {gamma : I → ℤ �
     own_cell : InGammaLeaf gamma flow naming new b t.leaf (near_value l n changed)
     own_cell = record {
       whole = λ k o ms h place plain held.
-          let own = own_instance flow p naming row state s b i t.info t.is named alive declared (not_older flow b kind t) w k h in
-          let zero = place_zero o place in
+          let own = own_instance flow p naming row state s b i t.info t.is named alive (not_heap p t) (not_older flow b kind t) w k h in
+          let zero = place_zero t o place in
           let there : Holds flow.model new i 0 t.leaf.class ms = subst (λ z. Holds flow.model new i z t.leaf.class ms) zero (subst (λ z. Holds flow.model new z o t.leaf.class ms) own held) in
           subst (gamma (near_value l n changed).num) (sym (numbers_are ms there)) (near_number_stands q num a near stands_num);
       byte = λ k o j content h owns y.
-          let own = own_instance flow p naming row state s b i t.info t.is named alive declared (not_older flow b kind t) w k h in
+          let own = own_instance flow p naming row state s b i t.info t.is named alive (not_heap p t) (not_older flow b kind t) w k h in
           let one : Byte = record { content = content; tag = y.tag } in
           let z = rel o one (subst (λ u. byte_at new u o ≡ Some one) own y.here) in
           subst (InGammaContent gamma naming new (near_value l n changed) t.leaf.class) (sym z.2) (content_by z.0.content z.0.tag (s.sane.bytes i o z.0 z.1) (byte_stands o z.0 z.1));
     }
 
     own_leaves : (j : ℕ) (leaf : Leaf) → slice_get t.info.shape.cells j ≡ Some leaf → InGammaLeaf gamma flow naming new b leaf (value_at l n after (leaf_position t.info j))
-    own_leaves j leaf e = by_index j (sym (ap (λ z. slice_get z j) t.cells) ∙ e)
-      where
-        by_index : (j : ℕ) → slice_get (t.leaf ∷ []) j ≡ Some leaf → InGammaLeaf gamma flow naming new b leaf (value_at l n after (leaf_position t.info j))
-        by_index zero f = subst (λ z. InGammaLeaf gamma flow naming new b z (value_at l n after position)) (same_Some t.leaf leaf f) (subst (InGammaLeaf gamma flow naming new b t.leaf) (sym own_value) own_cell)
-        by_index (suc j) f = cc
+    own_leaves = only_leaf t (λ j leaf. InGammaLeaf gamma flow naming new b leaf (value_at l n after (leaf_position t.info j))) (subst (InGammaLeaf gamma flow naming new b t.leaf) (sym (own_value p t row changed l n long)) own_cell)
 
     bytes_seen : SeenSame (bytes_at new i) (bytes_at state.memory i)
     unfolding byte_at
@@ -302,10 +256,10 @@ module _ {I : Type 0} {l : LatticeOf I} {n : IntegersOf I} {gamma : I → ℤ �
     own_zeros : (z : ℕ) (zeros : ZeroPart) → slice_get t.info.shape.zeros z ≡ Some zeros → InGammaZero gamma naming new (zero_at l n after (zero_position t.info z)) (array_bytes zeros (bytes_at new i))
     own_zeros z zeros e =
         let small = slice_get_within t.info.shape.zeros z zeros e in
-        let x = zero_is t.info z fits (omega (arith, small)) in
-        let c = one_cell in
-        let d = position_is in
-        let same = same_zero l n row after (zero_position t.info z) (keeps (zero_position t.info z) (λ f. omega (arith, f, x, c, d))) in
+        let x = zero_is t.info z (fits p t) (omega (arith, small)) in
+        let c = one_cell t in
+        let d = place_is p t in
+        let same = same_zero l n row after (zero_position t.info z) (keeps p t row changed (zero_position t.info z) (λ f. omega (arith, f, x, c, d))) in
         let part = array_same zeros.size (drop zeros.offset (bytes_at new i)) (drop zeros.offset (bytes_at state.memory i)) (drop_same zeros.offset (bytes_at new i) (bytes_at state.memory i) bytes_seen) in
         let first = same_zeros (array_bytes zeros (bytes_at new i)) (array_bytes zeros (bytes_at state.memory i)) part.long part.each in
         rw (same, first) (s.zeros b z i t.info zeros t.is e (record { named = named; alive = alive }))
@@ -331,7 +285,7 @@ module _ {I : Type 0} {l : LatticeOf I} {n : IntegersOf I} {gamma : I → ℤ �
         content_named (part x k) h = content_named_moves naming state.memory new w.alike.lives (part x k) h
 
     pub relabelled_stands : InGamma l n gamma flow naming after (record { memory = new; temps = state.temps; entered = state.entered })
-    relabelled_stands = object_stands flow p naming row state s b i t.info t.is named alive declared (not_older flow b kind t) w (rewrite_sane flow.model flow.bases.items naming w s.sane valid) after outside own_leaves own_zeros
+    relabelled_stands = object_stands flow p naming row state s b i t.info t.is named alive (not_heap p t) (not_older flow b kind t) w (rewrite_sane flow.model flow.bases.items naming w s.sane valid) after (outside p t row changed) own_leaves own_zeros
 
     pub relabelled_long : length after ≡ flow.width
     relabelled_long = length-set row position (Value changed) ∙ long

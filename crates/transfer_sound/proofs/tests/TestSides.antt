@@ -35,10 +35,9 @@ use Rattle.store_sound.specs.Concretization.ValueMeaning.{Naming}
 use Rattle.store_sound.specs.Concretization.RowMeaning.{InGamma}
 use Rattle.store_sound.specs.Concretization.SeenLabels.{as_set}
 use Rattle.store_sound.specs.Programs.Premises.{HasPremises}
-use Rattle.transfer_sound.specs.Values.SoundSteps.{IsReached, InGammaAfter, IsStoodFor}
-use Rattle.transfer_sound.proofs.values.Admitted.{none_admitted, same_admitted}
+use Rattle.transfer_sound.specs.Values.SoundSteps.{IsReached, IsStoodFor}
 use Rattle.transfer_sound.proofs.values.NearScalars.{near_number_stands}
-use Rattle.transfer_sound.proofs.values.Replies.{clean_stop_good, if_some_good}
+use Rattle.transfer_sound.proofs.values.Replies.{clean_stop_good, if_some_good, clean_goes_good}
 use Rattle.transfer_sound.proofs.values.TypeRanges.{bounds_some}
 use Rattle.transfer_sound.proofs.edges.EdgeSteps.{is_near}
 use Rattle.transfer_sound.specs.Tests.ScalarObjects.{IsScalarObject, NamesScalar}
@@ -55,7 +54,7 @@ IsSeen flow entered (side.Object b kind) i = IsScalarObject flow b kind × (ente
 IsSeen flow entered (side.Number z) i = is_number z ≡ true
 IsSeen flow entered side.Null i = Unit {0}
 
-bounded_constant : (m : _) (rel : Rel) (k : IntType) (z : ℤ) (other : Labels) (memory : Memory) → bounded m rel k (constant z) other memory ≡ memory
+pub bounded_constant : (m : _) (rel : Rel) (k : IntType) (z : ℤ) (other : Labels) (memory : Memory) → bounded m rel k (constant z) other memory ≡ memory
 bounded_constant m rel k z other memory = elim (cases_Bool (is_unlabelled other)) [ inl e ↦ rw e refl | inr e ↦ rw e refl ]
 
 module _ {I : Type 0} {l : LatticeOf I} {n : IntegersOf I} {gamma : I → ℤ → Type 0} (o : OrderLaws l) (q : BoundLaws l n gamma) (c : SoundLaws l n gamma) (flow : Flow) (p : HasPremises flow) (naming : Naming) (temps : ℕ → Option Scalar) (entered : ℕ → Option ℕ) where
@@ -190,23 +189,16 @@ module _ {I : Type 0} {l : LatticeOf I} {n : IntegersOf I} {gamma : I → ℤ �
             let both = both_refined e in
             let is : refine_in l n flow test (Some k) row ≡ Some behind_row =
             ap (λ z. cond z (refine_one n flow test.left (met l n new_left new_right) row) (refine_two n flow test new_left new_right row)) apart ∙ ap (λ z. cond z (Some behind_row) None) (and_from (has_number n new_left) (has_number n new_right) both.left_number both.right_number) in
-            record {
-              goes_on = λ t u f.
-                  let new : World = with_memory s.world after in
-                  let now : ProgramState = record s { world = new } in
-                  let a : now ≡ t = cc in
-                  let d : new ≡ u = cc in
-                  let here : InGammaAfter l n gamma flow (refine_in l n flow test (Some k) row) (record now { world = new }) = record {
-                    row = behind_row;
-                    is = is;
-                    long = both.long;
-                    naming = naming;
-                    stands_for = both.stands_for;
-                    short = λ z. subst (λ x. pos x ≤ℤ greatest_of (kind_of flow.model Pointer true)) (sym (both.lengths z)) (r.short z);
-                  } in
-                  subst (λ z. InGammaAfter l n gamma flow (refine_in l n flow test (Some k) row) (record z { world = u })) a (subst (λ z. InGammaAfter l n gamma flow (refine_in l n flow test (Some k) row) (record now { world = z })) d here);
-              admits = same_admitted no_violations s.world.violated [] r.begun (none_admitted no_violations);
-            }
+            let new : World = with_memory s.world after in
+            let now : ProgramState = record s { world = new } in
+            clean_goes_good l n gamma flow _ _ now new r.begun (record {
+              row = behind_row;
+              is = is;
+              long = both.long;
+              naming = naming;
+              stands_for = both.stands_for;
+              short = λ z. subst (λ x. pos x ≤ℤ greatest_of (kind_of flow.model Pointer true)) (sym (both.lengths z)) (r.short z);
+            })
 
 -- ---- the machine's sides
 

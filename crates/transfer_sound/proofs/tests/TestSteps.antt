@@ -51,7 +51,7 @@ use Rattle.memory_model.specs.Effects.ScalarBytes.{contents}
 use Rattle.store_sound.specs.Concretization.ValueMeaning.{InGammaContent}
 use Rattle.store_sound.specs.Operations.Scalars.{signed_in}
 use Rattle.store_sound.proofs.operations.CellReads.{integer_is, scalar_pointer_is}
-use Rattle.store_sound.proofs.operations.Classes.{integer_class}
+use Rattle.store_sound.proofs.operations.Classes.{integer_class, size_above}
 use Rattle.store_sound.proofs.operations.LoadSound.{instance_there}
 use Rattle.store_sound.proofs.operations.Rereading.{halves}
 use Rattle.store_sound.proofs.operations.Slices.{get_take, get_set_other}
@@ -73,10 +73,6 @@ rem_own (negsuc n) m p q = absurd (omega (arith, ints, p))
 pow_above : (n : ℕ) → 0 < 2 ^ n
 pow_above zero = omega arith
 pow_above (suc n) = let h = pow_above n in let e = pow-add 2 1 n in let f : 1 + n ≡ suc n = omega arith in subst (λ x. 0 < 2 ^ x) f (omega (arith, h, e))
-
-size_above : (n : ℕ) → is_size n ≡ true → 0 < n
-size_above zero h = cc
-size_above (suc n) h = omega arith
 
 range_width : (k : IntType) → is_size k.bytes ≡ true → (least_of k +ℤ pos (modulus k)) ≡ (greatest_of k +ℤ pos 1)
 range_width k h =

@@ -5,6 +5,7 @@ use Rattle.std.specs.Int.{int_min, int_max}
 use Rattle.std.specs.Ordering.{int_eq}
 use Rattle.std.proofs.lemmas.Int.{ints, clamps}
 use Rattle.std.proofs.lemmas.Bool.{cases_Bool, cond_both, and_parts, and_from, or_cases, true≢false}
+use Rattle.std.proofs.Math.Bool.{or_self}
 use Rattle.cc_base.specs.Lattices.{LatticeOf}
 use Rattle.cc_base.specs.NumberRanges.{Range, range_met}
 use Rattle.cc_base.specs.IntegerTypes.{least_of, greatest_of, in_type}
@@ -31,7 +32,7 @@ use Rattle.memory_model.specs.Memory.Labels.{Labels, operated_labels}
 use Rattle.memory_model.specs.Effects.IntegerEffects.{result_of, is_outside, fault_if, division_faults, shift_faults, overflow_faults, binary_faults}
 use Rattle.store_sound.specs.Concretization.SeenLabels.{as_set}
 use Rattle.transfer_sound.proofs.values.Admitted.{AreAdmitted, none_admitted, one_admitted, both_admitted}
-use Rattle.transfer_sound.proofs.values.TypeRanges.{same_int, bounds_number, bounds_some}
+use Rattle.transfer_sound.proofs.values.TypeRanges.{same_int, bounds_number, bounds_some, lt_from}
 
 -- ---- labels
 
@@ -47,25 +48,18 @@ same_operated Xor s t k leaves = refl
 same_operated Shl s t k leaves = refl
 same_operated Shr s t k leaves = refl
 
-or_self : (b : Bool) → (b || b) ≡ b
-or_self true = refl
-or_self false = refl
-
 -- one number within bounds is left by them
-met_one : (a lo hi : ℤ) → lo ≤ℤ a → a ≤ℤ hi → range_met (Some (a, a)) lo hi ≡ Some (a, a)
+pub met_one : (a lo hi : ℤ) → lo ≤ℤ a → a ≤ℤ hi → range_met (Some (a, a)) lo hi ≡ Some (a, a)
 met_one a lo hi f g =
     let low : int_max a lo ≡ a = omega (arith, ints, clamps, f) in
     let high : int_min a hi ≡ a = omega (arith, ints, clamps, g) in
     cond_both (int_le (int_max a lo) (int_min a hi)) (Some (int_max a lo, int_min a hi)) None (λ r. r ≡ Some (a, a))
     (λ e. λ i. Some (low i, high i)) (λ e. absurd (grind (arith, ints, clamps, f, g, e)))
 
-lt_is : (a b : ℤ) → int_lt a b ≡ false → b ≤ℤ a
+pub lt_is : (a b : ℤ) → int_lt a b ≡ false → b ≤ℤ a
 lt_is a b h = grind (arith, ints)
 
-lt_from : (a b : ℤ) → int_lt a b ≡ true → a <ℤ b
-lt_from a b h = grind (arith, ints)
-
-le_is : (a b : ℤ) → int_le a b ≡ true → a ≤ℤ b
+pub le_is : (a b : ℤ) → int_le a b ≡ true → a ≤ℤ b
 le_is a b h = grind (arith, ints)
 
 count_below : (k : IntType) (b : ℤ) → is_count k b ≡ true → (pos 0 ≤ℤ b) × (b ≤ℤ (pos (8 * k.bytes) -ℤ pos 1))
@@ -76,7 +70,7 @@ count_below k b h =
     (f, omega (arith, ints, g))
 
 -- a number of a type from 0 on that is shifted by a count leaves the type by its corner
-shift_corner : (k : IntType) (a b : ℤ) → in_type k a ≡ true → int_lt a (pos 0) ≡ false → is_count k b ≡ true → corners_leave Shl k (a, a) (b, b) ≡ not (in_type k (a *ℤ pos (2 ^ unsigned_abs b)))
+pub shift_corner : (k : IntType) (a b : ℤ) → in_type k a ≡ true → int_lt a (pos 0) ≡ false → is_count k b ≡ true → corners_leave Shl k (a, a) (b, b) ≡ not (in_type k (a *ℤ pos (2 ^ unsigned_abs b)))
 shift_corner k a b inside positive count =
     let top = le_is a (greatest_of k) (and_parts (int_le (least_of k) a) (int_le a (greatest_of k)) inside).1 in
     let c = count_below k b count in
@@ -94,7 +88,7 @@ some_shift k a b c h = elim (cases_Bool (is_count k b)) [
 ]
 
 -- whether the mathematical result leaves the type, as the machine and the corners say it
-left_is : (op : IntOp) (k : IntType) (a b c : ℤ) → in_type k a ≡ true → binary_result op k a b ≡ Some c → is_outside k (result_of op a b) ≡ corners_leave op k (a, a) (b, b)
+pub left_is : (op : IntOp) (k : IntType) (a b c : ℤ) → in_type k a ≡ true → binary_result op k a b ≡ Some c → is_outside k (result_of op a b) ≡ corners_leave op k (a, a) (b, b)
 left_is Add k a b c i h = sym (or_self (table.is_outside k (a +ℤ b)))
 left_is Sub k a b c i h = sym (or_self (table.is_outside k (a -ℤ b)))
 left_is Mul k a b c i h = sym (or_self (table.is_outside k (a *ℤ b) || table.is_outside k (a *ℤ b)) ∙ or_self (table.is_outside k (a *ℤ b)))

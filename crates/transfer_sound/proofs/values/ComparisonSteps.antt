@@ -111,20 +111,20 @@ smaller a m h =
     let d = div_below a m (suc a) h (omega (arith, t)) in
     omega (arith, d)
 
-record IsWithinTop (z : ℤ) (top : ℕ) : Type 0 where
-  from : (pos 0 -ℤ pos top) ≤ℤ z
-  to : z ≤ℤ pos top
+pub record IsWithinTop (z : ℤ) (top : ℕ) : Type 0 where
+  pub from : (pos 0 -ℤ pos top) ≤ℤ z
+  pub to : z ≤ℤ pos top
 
-quotient_within : (x : ℤ) (m top : ℕ) → 0 < m → IsWithinTop x top → IsWithinTop (int_div x (pos m)) top
+pub quotient_within : (x : ℤ) (m top : ℕ) → 0 < m → IsWithinTop x top → IsWithinTop (int_div x (pos m)) top
 quotient_within (pos a) m top h w = let d = smaller a m h in let e = w.to in record { from = omega (arith, ints, d); to = omega (arith, ints, d, e) }
 quotient_within (negsuc a) m top h w = let d = smaller (suc a) m h in let e = w.from in record { from = omega (arith, ints, d, e); to = omega (arith, ints, d) }
 
 -- a number of elements between offsets of an object that is not too long is one of ptrdiff_t
-distance_type : (m : Model) (z : ℤ) (top : ℕ) → IsWithinTop z top → pos top ≤ℤ greatest_of (kind_of m class.Pointer true) → in_type (kind_of m class.Pointer true) z ≡ true
+pub distance_type : (m : Model) (z : ℤ) (top : ℕ) → IsWithinTop z top → pos top ≤ℤ greatest_of (kind_of m class.Pointer true) → (least_of (kind_of m class.Pointer true) ≤ℤ z) × (z ≤ℤ greatest_of (kind_of m class.Pointer true))
 distance_type m z top w h =
     let a = w.from in
     let b = w.to in
-    and_from _ _ (le_told (least_of (kind_of m class.Pointer true)) z (omega (arith, ints, a, h))) (le_told z (greatest_of (kind_of m class.Pointer true)) (omega (arith, ints, b, h)))
+    (omega (arith, ints, a, h), omega (arith, ints, b, h))
 
 module _ {I : Type 0} {l : LatticeOf I} {n : IntegersOf I} {gamma : I → ℤ → Type 0} (o : OrderLaws l) (q : BoundLaws l n gamma) (c : SoundLaws l n gamma) (flow : Flow) (p : HasPremises flow) (naming : Naming) (row : List (Cell I)) (s : ProgramState) (r : IsReached l n gamma flow naming row s) where
   abbrev single : Bases
@@ -256,7 +256,8 @@ module _ {I : Type 0} {l : LatticeOf I} {n : IntegersOf I} {gamma : I → ℤ �
         let w = distance_of size some h in
         let z : ℤ = elements_between pa pb size in
         let small = r.stands_for.sane.small h.i in
-        let is_type = distance_type flow.model z (length (bytes_at s.world.memory h.i)) w (r.short h.i) in
+        let typed = distance_type flow.model z (length (bytes_at s.world.memory h.i)) w (r.short h.i) in
+        let is_type : in_type (kind_of flow.model class.Pointer true) z ≡ true = and_from _ _ (le_told _ _ typed.0) (le_told _ _ typed.1) in
         let number : gamma (difference_of l n flow x y size).num z =
         let e : z ≡ int_div (pos h.o1 -ℤ pos h.o2) (pos size) = ap (λ y. elements_between y pb size) h.left ∙ ap (λ y. elements_between (into h.i h.o1 h.lo1 h.hi1) y size) h.right in
         subst (gamma (difference_of l n flow x y size).num) (sym e) (difference_stands q x y h.st1.base h.st2.base size (kind_of flow.model class.Pointer true) (pos h.lo1) (pos h.o1) (pos h.hi1) (pos h.lo2) (pos h.o2) (pos h.hi2) some

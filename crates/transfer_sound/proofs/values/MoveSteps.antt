@@ -68,6 +68,15 @@ neg_times (pos zero) f = omega (arith, ints)
 neg_times (pos (suc n)) f = let e = negsuc-*ℤ-pos n f in omega (arith, ints, e)
 neg_times (negsuc n) f = let e = negsuc-*ℤ-pos n f in omega (arith, ints, e)
 
+-- the number by which a pointer is moved
+abbrev pub directed : Bool → ℤ → ℤ
+directed true z = neg_ℤ z
+directed false z = z
+
+pub distance_is : (back : Bool) (z : ℤ) (scale : ℕ) → distance_of back z scale ≡ (directed back z *ℤ pos scale)
+distance_is false z scale = refl
+distance_is true z scale = neg_times z scale
+
 -- where a place lies before the bounds or behind their length, some may
 outside_bounds : (x y : Range) (z room : ℤ) → RangeHas x z → RangeHas y room → (z <ℤ pos 0) ⊎ (room <ℤ z) → leaves_bounds_at x y ≡ true
 outside_bounds None y z room h k e = absurd h
@@ -126,9 +135,6 @@ module _ {I : Type 0} {l : LatticeOf I} {n : IntegersOf I} {gamma : I → ℤ �
       number_in (pointer at) = pos 0
 
   -- the number by which a pointer is moved
-  abbrev pub directed : Bool → ℤ → ℤ
-  directed true z = neg_ℤ z
-  directed false z = z
 
   signed_stands : (back : Bool) (x : I) (z : ℤ) → IsNearNumber z → gamma x z → gamma (signed_amount l n x back) (directed back z)
   signed_stands false x z near h = h
@@ -138,10 +144,6 @@ module _ {I : Type 0} {l : LatticeOf I} {n : IntegersOf I} {gamma : I → ℤ �
       let e : (pos 0 -ℤ z) ≡ neg_ℤ z = omega (arith, ints) in
       near_number_stands q _ (neg_ℤ z) (record { from = omega (arith, ints, g); to = omega (arith, ints, f) })
       (subst (gamma _) e (of_range_stands q (range_difference (Some (pos 0, pos 0)) (n.bounds x)) (pos 0 -ℤ z) (difference_has (Some (pos 0, pos 0)) (n.bounds x) (pos 0) z (omega (arith, ints), omega (arith, ints)) (bounds_have q x z h))))
-
-  distance_is : (back : Bool) (z : ℤ) (scale : ℕ) → distance_of back z scale ≡ (directed back z *ℤ pos scale)
-  distance_is false z scale = refl
-  distance_is true z scale = neg_times z scale
 
   -- ---- one move
 

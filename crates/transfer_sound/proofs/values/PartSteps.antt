@@ -67,12 +67,12 @@ declared_storage Newest h = absurd (true≢false (sym h))
 declared_storage Older h = absurd (true≢false (sym h))
 
 -- an object that an offset lies in, or at whose end
-record IsReachedBy (offset : ℕ) (o : Option BaseInfo) : Type 0 where
-  info : BaseInfo
-  is : o ≡ Some info
-  inside : offset ≤ info.size
+pub record IsReachedBy (offset : ℕ) (o : Option BaseInfo) : Type 0 where
+  pub info : BaseInfo
+  pub is : o ≡ Some info
+  pub inside : offset ≤ info.size
 
-reached_by : (offset : ℕ) (o : Option BaseInfo) → reaches offset o ≡ true → IsReachedBy offset o
+pub reached_by : (offset : ℕ) (o : Option BaseInfo) → reaches offset o ≡ true → IsReachedBy offset o
 reached_by offset None h = absurd (true≢false (sym h))
 reached_by offset (Some info) h = record { info = info; is = refl; inside = leb-true offset info.size h }
 

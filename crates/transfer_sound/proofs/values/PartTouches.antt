@@ -1,9 +1,8 @@
 -- The touch of a part of what a pointer points to.
-use Rattle.std.proofs.Common.{◌≡◌, ℕ, ◌+◌, ◌<◌, ◌≤◌, true, false, ◌&&◌, Some, None, List, length, arith, subst, refl}
-use Rattle.std.specs.Prelude.{slice_get, ℤ, pos, ◌+ℤ◌, ◌-ℤ◌, ◌≤ℤ◌, int_lt, nat_le, nat_lt}
+use Rattle.std.proofs.Common.{◌≡◌, ℕ, ◌+◌, ◌≤◌, true, false, ◌&&◌, Some, None, List, length, arith, subst, refl}
+use Rattle.std.specs.Prelude.{slice_get, ℤ, pos, ◌+ℤ◌, ◌-ℤ◌, ◌≤ℤ◌, nat_le, nat_lt}
 use Rattle.std.proofs.lemmas.Int.{ints}
 use Rattle.std.proofs.lemmas.Bool.{and_from, and_parts, or_right, lt-ltb}
-use Rattle.std.proofs.lemmas.Bool.Decides.{nat_tests}
 use Rattle.std.proofs.lemmas.Option.{slice_get_within}
 use Rattle.cc_base.specs.Lattices.{LatticeOf, OrderLaws}
 use Rattle.cc_base.specs.IntegerDomains.{IntegersOf, BoundLaws}
@@ -28,14 +27,8 @@ use Rattle.store_sound.proofs.operations.Windows.{RangeHas, met_has}
 use Rattle.store_sound.proofs.operations.LoadSound.{live_if}
 use Rattle.store_sound.proofs.operations.Sets.{in_live}
 use Rattle.store_sound.proofs.operations.StorePlaces.{not_empty}
-use Rattle.store_sound.proofs.operations.TouchSound.{range_stands, bounds_have, bounded, room_above, or_none}
+use Rattle.store_sound.proofs.operations.TouchSound.{range_stands, bounds_have, bounded, room_above, or_none, past_end, lt_true}
 use Rattle.transfer_sound.proofs.values.NearScalars.{near_offset, near_distance, near_number_stands}
-
-past_end : (a b c d : ℕ) → (nat_le a b && nat_le c d) ≡ false → a ≤ b → d < c
-past_end a b c d h k = grind (arith, nat_tests)
-
-lt_true : (x y : ℤ) → (x +ℤ pos 1) ≤ℤ y → int_lt x y ≡ true
-lt_true x y h = grind (arith, ints)
 
 -- places that end behind all room may lie behind it
 past_bounds : (x y : Range) (from size : ℕ) (z room : ℤ) → RangeHas x z → RangeHas y room → ((room +ℤ pos 1) ≤ℤ (z +ℤ pos (from + size))) → leaves_bounds_at (range_sum x (span_of from size)) y ≡ true

@@ -1,22 +1,20 @@
 -- A row with another value in a temporary stands for the state with another scalar there.
-use Rattle.std.proofs.Common.{◌≡◌, ℕ, ◌<◌, true, cond, Some, List, length, arith, sym, subst, refl, ap, ◌∙◌, inl, inr}
+use Rattle.std.proofs.Common.{◌≡◌, ℕ, ◌<◌, true, cond, Some, List, length, arith, sym, subst, refl, ◌∙◌, inl, inr}
 use Rattle.std.specs.Prelude.{slice_get, ℤ, Option, ◌==◌}
-use Rattle.std.specs.Option.{unwrap_or}
 use Rattle.std.proofs.lemmas.Bool.{cases_Bool, eqb-true, eqb-false}
 use Rattle.std.proofs.lemmas.List.{length-set}
 use Rattle.std.proofs.lemmas.Option.{same_Some, slice_get_within}
 use Rattle.cc_base.specs.Lattices.{LatticeOf}
 use Rattle.cc_base.specs.IntegerDomains.{IntegersOf, BoundLaws}
-use Rattle.c_layout.specs.declared.leaf_lists.Leaf.{Leaf}
 use Rattle.c_layout.specs.declared.shapes.BaseInfo.{BaseInfo}
 use Rattle.c_layout.specs.declared.shapes.ZeroPart.{ZeroPart}
 use Rattle.cfg.specs.declared.programs.Flow.{Flow}
 use Rattle.value_domain.specs.declared.values.values.Value as values
 use Rattle.value_domain.specs.declared.values.row_cells.Cell.{Cell}
-use Rattle.value_domain.specs.declared.values.row_cells.Cell.TheVariants.{Nothing, Value}
+use Rattle.value_domain.specs.declared.values.row_cells.Cell.TheVariants.{Value}
 use Rattle.store_cells.specs.ClassNumbers.{class_at}
 use Rattle.store_cells.specs.NearValues.{near_value}
-use Rattle.store_cells.specs.RowPositions.{leaf_position, class_position, zero_position, state_position, cell_at, value_in, value_at}
+use Rattle.store_cells.specs.RowPositions.{leaf_position, class_position, zero_position, state_position}
 use Rattle.transfer_checks.specs.Temporaries.{temp_position, temp_value, put_temp}
 use Rattle.memory_model.specs.Memory.Instances.{Memory, bytes_at, life_at}
 use Rattle.memory_model.specs.Memory.Scalars.{Scalar, pointer}
@@ -26,12 +24,11 @@ use Rattle.store_sound.specs.Concretization.ValueMeaning.{Naming, InGammaScalar,
 use Rattle.store_sound.specs.Concretization.SoundMemory.{IsScalarIn, IsNamed}
 use Rattle.store_sound.specs.Concretization.RowMeaning.{MachineState, array_bytes, InGammaLeaf, InGammaClass, InGamma}
 use Rattle.store_sound.specs.Operations.Scalars.{IsScalarNamed}
-use Rattle.store_sound.proofs.operations.Only.{cell_put}
-use Rattle.store_sound.proofs.operations.Slices.{get_set_other}
-use Rattle.store_sound.proofs.operations.StoreRows.{leaf_is, class_is, zero_is}
+use Rattle.store_sound.proofs.operations.StoreRows.{class_is, zero_is}
 use Rattle.store_sound.proofs.operations.StoreSound.{scalar_named}
 use Rattle.store_sound.proofs.operations.StoreValues.{same_value, same_zero, same_state}
 use Rattle.store_sound.specs.Programs.Premises.{HasPremises}
+use Rattle.transfer_sound.proofs.values.TempRows.{leaf_below, base_keeps, own_value, other_value}
 use Rattle.transfer_sound.proofs.values.NearScalars.{IsNearScalar, near_scalar_stands}
 
 -- what a table has with something at a number
@@ -60,21 +57,6 @@ module _ {I : Type 0} {l : LatticeOf I} {n : IntegersOf I} {gamma : I → ℤ �
     abbrev after : List (Cell I)
     after = put_temp flow row to x
 
-    keeps : (at : ℕ) → (at ≡ temp_position flow to → ⊥) → cell_at after at ≡ cell_at row at
-    keeps at ne = ap (λ c. unwrap_or c Nothing) (get_set_other row (temp_position flow to) at (Value x) ne)
-
-    -- a position of a base is none of a temporary
-    base_keeps : (at : ℕ) → at < p.laid.behind → cell_at after at ≡ cell_at row at
-    base_keeps at h = keeps at (λ e. let t = p.laid.temporaries in let k = p.laid.laid.small in omega (arith, e, h, t, k))
-
-    leaf_below : (b j : ℕ) (base : BaseInfo) (leaf : Leaf) → slice_get flow.bases.items b ≡ Some base → slice_get base.shape.cells j ≡ Some leaf → leaf_position base j < p.laid.behind
-    leaf_below b j base leaf e f =
-        let c = p.laid.laid.close b base e in
-        let k = p.laid.laid.small in
-        let t = slice_get_within base.shape.cells j leaf f in
-        let i = leaf_is base j (omega (arith, c, k)) t in
-        omega (arith, c, t, i)
-
     class_below : (b c : ℕ) (base : BaseInfo) → slice_get flow.bases.items b ≡ Some base → base.shape.heap ≡ true → c < 6 → class_position base c < p.laid.behind
     class_below b c base e heap h =
         let d = p.laid.laid.close b base e in
@@ -101,22 +83,12 @@ module _ {I : Type 0} {l : LatticeOf I} {n : IntegersOf I} {gamma : I → ℤ �
 
     -- ---- temporaries
 
-    in_row : temp_position flow to < length row
-    in_row = let t = p.temps in let k = p.short in omega (arith, few, t, k, long)
-
-    own_value : temp_value l n flow after to ≡ near_value l n x
-    unfolding value_at
-    own_value = ap (λ c. near_value l n (value_in l c)) (cell_put row (temp_position flow to) (Value x) in_row)
-
-    other_value : (t : ℕ) → (t ≡ to → ⊥) → temp_value l n flow after t ≡ temp_value l n flow row t
-    other_value t ne = same_value l n row after (temp_position flow t) (keeps (temp_position flow t) (λ e. let a = p.temps in let k = p.short in ne (omega (arith, few, a, k, e))))
-
     temp_by : (t : ℕ) (scalar : Scalar) → PutCases t to v scalar (state.temps t) → InGammaScalar gamma naming state.memory (temp_value l n flow after t) scalar
     temp_by t scalar (here e f) =
         subst (λ z. InGammaScalar gamma naming state.memory (temp_value l n flow after z) scalar) (sym e)
-        (subst (λ z. InGammaScalar gamma naming state.memory z scalar) (sym own_value)
+        (subst (λ z. InGammaScalar gamma naming state.memory z scalar) (sym (own_value p row to x l n few long))
         (subst (InGammaScalar gamma naming state.memory (near_value l n x)) f (near_scalar_stands q flow.model flow.bases.items naming state.memory s.sane x v r.within r.near r.stands_for)))
-    temp_by t scalar (there ne f) = subst (λ z. InGammaScalar gamma naming state.memory z scalar) (sym (other_value t ne)) (s.temps t scalar f)
+    temp_by t scalar (there ne f) = subst (λ z. InGammaScalar gamma naming state.memory z scalar) (sym (other_value p row to x l n few t ne)) (s.temps t scalar f)
 
     within_by : (t : ℕ) (scalar : Scalar) → PutCases t to v scalar (state.temps t) → IsScalarIn state.memory scalar
     within_by t scalar (here e f) = subst (IsScalarIn state.memory) f r.within
@@ -134,10 +106,10 @@ module _ {I : Type 0} {l : LatticeOf I} {n : IntegersOf I} {gamma : I → ℤ �
         named = λ t at e. named_by t at (put_cases state.temps to v t (pointer at) e);
       };
       lives = s.lives;
-      leaves = λ b j base leaf e f. subst (InGammaLeaf gamma flow naming state.memory b leaf) (sym (same_value l n row after (leaf_position base j) (base_keeps (leaf_position base j) (leaf_below b j base leaf e f)))) (s.leaves b j base leaf e f);
-      classes = λ b c base e heap h. subst (InGammaClass gamma flow naming state.memory b base (class_at c)) (sym (same_value l n row after (class_position base c) (base_keeps (class_position base c) (class_below b c base e heap h)))) (s.classes b c base e heap h);
-      zeros = λ b z i base part e f h. subst (λ y. InGammaZero gamma naming state.memory y (array_bytes part (bytes_at state.memory i))) (sym (same_zero l n row after (zero_position base z) (base_keeps (zero_position base z) (zero_below b z base part e f)))) (s.zeros b z i base part e f h);
-      states = λ b i base e heap h. subst (λ y. InGammaState gamma naming state.memory y (life_at state.memory i) (length (bytes_at state.memory i))) (sym (same_state l n row after (state_position base) (base_keeps (state_position base) (state_below b base e heap)))) (s.states b i base e heap h);
+      leaves = λ b j base leaf e f. subst (InGammaLeaf gamma flow naming state.memory b leaf) (sym (same_value l n row after (leaf_position base j) (base_keeps p row to x (leaf_position base j) (leaf_below p b j base leaf e f)))) (s.leaves b j base leaf e f);
+      classes = λ b c base e heap h. subst (InGammaClass gamma flow naming state.memory b base (class_at c)) (sym (same_value l n row after (class_position base c) (base_keeps p row to x (class_position base c) (class_below b c base e heap h)))) (s.classes b c base e heap h);
+      zeros = λ b z i base part e f h. subst (λ y. InGammaZero gamma naming state.memory y (array_bytes part (bytes_at state.memory i))) (sym (same_zero l n row after (zero_position base z) (base_keeps p row to x (zero_position base z) (zero_below b z base part e f)))) (s.zeros b z i base part e f h);
+      states = λ b i base e heap h. subst (λ y. InGammaState gamma naming state.memory y (life_at state.memory i) (length (bytes_at state.memory i))) (sym (same_state l n row after (state_position base) (base_keeps p row to x (state_position base) (state_below b base e heap)))) (s.states b i base e heap h);
       temps = λ t scalar e. temp_by t scalar (put_cases state.temps to v t scalar e);
     }
 

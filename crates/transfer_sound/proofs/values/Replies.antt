@@ -35,6 +35,19 @@ module _ {I : Type 0} (l : LatticeOf I) (n : IntegersOf I) (gamma : I → ℤ �
   pub clean_stop_good : (why : Why) (w : World) → w.violated ≡ [] → Good (stops why w)
   clean_stop_good why w h = stop_good why w (same_admitted admitted w.violated [] h (none_admitted admitted))
 
+  -- the run goes on, and the row behind stands for its state
+  pub goes_good : (s : ProgramState) (w : World) → AreAdmitted admitted w.violated → InGammaAfter l n gamma flow after (record s { world = w }) → Good (goes s w)
+  goes_good s w h here = record {
+    goes_on = λ t u e.
+        let a : s ≡ t = cc in
+        let b : w ≡ u = cc in
+        subst (λ z. InGammaAfter l n gamma flow after (record z { world = u })) a (subst (λ z. InGammaAfter l n gamma flow after (record s { world = z })) b here);
+    admits = h;
+  }
+
+  pub clean_goes_good : (s : ProgramState) (w : World) → w.violated ≡ [] → InGammaAfter l n gamma flow after (record s { world = w }) → Good (goes s w)
+  clean_goes_good s w h here = goes_good s w (same_admitted admitted w.violated [] h (none_admitted admitted)) here
+
   pub if_some_good : {A : Type 0} (s : ProgramState) → s.world.violated ≡ [] → (o : Option A) (use_it : A → Reply ProgramState) → ((x : A) → o ≡ Some x → Good (use_it x)) → Good (if_some s o use_it)
   if_some_good s clean None use_it h = clean_stop_good _ s.world clean
   if_some_good s clean (Some x) use_it h = h x refl
@@ -75,11 +88,4 @@ module _ {I : Type 0} {l : LatticeOf I} {n : IntegersOf I} {gamma : I → ℤ �
 
     -- the run goes on behind the instruction, with its result in a temporary
     pub result_good : (after : Option (List (Cell I))) (admitted : Violations) → after ≡ Some (put_temp flow row to x) → AreAdmitted admitted w.violated → IsStoodFor l n gamma flow after admitted (giving s to (goes v w))
-    result_good after admitted is h = record {
-      goes_on = λ t u e.
-          let a : standing_behind to v w ≡ t = cc in
-          let b : w ≡ u = cc in
-          subst (λ z. InGammaAfter l n gamma flow after (record z { world = u })) a
-          (subst (λ z. InGammaAfter l n gamma flow after (record (standing_behind to v w) { world = z })) b (given_behind after is));
-      admits = h;
-    }
+    result_good after admitted is h = goes_good l n gamma flow after admitted (standing_behind to v w) w h (given_behind after is)

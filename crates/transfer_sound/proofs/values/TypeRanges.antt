@@ -1,11 +1,10 @@
 -- Ranges that have a number, and the ranges of types.
-use Rattle.std.proofs.Common.{◌≡◌, ℕ, ◌*◌, ◌-◌, ◌^◌, ◌≤◌, true, false, Some, None, arith, refl, inl, inr}
+use Rattle.std.proofs.Common.{◌≡◌, ◌*◌, ◌-◌, ◌^◌, ◌≤◌, true, false, Some, None, arith, refl, inl, inr}
 use Rattle.std.specs.Prelude.{ℤ, pos, negsuc, ◌≤ℤ◌, ◌<ℤ◌, is_some, int_le, int_lt}
 use Rattle.std.specs.Ordering.{int_eq}
 use Rattle.std.proofs.lemmas.Int.{ints}
-use Rattle.std.proofs.Math.Nat.{pow-le-pow_right}
 use Rattle.std.proofs.lemmas.Bool.{cases_Bool, and_from}
-use Rattle.std.proofs.lemmas.Bool.Decides.{Decides-int_eq, nat_tests}
+use Rattle.std.proofs.lemmas.Bool.Decides.{Decides-int_eq}
 use Rattle.cc_base.specs.Lattices.{LatticeOf}
 use Rattle.cc_base.specs.NumberRanges.{Range}
 use Rattle.cc_base.specs.IntegerTypes.{is_size, least_of, greatest_of}
@@ -14,6 +13,7 @@ use Rattle.cc_base.specs.declared.int_types.IntType.{IntType}
 use Rattle.transfer_checks.specs.IntegerChecks.{has_number}
 use Rattle.domain_theorems.proofs.values.Numbers.{RangeHas, bounds_have}
 use Rattle.transfer_sound.proofs.values.NearScalars.{IsNearNumber}
+use Rattle.store_sound.proofs.operations.FreshValues.{pow_up, eight}
 
 pub same_int : (a b : ℤ) → int_eq a b ≡ true → a ≡ b
 same_int a b h = (Decides-int_eq a b).0 h
@@ -51,12 +51,6 @@ module _ {I : Type 0} {l : LatticeOf I} {n : IntegersOf I} {gamma : I → ℤ �
   bounds_some x z h = range_some (n.bounds x) z (bounds_have q x z h)
 
 -- ---- types
-
-eight : (n : ℕ) → is_size n ≡ true → n ≤ 8
-eight n h = grind (arith, nat_tests)
-
-pow_up : (a b : ℕ) → a ≤ b → 2 ^ a ≤ 2 ^ b
-pow_up a b h = pow-le-pow_right {n = 2} (omega arith) h
 
 pub type_near : (k : IntType) (a z b : ℤ) → is_size k.bytes ≡ true → least_of k ≤ℤ a → b ≤ℤ greatest_of k → a ≤ℤ z → z ≤ℤ b → IsNearNumber z
 type_near k a z b h e f i j =

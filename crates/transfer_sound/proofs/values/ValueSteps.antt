@@ -1,10 +1,11 @@
 -- Instructions on integers are sound.
-use Rattle.std.proofs.Common.{◌≡◌, ℕ, ◌<◌, ◌^◌, ◌-◌, Bool, true, false, not, cond, ◌||◌, ◌&&◌, Option, Some, None, List, [], ◌++◌, arith, subst, sym, refl, ap, ◌∙◌}
+use Rattle.std.proofs.Common.{◌≡◌, ℕ, ◌<◌, ◌^◌, ◌-◌, Bool, true, false, not, cond, ◌&&◌, Option, Some, None, List, [], ◌++◌, arith, subst, sym, refl, ap, ◌∙◌}
 use Rattle.std.specs.Prelude.{ℤ, pos, negsuc, neg_ℤ, ◌≤ℤ◌, int_le}
 use Rattle.std.specs.Ordering.{int_eq}
 use lib.Signed.{≤ℤ_refl}
 use Rattle.std.proofs.lemmas.Int.{ints}
 use Rattle.std.proofs.lemmas.Bool.{and_parts, and_from, ltb-true, true≢false}
+use Rattle.std.proofs.Math.Bool.{or_self}
 use Rattle.cc_base.specs.Lattices.{LatticeOf}
 use Rattle.cc_base.specs.IntegerTypes.{is_size, in_type, wrap_into}
 use Rattle.cc_base.specs.IntegerDomains.{IntegersOf, BoundLaws, RangeLaws}
@@ -71,19 +72,15 @@ use Rattle.transfer_sound.proofs.values.BinarySteps.{labels_told, faults_admitte
 
 -- ---- labels of operators on one integer
 
-same_negated : (o : UnOp) (s : Labels) (k : IntType) (leaves : Bool) → as_set (negated_labels o s k leaves) ≡ set.negated_labels o (as_set s) k leaves
+pub same_negated : (o : UnOp) (s : Labels) (k : IntType) (leaves : Bool) → as_set (negated_labels o s k leaves) ≡ set.negated_labels o (as_set s) k leaves
 same_negated Neg s k leaves = refl
 same_negated Compl s k leaves = refl
 
-or_self : (b : Bool) → (b || b) ≡ b
-or_self true = refl
-or_self false = refl
-
-negation_is : (o : UnOp) (k : IntType) (a : ℤ) → is_outside k (unary_math o a) ≡ negated_leave o k (Some (a, a))
+pub negation_is : (o : UnOp) (k : IntType) (a : ℤ) → is_outside k (unary_math o a) ≡ negated_leave o k (Some (a, a))
 negation_is Neg k a = sym (or_self (not (in_type k (neg_ℤ a))))
 negation_is Compl k a = refl
 
-is_near : (z : ℤ) → is_number z ≡ true → IsNearNumber z
+pub is_near : (z : ℤ) → is_number z ≡ true → IsNearNumber z
 is_near z h =
     let p = and_parts (int_le (negsuc (2 ^ 63 - 1)) z) (int_le z (pos (2 ^ 64 - 1))) h in
     let f = low z p.0 in
@@ -96,7 +93,7 @@ is_near z h =
     high : (z : ℤ) → int_le z (pos (2 ^ 64 - 1)) ≡ true → z ≤ℤ pos (2 ^ 64 - 1)
     high z h = grind (arith, ints)
 
-size_of : (f : Flow) (k : IntType) → is_int_type f.model k ≡ true → is_size k.bytes ≡ true
+pub size_of : (f : Flow) (k : IntType) → is_int_type f.model k ≡ true → is_size k.bytes ≡ true
 size_of f k h = (and_parts (is_size k.bytes) _ h).0
 
 module _ {I : Type 0} {l : LatticeOf I} {n : IntegersOf I} {gamma : I → ℤ → Type 0} (q : BoundLaws l n gamma) (c : SoundLaws l n gamma) (ranges : RangeLaws l n) (flow : Flow) (p : HasPremises flow) (naming : Naming) (row : List (Cell I)) (s : ProgramState) (r : IsReached l n gamma flow naming row s) where
