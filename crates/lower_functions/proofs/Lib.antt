@@ -4,3 +4,4 @@ pub mod ConditionPlans
 pub mod StatementPlans
 pub mod FunctionPlans
 pub mod PlannedWorks
+pub mod LabelCounts

@@ -2,3 +2,4 @@ pub mod MarkArithmetic
 pub mod Debts
 pub mod DebtsOfTerms
 pub mod DebtsOfConditions
+pub mod LabelCounts

@@ -1,2 +1,3 @@
 mod RunLaws
 mod SameRelations
+pub mod CountedLabels

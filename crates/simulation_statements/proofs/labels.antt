@@ -1,3 +1,4 @@
 pub mod LabelScopes
+pub mod CountedScopes
 pub mod NotedScopes
 pub mod FoundLabels

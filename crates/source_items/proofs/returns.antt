@@ -5,7 +5,8 @@ mod FittingConditions
 mod FittingTerms
 mod FittingStatements
 mod Labels
-mod Replies
+pub mod Replies
+pub mod TestReplies
 mod Jumps
 mod Calls
 mod Turns

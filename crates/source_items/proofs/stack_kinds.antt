@@ -1,3 +1,7 @@
+pub mod FoundItems
+pub mod LineCalls
+pub mod SwitchLandings
+pub mod ItemWalks
 pub mod Leading
 pub mod Loops
 mod LeadingArguments

@@ -1,6 +1,5 @@
 mod Bodies
 mod Calls
-mod Replies
 mod Jumps
 mod Starts
 mod Turns

@@ -1,4 +1,3 @@
-mod Replies
 mod Changes
 mod Calls
 mod Turns

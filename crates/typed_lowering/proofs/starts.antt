@@ -1,4 +1,3 @@
-pub mod NormalizedNumbers
 pub mod SilentCalls
 pub mod NormalizedKnowledge
 pub mod CalmPieces

@@ -45,7 +45,7 @@ use Rattle.c_types_theorems.proofs.entries.Leading.{Leads, kept_leads, cond_lead
 use Rattle.c_types_theorems.proofs.entries.Declaring.{declared_leads, specifiers_lead}
 use Rattle.c_types_theorems.proofs.entries.Initializing.{initializer_leads}
 use Rattle.c_types_theorems.proofs.entries.Stating.{IsNumbered, static_leads}
-use Rattle.c_types_theorems.proofs.stores.Types.{type_is}
+use Rattle.c_types_rules.proofs.SameTypes.{type_is}
 use Rattle.c_types_theorems.specs.Units.PlacedUnits.{IsPlacedObject}
 use Rattle.c_types_theorems.proofs.units.Kept.{get_front, appended_is, AreLinked, IsGoodBy, most, Keeps, later_same, keeps_same, keeps_twice, steps_keep, declarations_keep, at_most}
 use Rattle.c_types_theorems.proofs.units.Bodies.{changed_is, changed_long, AreRetyped, retyped_good, bodies_keep}

@@ -17,7 +17,7 @@ use Rattle.lower_conditions.specs.Tests.{named, named_or_assigned, constant_of}
 use Rattle.lower_templates.specs.Worklist.TermKinds.{integer_type, peeled, is_zero, is_null_constant}
 use Rattle.source_preservation.specs.Checks.LookedTypes.{is_kind, is_address}
 use Rattle.source_preservation.specs.Checks.LookedTerms.{exact, is_exact_zero, is_null, side, stored, converted_in, converted_to}
-use Rattle.source_preservation.proofs.checks.SameTypes.{type_is}
+use Rattle.c_types_rules.proofs.SameTypes.{type_is}
 use Rattle.source_preservation.proofs.ranges.TypeRanges.{wrapped_own}
 use Rattle.c_types_well_formed.specs.WellFormed.ModelTypes.{IsKindOf, IsGround}
 use Rattle.c_types_well_formed.specs.WellFormed.MadeTerms.{IsExactly, is_implicit}

@@ -22,7 +22,7 @@ use Rattle.source_preservation.specs.Checks.LookedTypes.{is_scalar_type, is_addr
 use Rattle.source_preservation.specs.Checks.LookedTerms as look
 use Rattle.source_preservation.specs.Checks.LookedTerms.{is_exact_zero, is_well_typed_term}
 use Rattle.source_preservation.proofs.checks.Truths.{never, both_true}
-use Rattle.source_preservation.proofs.checks.SameTypes.{type_is}
+use Rattle.c_types_rules.proofs.SameTypes.{type_is}
 use Rattle.c_types_well_formed.specs.WellFormed.ModelTypes.{IsKindOf, IsTypeOf, IsGround}
 use Rattle.c_types_well_formed.specs.WellFormed.MadeTerms.{IsExactly, IsMade, IsGiven, Gives}
 use Rattle.c_types_well_formed.proofs.decided_tests.ModelKinds.{scalar_there}

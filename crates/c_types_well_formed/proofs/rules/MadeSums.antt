@@ -19,7 +19,7 @@ use Rattle.source_preservation.specs.Checks.LookedTypes as look
 use Rattle.source_preservation.specs.Checks.LookedTypes.{is_address, adds_to, subtracts}
 use Rattle.source_preservation.specs.Checks.LookedTerms.{is_well_typed_term}
 use Rattle.source_preservation.proofs.checks.Truths.{no_some, some_is}
-use Rattle.source_preservation.proofs.checks.SameTypes.{type_is}
+use Rattle.c_types_rules.proofs.SameTypes.{type_is}
 use Rattle.c_types_well_formed.specs.WellFormed.ModelTypes.{IsTypeOf, IsGround}
 use Rattle.c_types_well_formed.specs.WellFormed.MadeTerms.{IsMade, IsMadeOperand, Makes}
 use Rattle.c_types_well_formed.proofs.decided_tests.MadeTests.{no_tests}

@@ -19,7 +19,7 @@ use Rattle.c_types_statement_rules.specs.Objects.Changes.{changed, changed_at}
 use Rattle.c_types.specs.FileScope.FunctionDeclarations as functions
 use Rattle.c_types.specs.declared.file_scope.function_declarations.NameBefore.{NameBefore}
 use Rattle.c_types.specs.declared.file_scope.function_declarations.NameBefore.TheVariants as standing
-use Rattle.c_types_theorems.proofs.stores.Types.{type_is}
+use Rattle.c_types_rules.proofs.SameTypes.{type_is}
 use Rattle.c_types_theorems.proofs.units.Kept.{appended_is, front_stays, set_other}
 use Rattle.c_types_theorems.proofs.units.Bodies.{changed_is}
 use Rattle.c_types_well_formed.specs.WellFormed.UnitParts.{IsHeadOf}

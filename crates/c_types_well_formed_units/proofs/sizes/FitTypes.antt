@@ -18,7 +18,7 @@ use Rattle.c_types_statement_rules.specs.Objects.FileObjects.{may_be_object, is_
 use Rattle.c_types_statement_rules.specs.Objects.LocalObjects.{may_be_local}
 use Rattle.c_types_statement_rules.specs.Objects.UnitObjects.{completed}
 use Rattle.c_types_theorems.proofs.stores.Growing.{Extends}
-use Rattle.c_types_theorems.proofs.stores.Types.{type_is}
+use Rattle.c_types_rules.proofs.SameTypes.{type_is}
 use Rattle.c_types_theorems.proofs.units.Kept.{sized_grown}
 use Rattle.memory_model.specs.Effects.LibraryChecks.{most_size}
 use Rattle.c_types_well_formed.specs.WellFormed.ModelTypes.{IsTypeOf}

@@ -25,7 +25,7 @@ use Rattle.c_types_statement_rules.specs.Objects.FileObjects.{number_or, composi
 use Rattle.c_types_statement_rules.specs.Objects.LocalObjects.{with_static_type}
 use Rattle.c_types_statements.specs.LocalDeclarations.{are_none, is_empty}
 use Rattle.c_types.specs.FileScope.ExternalDeclarations as external
-use Rattle.c_types_theorems.proofs.stores.Types.{type_is}
+use Rattle.c_types_rules.proofs.SameTypes.{type_is}
 use Rattle.c_types_well_formed.specs.WellFormed.ModelTypes.{IsTypeOf, Each}
 use Rattle.c_types_well_formed.specs.WellFormed.ProperStatements.{AreProperLayers, AreProperWords, IsProperInitializer, IsProperFunction, IsProperInitDeclarator, AreProperInitDeclarators}
 use Rattle.c_types_well_formed.specs.WellFormed.UnitParts.{IsPartOf}

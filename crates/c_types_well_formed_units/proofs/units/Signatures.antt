@@ -10,7 +10,7 @@ use Rattle.c_types_scopes.specs.States.{State}
 use Rattle.c_types_declarations.specs.FunctionHeads.{HeadView}
 use Rattle.c_types_statement_rules.specs.Objects.Changes.{changed, changed_at}
 use Rattle.c_types.specs.FileScope.FunctionDeclarations as functions
-use Rattle.c_types_theorems.proofs.stores.Types.{type_is}
+use Rattle.c_types_rules.proofs.SameTypes.{type_is}
 use Rattle.c_types_theorems.proofs.units.Kept.{front_stays, set_other}
 use Rattle.c_types_well_formed.specs.WellFormed.UnitParts.{IsHeadOf, IsThere}
 use Rattle.c_types_well_formed.proofs.initializers.Going.{IsPassed}

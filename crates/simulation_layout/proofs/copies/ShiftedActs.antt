@@ -73,10 +73,4 @@ module _ (d far : ℕ) (is : d ≡ min far (2 ^ 32 - 1)) where
   moved_is_shifted b (acts.Switch from kind) less = ap (λ x. acts.Switch x kind) (low from less)
   moved_is_shifted b (acts.ReadLine to text count stream) less =
       ap₂ (λ x y. acts.ReadLine x y (temp d count) (temp d stream)) (low_result to less.0) (low text less.1) ∙ ap₂ (λ x y. acts.ReadLine (option_map (shift far) to) (shift far text) x y) (low count less.2) (low stream less.3)
-  moved_is_shifted b (acts.Enter base) less = refl
-  moved_is_shifted b (acts.Leave base) less = refl
-  moved_is_shifted b (acts.Forget base) less = refl
-  moved_is_shifted b (acts.Clear base) less = refl
-  moved_is_shifted b (acts.Spell base offset room text) less = refl
-  moved_is_shifted b acts.Jump less = refl
-  moved_is_shifted b acts.Stop less = refl
+  moved_is_shifted b other less = refl

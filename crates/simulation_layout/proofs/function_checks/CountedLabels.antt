@@ -229,12 +229,6 @@ around_switch body count has_default n k m x y = (
 
 mutual
   counted : (i : StatementTree) (n m : Numbers) → numbered i n ≡ Some m → Counted i n m
-  counted (tree.Value e) n m is = record { counts = still n m is; switches = tt }
-  counted tree.Nothing n m is = record { counts = still n m is; switches = tt }
-  counted (tree.Forget at local) n m is = record { counts = still n m is; switches = tt }
-  counted (tree.Start at local e) n m is = record { counts = still n m is; switches = tt }
-  counted (tree.StartCopy at local l) n m is = record { counts = still n m is; switches = tt }
-  counted (tree.StartList at local stores) n m is = record { counts = still n m is; switches = tt }
   counted (tree.Block objects items) n m is = let x = all_counted items n m is in record { counts = x.counts; switches = x.switches }
   counted (tree.If e body) n m is = let x = counted body n m is in record { counts = x.counts; switches = x.switches }
   counted (tree.IfElse e first second) n m is = option_and_then_some (numbered second) (numbered first n) m is (λ k one other.
@@ -254,10 +248,7 @@ mutual
   counted (tree.Case c body) n m is = option_and_then_some (numbered body) (behind_case c n) m is (λ k here other. case_body c body n k m (case_met c n k here) (counted body k m other))
   counted (tree.Default body) n m is = option_and_then_some (numbered body) (behind_default n) m is (λ k here other. default_body body n k m (default_met n k here) (counted body k m other))
   counted (tree.Label c body) n m is = option_and_then_some (numbered body) (behind_label c n) m is (λ k here other. labelled_body c body n k m (labelled c n k here) (counted body k m other))
-  counted (tree.Goto c) n m is = record { counts = still n m is; switches = tt }
-  counted tree.Break n m is = record { counts = still n m is; switches = tt }
-  counted tree.Continue n m is = record { counts = still n m is; switches = tt }
-  counted (tree.Return at e) n m is = record { counts = still n m is; switches = tt }
+  counted other n m is = record { counts = still n m is; switches = tt }
 
   all_counted : (is : StatementTrees) (n m : Numbers) → all_numbered is n ≡ Some m → AllCounted is n m
   all_counted tree.NoMore n m is = record { counts = still n m is; switches = tt }
@@ -315,12 +306,6 @@ selected count has_default body x = record { cases = λ n. at_most (cases_in n b
 
 mutual
   at_most_once : (i : StatementTree) → AreSelectedOnce i → AreSelected i
-  at_most_once (tree.Value e) x = tt
-  at_most_once tree.Nothing x = tt
-  at_most_once (tree.Forget at local) x = tt
-  at_most_once (tree.Start at local e) x = tt
-  at_most_once (tree.StartCopy at local l) x = tt
-  at_most_once (tree.StartList at local stores) x = tt
   at_most_once (tree.Block objects items) x = all_at_most_once items x
   at_most_once (tree.If e body) x = at_most_once body x
   at_most_once (tree.IfElse e first second) x = (at_most_once first x.0, at_most_once second x.1)
@@ -331,10 +316,7 @@ mutual
   at_most_once (tree.Case n body) x = at_most_once body x
   at_most_once (tree.Default body) x = at_most_once body x
   at_most_once (tree.Label n body) x = at_most_once body x
-  at_most_once (tree.Goto n) x = tt
-  at_most_once tree.Break x = tt
-  at_most_once tree.Continue x = tt
-  at_most_once (tree.Return at e) x = tt
+  at_most_once other x = tt
 
   all_at_most_once : (is : StatementTrees) → AllSelectedOnce is → AllSelected is
   all_at_most_once tree.NoMore x = tt

@@ -54,12 +54,6 @@ still seen after e = subst (λ a. Listed [] seen a) (some_is seen after e) (noth
 
 mutual
   listed : (i : StatementTree) (seen after : List Bool) → scopes_marked i seen ≡ Some after → Listed (lists i) seen after
-  listed (tree.Value e) seen after is = still seen after is
-  listed tree.Nothing seen after is = still seen after is
-  listed (tree.Forget at local) seen after is = still seen after is
-  listed (tree.Start at local e) seen after is = still seen after is
-  listed (tree.StartCopy at local l) seen after is = still seen after is
-  listed (tree.StartList at local stores) seen after is = still seen after is
   listed (tree.Block objects items) seen after is = option_and_then_some (all_scopes_marked items) (all_marked objects seen) after is (λ middle one other. more objects (all_lists items) seen middle after (marks_all objects seen middle one) (all_listed items middle after other))
   listed (tree.If e body) seen after is = listed body seen after is
   listed (tree.IfElse e first second) seen after is = option_and_then_some (scopes_marked second) (scopes_marked first seen) after is (λ middle one other. join (lists first) (lists second) seen middle after (listed first seen middle one) (listed second middle after other))
@@ -72,10 +66,7 @@ mutual
   listed (tree.Case n body) seen after is = listed body seen after is
   listed (tree.Default body) seen after is = listed body seen after is
   listed (tree.Label n body) seen after is = listed body seen after is
-  listed (tree.Goto n) seen after is = still seen after is
-  listed tree.Break seen after is = still seen after is
-  listed tree.Continue seen after is = still seen after is
-  listed (tree.Return at e) seen after is = still seen after is
+  listed other seen after is = still seen after is
 
   all_listed : (is : StatementTrees) (seen after : List Bool) → all_scopes_marked is seen ≡ Some after → Listed (all_lists is) seen after
   all_listed tree.NoMore seen after is = still seen after is
@@ -139,12 +130,6 @@ same a b c ys e f = f ∙ ap (λ zs. zs ++ ys) e
 
 mutual
   stand : (i : StatementTree) (k c : ℕ) (t : TreeView) → held (scoped i k c t) ≡ held t ++ lists i
-  stand (tree.Value e) k c t = no_more t
-  stand tree.Nothing k c t = no_more t
-  stand (tree.Forget at local) k c t = no_more t
-  stand (tree.Start at local e) k c t = no_more t
-  stand (tree.StartCopy at local l) k c t = no_more t
-  stand (tree.StartList at local stores) k c t = no_more t
   stand (tree.Block objects items) k c t =
       on (held t) (held (with_new_scope k objects t)) (held (scoped (tree.Block objects items) k c t)) (objects ∷ []) (all_lists items) (one_held k objects t) (all_stand items (length t.scopes) c (with_new_scope k objects t))
   stand (tree.If e body) k c t = stand body k c t
@@ -160,10 +145,7 @@ mutual
   stand (tree.Case n body) k c t = same (held t) (held (with_case c n k t)) (held (scoped body k c (with_case c n k t))) (lists body) (case_held c n k t) (stand body k c (with_case c n k t))
   stand (tree.Default body) k c t = same (held t) (held (with_default c k t)) (held (scoped body k c (with_default c k t))) (lists body) (default_held c k t) (stand body k c (with_default c k t))
   stand (tree.Label n body) k c t = same (held t) (held (with_label n k t)) (held (scoped body k c (with_label n k t))) (lists body) (label_held n k t) (stand body k c (with_label n k t))
-  stand (tree.Goto n) k c t = no_more t
-  stand tree.Break k c t = no_more t
-  stand tree.Continue k c t = no_more t
-  stand (tree.Return at e) k c t = no_more t
+  stand other k c t = no_more t
 
   all_stand : (is : StatementTrees) (k c : ℕ) (t : TreeView) → held (all_scoped is k c t) ≡ held t ++ all_lists is
   all_stand tree.NoMore k c t = no_more t

@@ -187,12 +187,6 @@ less_known xs known seen all k e = all k (in_second xs known k e)
 
 mutual
   scoped : (i : StatementTree) (known : List ℕ) (seen after : List Bool) → AllMarked known seen → scopes_marked i seen ≡ Some after → Scoped i known seen after
-  scoped (tree.Value e) known seen after all is = record { kept = still known seen after all is; new = tt }
-  scoped tree.Nothing known seen after all is = record { kept = still known seen after all is; new = tt }
-  scoped (tree.Forget at local) known seen after all is = record { kept = still known seen after all is; new = tt }
-  scoped (tree.Start at local e) known seen after all is = record { kept = still known seen after all is; new = tt }
-  scoped (tree.StartCopy at local l) known seen after all is = record { kept = still known seen after all is; new = tt }
-  scoped (tree.StartList at local stores) known seen after all is = record { kept = still known seen after all is; new = tt }
   scoped (tree.Block objects items) known seen after all is = option_and_then_some (all_scopes_marked items) (all_marked objects seen) after is (λ middle one other.
       let m = marks_all objects seen middle one in
       let x = all_scoped items (objects ++ known) middle after (more_known objects known seen middle m all) other in
@@ -214,10 +208,7 @@ mutual
   scoped (tree.Case n body) known seen after all is = let x = scoped body known seen after all is in record { kept = x.kept; new = x.new }
   scoped (tree.Default body) known seen after all is = let x = scoped body known seen after all is in record { kept = x.kept; new = x.new }
   scoped (tree.Label n body) known seen after all is = let x = scoped body known seen after all is in record { kept = x.kept; new = x.new }
-  scoped (tree.Goto n) known seen after all is = record { kept = still known seen after all is; new = tt }
-  scoped tree.Break known seen after all is = record { kept = still known seen after all is; new = tt }
-  scoped tree.Continue known seen after all is = record { kept = still known seen after all is; new = tt }
-  scoped (tree.Return at e) known seen after all is = record { kept = still known seen after all is; new = tt }
+  scoped other known seen after all is = record { kept = still known seen after all is; new = tt }
 
   all_scoped : (is : StatementTrees) (known : List ℕ) (seen after : List Bool) → AllMarked known seen → all_scopes_marked is seen ≡ Some after → AllScoped is known seen after
   all_scoped tree.NoMore known seen after all is = record { kept = still known seen after all is; new = tt }

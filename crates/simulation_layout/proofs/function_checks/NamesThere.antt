@@ -163,7 +163,6 @@ module _ (u : UnitView) (f : FunctionView) where
   mutual
     names_statement : (breaks loops : Bool) (i : StatementTree) (seen after : List Bool) → length seen ≡ length f.locals → scopes_marked i seen ≡ Some after → is_regular_statement u f breaks loops i ≡ true → Named i after
     names_statement breaks loops (tree.Value e) seen after long m is = record { long = still seen after long m; names = names_term false 0 e is }
-    names_statement breaks loops tree.Nothing seen after long m is = record { long = still seen after long m; names = tt }
     names_statement breaks loops (tree.Forget at local) seen after long m is = record { long = still seen after long m; names = local_there local is }
     names_statement breaks loops (tree.Start at local e) seen after long m is = let x = both_true (has_local f local) _ is in record { long = still seen after long m; names = (local_there local x.0, names_term true 1 e x.1) }
     names_statement breaks loops (tree.StartCopy at local l) seen after long m is = let x = both_true (has_local f local) _ is in record { long = still seen after long m; names = (local_there local x.0, names_source l x.1) }
@@ -199,10 +198,8 @@ module _ (u : UnitView) (f : FunctionView) where
     names_statement breaks loops (tree.Case n body) seen after long m is = let y = names_statement breaks loops body seen after long m is in record { long = y.long; names = y.names }
     names_statement breaks loops (tree.Default body) seen after long m is = let y = names_statement breaks loops body seen after long m is in record { long = y.long; names = y.names }
     names_statement breaks loops (tree.Label n body) seen after long m is = let y = names_statement breaks loops body seen after long m is in record { long = y.long; names = y.names }
-    names_statement breaks loops (tree.Goto n) seen after long m is = record { long = still seen after long m; names = tt }
-    names_statement breaks loops tree.Break seen after long m is = record { long = still seen after long m; names = tt }
-    names_statement breaks loops tree.Continue seen after long m is = record { long = still seen after long m; names = tt }
     names_statement breaks loops (tree.Return at e) seen after long m is = record { long = still seen after long m; names = names_result e is }
+    names_statement breaks loops other seen after long m is = record { long = still seen after long m; names = tt }
 
     names_statements : (breaks loops : Bool) (is : StatementTrees) (seen after : List Bool) → length seen ≡ length f.locals → all_scopes_marked is seen ≡ Some after → are_regular_statements u f breaks loops is ≡ true → AllNamed is after
     names_statements breaks loops tree.NoMore seen after long m is = record { long = still seen after long m; names = tt }

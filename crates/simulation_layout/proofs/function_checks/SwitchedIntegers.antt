@@ -1,7 +1,7 @@
 -- What switches are on by name as on an integer is declared as one.
 use Rattle.std.proofs.Common.{◌≡◌, ℕ, Bool, true, false, ◌&&◌, List, Option, Some, None, slice_get, refl, ap, sym, subst, ◌∙◌}
 use Rattle.cc_base.specs.declared.int_types.IntType.{IntType}
-use Rattle.c_layout.specs.Types.{Ty, Int, Pointer, Array, Struct, Void, same_kind}
+use Rattle.c_layout.specs.Types.{Ty, Int, same_kind}
 use Rattle.c_layout.specs.CheckedTrees as tree
 use Rattle.c_layout.specs.CheckedTrees.{TermTree, StatementTree, StatementTrees, statement_trees}
 use Rattle.c_layout.specs.CheckedUnits.{LocalView, StaticView, FunctionView, UnitView}
@@ -27,10 +27,7 @@ use Rattle.simulation_layout.proofs.function_checks.NamesThere.{regular}
 
 integer : (k : IntType) (t : Ty) → is_of_kind k t ≡ true → IsInteger (Some t)
 integer k (Int kind) e = (kind, refl)
-integer k (Pointer t) e = clash false e refl
-integer k (Array t n) e = clash false e refl
-integer k (Struct i) e = clash false e refl
-integer k Void e = clash false e refl
+integer k other e = clash false e refl
 
 module _ (u : UnitView) (f : FunctionView) where
   static_integer : (k : IntType) (o : Option StaticView) → has_kind k (looks.static_type o) ≡ true → IsInteger (static_type o)
@@ -55,12 +52,6 @@ module _ (u : UnitView) (f : FunctionView) where
 
   mutual
     switches : (breaks loops : Bool) (i : StatementTree) → is_regular_statement u f breaks loops i ≡ true → SwitchesStatement (IsIntegerName u f) i
-    switches breaks loops (tree.Value e) is = tt
-    switches breaks loops tree.Nothing is = tt
-    switches breaks loops (tree.Forget at local) is = tt
-    switches breaks loops (tree.Start at local e) is = tt
-    switches breaks loops (tree.StartCopy at local l) is = tt
-    switches breaks loops (tree.StartList at local stores) is = tt
     switches breaks loops (tree.Block objects items) is = all_switches breaks loops items is
     switches breaks loops (tree.If e body) is = switches breaks loops body (both_true (is_regular_term u f true 0 e) _ is).1
     switches breaks loops (tree.IfElse e first second) is =
@@ -80,10 +71,7 @@ module _ (u : UnitView) (f : FunctionView) where
     switches breaks loops (tree.Case n body) is = switches breaks loops body is
     switches breaks loops (tree.Default body) is = switches breaks loops body is
     switches breaks loops (tree.Label n body) is = switches breaks loops body is
-    switches breaks loops (tree.Goto n) is = tt
-    switches breaks loops tree.Break is = tt
-    switches breaks loops tree.Continue is = tt
-    switches breaks loops (tree.Return at e) is = tt
+    switches breaks loops other is = tt
 
     all_switches : (breaks loops : Bool) (is : StatementTrees) → are_regular_statements u f breaks loops is ≡ true → SwitchesStatements (IsIntegerName u f) is
     all_switches breaks loops tree.NoMore is = tt

@@ -148,16 +148,13 @@ module _ (o : Inlined) (are_objects : (n b : ℕ) → o.objects n ≡ Some b →
     OnLocal b effect y = (slot : ℕ) → c.locals slot ≡ Some b → Ran (behind (effect slot) (from_scene here)) y
 
     on_name : (b : ℕ) (effect : ℕ → Reply State) (y : Reply flow.ProgramState) → OnLocal b effect y → (name : Option NameView) → StandsForIt o c name b → Ran (if_some here name (λ x. if_some here (template.local_of (templates o) here x) (λ n. behind (effect n) (from_scene here)))) y
-    on_name b effect y does None stands = stuck _ _ _
     on_name b effect y does (Some (Local n)) stands = does n stands
     on_name b effect y does (Some Outcome) stands = by (function_at o.unit c.function) stands
       where
         by : (f : Option FunctionView) → IsResult c f b → Ran (if_some here (outcome_of f) (λ n. behind (effect n) (from_scene here))) y
         by None stands = stuck _ _ _
         by (Some f) stands = does (result_object f) stands
-    on_name b effect y does (Some (Static n)) stands = stuck _ _ _
-    on_name b effect y does (Some (Literal n)) stands = stuck _ _ _
-    on_name b effect y does (Some (Allocation target)) stands = stuck _ _ _
+    on_name b effect y does other stands = stuck _ _ _
 
     entered_there : (b slot : ℕ) → c.locals slot ≡ Some b → Ran (behind (source.enter o.unit (scene here) slot) (from_scene here)) (act_step program (act.Enter b) there)
     entered_there b slot local = subst (λ i. Ran (behind (source.enter o.unit (scene here) slot) (from_scene here)) (flow_acts.entering program there b i)) (sym (is.named slot b local)) (by (names slot))

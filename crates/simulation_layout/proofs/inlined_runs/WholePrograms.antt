@@ -12,7 +12,7 @@ use Rattle.memory_model.specs.Effects.NumberedTables.{empty_table}
 use Rattle.memory_model.specs.Effects.UnitStarts.{literal_instance, parameter_instance, parameters_of, entry_parameters}
 use Rattle.lower_functions.specs.Functions.Functions.{local_type}
 use Rattle.lower.specs.TemplateLaws.PieceOrder.{is_end, last_ends, ends_block}
-use Rattle.lower_templates.specs.Worklist.Pieces.{NameView, Local, PieceView, Do, DoIfUsed, End, Mark, Call, TemplateView}
+use Rattle.lower_templates.specs.Worklist.Pieces.{NameView, Local, PieceView, End, TemplateView}
 use Rattle.lower_templates.specs.declared.worklist.template_pieces.OwnCall.{OwnCall}
 use Rattle.semantics.specs.CfgMachine.FlowStarts.{name_objects, name_parameters, start_names}
 use Rattle.semantics.specs.SourceMachine.SourceRuns as source
@@ -24,7 +24,6 @@ use Rattle.lower.specs.Inlining.Inlinings as inlining
 use Rattle.lower.proofs.inlining.CountedCalls.{AllCalled}
 use Rattle.lower.proofs.inlining.InliningTurns.{no_copy}
 use Rattle.simulation_layout.proofs.inlined_layout.ShiftedValues as tables
-use Rattle.simulation_layout.specs.InlinedLayout.Copies as copies
 use Rattle.simulation_layout.specs.InlinedLayout.Copies.{Copy, IsLocal, IsCopy, IsObject, IsLiteral}
 use Rattle.simulation_layout.specs.InlinedLayout.Layouts.{Laid, IsAutomatic, IsLaidOut}
 use Rattle.simulation_layout.specs.Copies.LowTemporaries.{HasLowTemps}
@@ -55,11 +54,8 @@ module _ (u : UnitView) (ts : List (Option TemplateView)) where
       differ e = cc
 
       by : (q : PieceView) → is_end q ≡ true → (after_piece u ts q ps c m).program.ready ≡ []
-      by (Do s) e = absurd (differ e)
-      by (DoIfUsed s) e = absurd (differ e)
       by (End s exits) e = refl
-      by (Mark l) e = absurd (differ e)
-      by (Call k) e = absurd (differ e)
+      by other e = absurd (differ e)
 
   -- ---- the bases of the entry's parameters
 

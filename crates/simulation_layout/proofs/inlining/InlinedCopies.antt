@@ -16,11 +16,8 @@ use Rattle.simulation_layout.proofs.inlining.NamedPlaces.{Good}
 use Rattle.simulation_layout.proofs.inlining.InlinedPieces.{steps_piece, Unmarked, labels_kept}
 
 abbrev pub is_call : PieceView → Bool
-is_call (Do s) = false
-is_call (DoIfUsed s) = false
-is_call (End s exits) = false
-is_call (Mark l) = false
 is_call (Call c) = true
+is_call other = false
 
 module _ (u : UnitView) (ts : List (Option TemplateView)) where
   abbrev pub after_piece : PieceView → List PieceView → CopyView → Made → Placed

@@ -15,11 +15,8 @@ use Rattle.simulation_layout.proofs.inlining.NamedPlaces.{Good, Only, only_own, 
 
 -- whether a piece is a label with this number
 abbrev pub marks : ℕ → PieceView → Bool
-marks l (Do s) = false
-marks l (DoIfUsed s) = false
-marks l (End s exits) = false
 marks l (Mark m) = l == m
-marks l (Call c) = false
+marks l other = false
 
 -- a label is none that pieces mark
 abbrev pub Unmarked : ℕ → List PieceView → Type 0

@@ -4,7 +4,7 @@ use Rattle.c_layout.specs.CheckedUnits.{UnitView}
 use Rattle.cfg.specs.declared.flow_edges.Side.{Side}
 use Rattle.cfg.specs.declared.flow_edges.Side.TheVariants as side
 use Rattle.cfg.specs.declared.flow_edges.Test.{Test}
-use Rattle.lower_templates.specs.Worklist.Pieces.{NameView, Local, Way, Always, When, Case, Other, NoLine, Line}
+use Rattle.lower_templates.specs.Worklist.Pieces.{NameView, Local, Way, When, Case}
 use Rattle.lower_tables.specs.Bases.BaseTables.{base}
 use Rattle.lower.specs.Inlining.Inlinings.{Placed, with_bases, with_locals, after_naming, name_at, base_number, with_base, with_own, with_side, with_test, with_way, with_local}
 use Rattle.simulation_layout.specs.Inlining.NameRanges.{IsNameThere}
@@ -60,12 +60,9 @@ module _ (u : UnitView) where
       only_twice p (with_side u t.left p) (with_side u t.right (with_side u t.left p)) left (only_side t.right (with_side u t.left p) left.good)
 
   pub only_way : (w : Way) (p : Placed) → Good p → Only p (with_way u w p)
-  only_way Always p g = only_none p g
   only_way (When truth test puts) p g = only_test test p g
   only_way (Case c) p g = only_own c.object p g
-  only_way (Other values) p g = only_none p g
-  only_way NoLine p g = only_none p g
-  only_way Line p g = only_none p g
+  only_way other p g = only_none p g
 
   -- the base that is named stands for its name
   pub named_stands : (n : ℕ) (p : Placed) → Good p → IsNameThere u p.within.function (name_at p.within.names n) → Stands u p.within.function (name_at p.within.names n) (with_base u n p).within.locals (with_base u n p).program.bases (base_number u n p)

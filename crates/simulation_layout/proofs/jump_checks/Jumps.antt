@@ -17,12 +17,6 @@ second a b e = (and_parts a b e).1
 module _ (u : UnitView) (f : FunctionView) where
   mutual
     stand : (breaks loops : Bool) (i : StatementTree) → is_regular_statement u f breaks loops i ≡ true → JumpsStand breaks loops i
-    stand breaks loops (tree.Value e) is = tt
-    stand breaks loops tree.Nothing is = tt
-    stand breaks loops (tree.Forget at local) is = tt
-    stand breaks loops (tree.Start at local e) is = tt
-    stand breaks loops (tree.StartCopy at local l) is = tt
-    stand breaks loops (tree.StartList at local stores) is = tt
     stand breaks loops (tree.Block objects items) is = all_stand breaks loops items is
     stand breaks loops (tree.If e body) is = stand breaks loops body (second (is_regular_term u f true 0 e) (is_regular_statement u f breaks loops body) is)
     stand breaks loops (tree.IfElse e one other) is =
@@ -39,10 +33,9 @@ module _ (u : UnitView) (f : FunctionView) where
     stand breaks loops (tree.Case n body) is = stand breaks loops body is
     stand breaks loops (tree.Default body) is = stand breaks loops body is
     stand breaks loops (tree.Label n body) is = stand breaks loops body is
-    stand breaks loops (tree.Goto n) is = tt
     stand breaks loops tree.Break is = is
     stand breaks loops tree.Continue is = is
-    stand breaks loops (tree.Return at e) is = tt
+    stand breaks loops other is = tt
 
     all_stand : (breaks loops : Bool) (items : StatementTrees) → are_regular_statements u f breaks loops items ≡ true → AllJumpsStand breaks loops items
     all_stand breaks loops tree.NoMore is = tt

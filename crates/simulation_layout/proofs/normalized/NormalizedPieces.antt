@@ -103,7 +103,7 @@ kept table l (p ∷ ps) n none =
     both_none a b e = (omega (arith, e), omega (arith, e))
 
 -- the number of the label that stands next
-number_of_next : (table : List (Option FunctionCounts)) (l : ℕ) (ps : List PieceView) (n : NamesView) → Once (length n.to) (Mark l ∷ ps) → renamed (with_pieces table (Mark l ∷ ps) n) l ≡ (with_begun n).count - 1
+pub number_of_next : (table : List (Option FunctionCounts)) (l : ℕ) (ps : List PieceView) (n : NamesView) → Once (length n.to) (Mark l ∷ ps) → renamed (with_pieces table (Mark l ∷ ps) n) l ≡ (with_begun n).count - 1
 number_of_next table l ps n once = kept table l ps (with_label l n) (none_behind (length n.to) l ps once) ∙ numbered l n (has_number (length n.to) l ps once)
 
 pub once_next : (table : List (Option FunctionCounts)) (p : PieceView) (ps : List PieceView) (n : NamesView) → Once (length n.to) (p ∷ ps) → Once (length (with_piece table p n).to) ps

@@ -13,7 +13,7 @@ use Rattle.memory_model.specs.Effects.Tests.{TestedSide, pass_test, pass_case}
 use Rattle.memory_model.specs.Effects.Worlds.{Reply, goes, stops, behind}
 use Rattle.lower_templates.specs.Worklist.Acts as act
 use Rattle.lower_templates.specs.Worklist.Acts.{Act}
-use Rattle.lower_templates.specs.Worklist.Pieces.{NameView, Local, Outcome, Static, Literal, Allocation, Way, Always, When, Case, Other, NoLine, Line, PieceView, TemplateView}
+use Rattle.lower_templates.specs.Worklist.Pieces.{NameView, Local, Outcome, Static, Literal, Allocation, Way, When, Case, PieceView, TemplateView}
 use Rattle.lower_templates.specs.Worklist.TermKinds.{integer_type}
 use Rattle.semantics.specs.CfgMachine.FlowStates as flow
 use Rattle.semantics.specs.CfgMachine.FlowActs as flow_acts
@@ -138,9 +138,6 @@ module _ (u : UnitView) (of others : ℕ → TemplateView) (s : TemplateState) (
   put_alike (Some p) (goes r w) = refl
 
   pub same_way : (way : Way) → Alike (on_way (templates u of) s way) (on_way (templates u others) other way)
-  same_way Always = refl
   same_way (When truth test puts) = ap (λ x. behind x (λ r w. on (with_put puts r))) (testing_alike test) ∙ put_alike puts (testing (templates u of) s test)
   same_way (Case test) = matching_alike test.value test.object
-  same_way (Other values) = refl
-  same_way NoLine = refl
-  same_way Line = refl
+  same_way other = refl

@@ -74,19 +74,13 @@ module _ (n : Names) (room : n.temps ≤ 2 ^ 32 - 1) where
   low_operation (op.Library to function arguments site size) e =
       let p = and_parts (has_result n to) _ e in
       (low_result to p.0, low_all arguments.items (and_parts (list_all (has_temp n) arguments.items) _ p.1).0)
-  low_operation (op.Enter b) e = tt
-  low_operation (op.Leave b) e = tt
-  low_operation (op.Forget b) e = tt
-  low_operation (op.Clear b) e = tt
-  low_operation (op.Spell b offset size text) e = tt
-  low_operation op.Jump e = tt
   low_operation (op.Branch t kind) e = low t (and_parts (has_temp n t) _ e).0
   low_operation (op.Switch t kind) e = low t (and_parts (has_temp n t) _ e).0
   low_operation (op.ReadLine to text count stream) e =
       let p = and_parts (has_result n to) _ e in
       let q = two text count _ p.1 in
       (low_result to p.0, q.first, q.second, low stream q.more)
-  low_operation op.Stop e = tt
+  low_operation other e = tt
 
   low_steps : (is : List Instruction) → list_all (λ i. fits_operation n i.operation) is ≡ true → (at : ℕ) (s : Step) → slice_get (map step is) at ≡ Some s → IsActLow s.does
   low_steps [] e at s h = absurd (cc)
@@ -105,12 +99,8 @@ module _ (n : Names) (room : n.temps ≤ 2 ^ 32 - 1) where
       low_blocks blocks edges (from + 1) (first + x.edges) bs (drop x.edges rest) p.1 number at b s h k
 
   low_way : (k : EdgeKind) → fits_edge n k ≡ true → IsWayLow (way k)
-  low_way kind.Jump e = tt
   low_way (kind.When truth test kept) e = low_put kept (and_parts (fits_test n test) _ e).1
-  low_way (kind.Case test) e = tt
-  low_way (kind.Other values) e = tt
-  low_way kind.NoLine e = tt
-  low_way kind.Line e = tt
+  low_way other e = tt
 
   low_edges : (es : List Edge) → list_all (λ e. fits_edge n e.kind) es ≡ true → (number : ℕ) (e : EdgeView) → slice_get (map edge es) number ≡ Some e → IsWayLow e.taken
   low_edges [] all number e h = absurd (cc)

@@ -1,10 +1,10 @@
 -- Templates whose labels stand once and that are fit.
-use Rattle.std.proofs.Common.{◌≡◌, inl, inr, ℕ, zero, suc, ◌==◌, true, List, [], ◌∷◌, Option, Some, None, slice_get, sym, subst}
+use Rattle.std.proofs.Common.{◌≡◌, inl, inr, ℕ, zero, suc, ◌==◌, true, List, [], ◌∷◌, Option, Some, slice_get, sym, subst}
 use Rattle.std.proofs.lemmas.Bool.{eqb-true}
 use Rattle.c_layout.specs.CheckedUnits.{FunctionView, UnitView}
 use Rattle.lower_templates.specs.Worklist.Acts as acts
 use Rattle.lower_templates.specs.Worklist.Acts.{Act}
-use Rattle.lower_templates.specs.Worklist.Pieces.{NameView, Local, Outcome, Static, Literal, Allocation, Way, Always, When, Case, Other, NoLine, Line, ExitView, PieceView, Do, DoIfUsed, End, Mark, Call, TemplateView}
+use Rattle.lower_templates.specs.Worklist.Pieces.{NameView, Local, Literal, Way, Case, ExitView, PieceView, Do, DoIfUsed, End, Mark, Call, TemplateView}
 use Rattle.lower_template_theorems.proofs.label_definitions.MarkedTemplates.{marked_below}
 use Rattle.lower_template_theorems.specs.Literals.Starts.{IsStart, AreStarts}
 use Rattle.lower_template_theorems.proofs.literals.StartingTemplates.{starts_of_template}
@@ -31,12 +31,8 @@ at_start : (names : List NameView) (base offset : ℕ) → (offset == 0) ≡ tru
 at_start names base offset e = by (slice_get names base)
   where
     by : (o : Option NameView) → IsAtStart o offset
-    by None = tt
-    by (Some (Local n)) = tt
-    by (Some Outcome) = tt
-    by (Some (Static n)) = tt
     by (Some (Literal n)) = eqb-true offset 0 e
-    by (Some (Allocation target)) = tt
+    by other = tt
 
 in_object : (names : List NameView) (base offset n : ℕ) → slice_get names base ≡ Some (Local n) → IsAtStart (slice_get names base) offset
 in_object names base offset n is = subst (λ o. IsAtStart o offset) (sym is) tt
@@ -70,12 +66,8 @@ points names (acts.ReadLine to text count stream) is = tt
 points names acts.Stop is = tt
 
 on_integers : (u : UnitView) (f : FunctionView) (names : List NameView) (w : Way) → IsCaseOf (IsIntegerNamed u f) names w → SwitchesOn u f names w
-on_integers u f names Always is = tt
-on_integers u f names (When truth test puts) is = tt
 on_integers u f names (Case test) is = λ n e. (let x = is n e in subst (λ o. IsInteger (type_named u f o)) (sym x.1) x.2)
-on_integers u f names (Other values) is = tt
-on_integers u f names NoLine is = tt
-on_integers u f names Line is = tt
+on_integers u f names other is = tt
 
 all_on_integers : (u : UnitView) (f : FunctionView) (names : List NameView) (es : List ExitView) → AreCasesOf (IsIntegerNamed u f) names es → AllSwitchOn u f names es
 all_on_integers u f names [] is = tt

@@ -88,12 +88,6 @@ in_turn c a b = omega arith
 
 mutual
   many : (i : StatementTree) (k c : ℕ) (t : TreeView) → length (scoped i k c t).cases ≡ length t.cases + labels_of i
-  many (tree.Value e) k c t = plus_zero (length t.cases)
-  many tree.Nothing k c t = plus_zero (length t.cases)
-  many (tree.Forget at local) k c t = plus_zero (length t.cases)
-  many (tree.Start at local e) k c t = plus_zero (length t.cases)
-  many (tree.StartCopy at local l) k c t = plus_zero (length t.cases)
-  many (tree.StartList at local stores) k c t = plus_zero (length t.cases)
   many (tree.Block objects items) k c t = all_many items (length t.scopes) c (with_new_scope k objects t) ∙ ap (λ m. m + all_labels_of items) (scope_cases k objects t)
   many (tree.If e body) k c t = many body k c t
   many (tree.IfElse e first second) k c t = many second k c (scoped first k c t) ∙ ap (λ m. m + labels_of second) (many first k c t) ∙ in_turn (length t.cases) (labels_of first) (labels_of second)
@@ -106,10 +100,7 @@ mutual
   many (tree.Case n body) k c t = many body k c (with_case c n k t) ∙ ap (λ m. m + labels_of body) (case_cases c n k t)
   many (tree.Default body) k c t = many body k c (with_default c k t) ∙ ap (λ m. m + labels_of body) (default_cases c k t)
   many (tree.Label n body) k c t = many body k c (with_label n k t) ∙ ap (λ m. m + labels_of body) (label_cases n k t)
-  many (tree.Goto n) k c t = plus_zero (length t.cases)
-  many tree.Break k c t = plus_zero (length t.cases)
-  many tree.Continue k c t = plus_zero (length t.cases)
-  many (tree.Return at e) k c t = plus_zero (length t.cases)
+  many other k c t = plus_zero (length t.cases)
 
   all_many : (items : StatementTrees) (k c : ℕ) (t : TreeView) → length (all_scoped items k c t).cases ≡ length t.cases + all_labels_of items
   all_many tree.NoMore k c t = plus_zero (length t.cases)
@@ -133,12 +124,8 @@ labels_in_jobs (jobs.Statement i around ∷ js) = labels_of i + labels_in_jobs j
 labels_in_jobs (j ∷ js) = labels_in_jobs js
 
 one_and : (j : Job) (js : List Job) → labels_in_jobs (j ∷ js) ≡ labels_in_job j + labels_in_jobs js
-one_and (jobs.Value e d) js = zero_plus (labels_in_jobs js)
-one_and (jobs.Unused e d) js = zero_plus (labels_in_jobs js)
-one_and (jobs.Address l d) js = zero_plus (labels_in_jobs js)
-one_and (jobs.Condition e x) js = zero_plus (labels_in_jobs js)
 one_and (jobs.Statement i around) js = refl
-one_and (jobs.Ready q) js = zero_plus (labels_in_jobs js)
+one_and other js = zero_plus (labels_in_jobs js)
 
 jobs_on : (js ks : List Job) → labels_in_jobs (js ++ ks) ≡ labels_in_jobs js + labels_in_jobs ks
 jobs_on [] ks = zero_plus (labels_in_jobs ks)

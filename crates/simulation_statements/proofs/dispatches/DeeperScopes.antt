@@ -42,12 +42,6 @@ module _ (t : Activation) (l : Sought) where
     unfolding found found_in
 
     pub deeper : (i : StatementTree) (rest : List Item) → Deepens (open_scopes rest) (found t.unit l i rest)
-    deeper (tree.Value e) rest = missing
-    deeper tree.Nothing rest = missing
-    deeper (tree.Forget at local) rest = missing
-    deeper (tree.Start at local e) rest = missing
-    deeper (tree.StartCopy at local source) rest = missing
-    deeper (tree.StartList at local stores) rest = missing
     deeper (tree.Block objects items) rest = outer objects (open_scopes rest) (found_in t.unit l items (item.Leaves objects ∷ rest)) (all_deeper items (item.Leaves objects ∷ rest))
     deeper (tree.If e body) rest = deeper body rest
     deeper (tree.IfElse e one two) rest = first_deeper (open_scopes rest) (found t.unit l one (item.Hop ∷ rest)) (found t.unit l two rest) (deeper one (item.Hop ∷ rest)) (deeper two rest)
@@ -62,10 +56,7 @@ module _ (t : Activation) (l : Sought) where
     deeper (tree.Case n body) rest = here_deeper (is_case l n) (item.Statement body ∷ rest) (found t.unit l body rest) (open_scopes rest) refl (deeper body rest)
     deeper (tree.Default body) rest = here_deeper (is_other l) (item.Statement body ∷ rest) (found t.unit l body rest) (open_scopes rest) refl (deeper body rest)
     deeper (tree.Label n body) rest = here_deeper (is_label l n) (item.Statement body ∷ rest) (found t.unit l body rest) (open_scopes rest) refl (deeper body rest)
-    deeper (tree.Goto n) rest = missing
-    deeper tree.Break rest = missing
-    deeper tree.Continue rest = missing
-    deeper (tree.Return at e) rest = missing
+    deeper other rest = missing
 
     all_deeper : (items : StatementTrees) (rest : List Item) → Deepens (open_scopes rest) (found_in t.unit l items rest)
     all_deeper tree.NoMore rest = missing

@@ -42,12 +42,6 @@ module _ (t : Activation) (s : SettingView) (l : Sought) where
     unfolding found found_in
 
     pub in_scopes : (i : StatementTree) (k c : ℕ) (rest : List Item) → HasScopes s i k c → Chain s k (open_scopes rest) → IsFound s (found t.unit l i rest) (stands_in l i k c)
-    in_scopes (tree.Value e) k c rest has chain = missing
-    in_scopes tree.Nothing k c rest has chain = missing
-    in_scopes (tree.Forget at local) k c rest has chain = missing
-    in_scopes (tree.Start at local e) k c rest has chain = missing
-    in_scopes (tree.StartCopy at local source) k c rest has chain = missing
-    in_scopes (tree.StartList at local stores) k c rest has chain = missing
     in_scopes (tree.Block objects items) k c rest has chain = all_in_scopes items c (suc c) (item.Leaves objects ∷ rest) has.1 (inside c k objects (open_scopes rest) has.0 chain)
     in_scopes (tree.If e body) k c rest has chain = in_scopes body k c rest has chain
     in_scopes (tree.IfElse e one two) k c rest has chain =
@@ -62,10 +56,7 @@ module _ (t : Activation) (s : SettingView) (l : Sought) where
     in_scopes (tree.Case n body) k c rest has chain = here_found s (is_case l n) (item.Statement body ∷ rest) k (found t.unit l body rest) (stands_in l body k c) chain (in_scopes body k c rest has chain)
     in_scopes (tree.Default body) k c rest has chain = here_found s (is_other l) (item.Statement body ∷ rest) k (found t.unit l body rest) (stands_in l body k c) chain (in_scopes body k c rest has chain)
     in_scopes (tree.Label n body) k c rest has chain = here_found s (is_label l n) (item.Statement body ∷ rest) k (found t.unit l body rest) (stands_in l body k c) chain (in_scopes body k c rest has chain)
-    in_scopes (tree.Goto n) k c rest has chain = missing
-    in_scopes tree.Break k c rest has chain = missing
-    in_scopes tree.Continue k c rest has chain = missing
-    in_scopes (tree.Return at e) k c rest has chain = missing
+    in_scopes other k c rest has chain = missing
 
     pub all_in_scopes : (items : StatementTrees) (k c : ℕ) (rest : List Item) → AllHaveScopes s items k c → Chain s k (open_scopes rest) → IsFound s (found_in t.unit l items rest) (all_stand_in l items k c)
     all_in_scopes tree.NoMore k c rest has chain = missing

@@ -7,10 +7,12 @@ use Rattle.c_layout.specs.CheckedTrees.{StatementTree, StatementTrees, statement
 use Rattle.c_layout.specs.CheckedUnits.{FunctionView}
 use Rattle.lower_templates.specs.Worklist.Scopes.{TreeView, with_new_scope, with_choice, with_case, with_default, with_label, scoped, all_scoped, no_scopes, function_scopes}
 use Rattle.lower_template_theorems.specs.PendingLabels.Marks.{one, labels_in, all_labels_in}
+use Rattle.lower_template_theorems.proofs.pending_labels.LabelCounts.{same_labels}
 use Rattle.semantics.specs.SourceMachine.LabelSearch.{label}
 use Rattle.simulation_terms.specs.Scopes.Scopes.{scopes_in, all_scopes_in}
 use Rattle.simulation_terms.proofs.scopes.ScopeTrees.{scoped_more, all_more, length_new, length_more}
 use Rattle.simulation_statements.specs.Labels.LabelScopes.{either, this_or, stands_in, all_stand_in}
+use Rattle.simulation_statements.proofs.labels.CountedScopes.{never, scope_counted}
 
 -- ---- numbers
 
@@ -29,17 +31,8 @@ second_once a b e = omega (arith, e)
 no_other : (a b : ℕ) → a + b ≤ 1 → 1 ≤ a → b ≡ 0
 no_other a b e f = omega (arith, e, f)
 
-more_left : (a b : ℕ) → 1 ≤ a → 1 ≤ a + b
-more_left a b e = omega (arith, e)
-
-more_right : (a b : ℕ) → 1 ≤ b → 1 ≤ a + b
-more_right a b e = omega (arith, e)
-
 some_is : {A : Type 0} (x y : A) → Some x ≡ Some y → x ≡ y
 some_is x y e = cc
-
-never : {A : Type 0} (x : A) → None ≡ Some x → ⊥
-never x e = cc
 
 -- ---- what the tree notes
 
@@ -97,12 +90,6 @@ default_scopes c k t = refl
 
 mutual
   long : (i : StatementTree) (k c : ℕ) (t : TreeView) → length (scoped i k c t).labels ≡ length t.labels
-  long (tree.Value e) k c t = refl
-  long tree.Nothing k c t = refl
-  long (tree.Forget at local) k c t = refl
-  long (tree.Start at local e) k c t = refl
-  long (tree.StartCopy at local l) k c t = refl
-  long (tree.StartList at local stores) k c t = refl
   long (tree.Block objects items) k c t = all_long items (length t.scopes) c (with_new_scope k objects t) ∙ ap (λ xs. length xs) (scope_labels k objects t)
   long (tree.If e body) k c t = long body k c t
   long (tree.IfElse e first second) k c t = long second k c (scoped first k c t) ∙ long first k c t
@@ -114,10 +101,7 @@ mutual
   long (tree.Case m body) k c t = long body k c (with_case c m k t) ∙ ap (λ xs. length xs) (case_labels c m k t)
   long (tree.Default body) k c t = long body k c (with_default c k t) ∙ ap (λ xs. length xs) (default_labels c k t)
   long (tree.Label m body) k c t = long body k c (with_label m k t) ∙ label_length m k t
-  long (tree.Goto m) k c t = refl
-  long tree.Break k c t = refl
-  long tree.Continue k c t = refl
-  long (tree.Return at e) k c t = refl
+  long i k c t = refl
 
   all_long : (items : StatementTrees) (k c : ℕ) (t : TreeView) → length (all_scoped items k c t).labels ≡ length t.labels
   all_long tree.NoMore k c t = refl
@@ -145,12 +129,6 @@ module _ (n d : ℕ) where
 
   mutual
     kept : (i : StatementTree) (k c : ℕ) (t : TreeView) → labels_in n i ≡ 0 → note (scoped i k c t) ≡ note t
-    kept (tree.Value e) k c t none = refl
-    kept tree.Nothing k c t none = refl
-    kept (tree.Forget at local) k c t none = refl
-    kept (tree.Start at local e) k c t none = refl
-    kept (tree.StartCopy at local l) k c t none = refl
-    kept (tree.StartList at local stores) k c t none = refl
     kept (tree.Block objects items) k c t none = all_kept items (length t.scopes) c (with_new_scope k objects t) none ∙ note_same t (with_new_scope k objects t) (scope_labels k objects t)
     kept (tree.If e body) k c t none = kept body k c t none
     kept (tree.IfElse e first second) k c t none = kept second k c (scoped first k c t) (second_none (labels_in n first) (labels_in n second) none) ∙ kept first k c t (first_none (labels_in n first) (labels_in n second) none)
@@ -163,10 +141,7 @@ module _ (n d : ℕ) where
     kept (tree.Case m body) k c t none = kept body k c (with_case c m k t) none ∙ note_same t (with_case c m k t) (case_labels c m k t)
     kept (tree.Default body) k c t none = kept body k c (with_default c k t) none ∙ note_same t (with_default c k t) (default_labels c k t)
     kept (tree.Label m body) k c t none = kept body k c (with_label m k t) (second_none (one n m) (labels_in n body) none) ∙ label_labels m k t n d (not_here m (labels_in n body) none)
-    kept (tree.Goto m) k c t none = refl
-    kept tree.Break k c t none = refl
-    kept tree.Continue k c t none = refl
-    kept (tree.Return at e) k c t none = refl
+    kept i k c t none = refl
 
     all_kept : (items : StatementTrees) (k c : ℕ) (t : TreeView) → all_labels_in n items ≡ 0 → note (all_scoped items k c t) ≡ note t
     all_kept tree.NoMore k c t none = refl
@@ -174,42 +149,8 @@ module _ (n d : ℕ) where
 
   -- ---- where it stands, it is counted
 
-  either_counted : (a b : ℕ) (x y : Option ℕ) (number : ℕ) → either x y ≡ Some number → ((j : ℕ) → x ≡ Some j → 1 ≤ a) → ((j : ℕ) → y ≡ Some j → 1 ≤ b) → 1 ≤ a + b
-  either_counted a b (Some j) y number e one other = more_left a b (one j refl)
-  either_counted a b None y number e one other = more_right a b (other number e)
-
-  label_counted : (is : Bool) (k a : ℕ) (x : Option ℕ) (number : ℕ) → this_or is k x ≡ Some number → ((j : ℕ) → x ≡ Some j → 1 ≤ a) → 1 ≤ cond is 1 0 + a
-  label_counted true k a x number e later = more_left 1 a (omega arith)
-  label_counted false k a x number e later = more_right 0 a (later number e)
-
-  mutual
-    counted : (i : StatementTree) (k c number : ℕ) → stands_in (label n) i k c ≡ Some number → 1 ≤ labels_in n i
-    counted (tree.Value e) k c number is = absurd (never number is)
-    counted tree.Nothing k c number is = absurd (never number is)
-    counted (tree.Forget at local) k c number is = absurd (never number is)
-    counted (tree.Start at local e) k c number is = absurd (never number is)
-    counted (tree.StartCopy at local l) k c number is = absurd (never number is)
-    counted (tree.StartList at local stores) k c number is = absurd (never number is)
-    counted (tree.Block objects items) k c number is = all_counted items c (suc c) number is
-    counted (tree.If e body) k c number is = counted body k c number is
-    counted (tree.IfElse e first second) k c number is =
-        either_counted (labels_in n first) (labels_in n second) (stands_in (label n) first k c) (stands_in (label n) second k (c + scopes_in first)) number is (λ j e. counted first k c j e) (λ j e. counted second k (c + scopes_in first) j e)
-    counted (tree.While e body) k c number is = counted body k c number is
-    counted (tree.Do body e) k c number is = counted body k c number is
-    counted (tree.For objects first e step body) k c number is = more_right (all_labels_in n first) (labels_in n body) (counted body c (suc c + all_scopes_in first) number is)
-    counted (tree.Switch at e cases has_default values body) k c number is = counted body k c number is
-    counted (tree.Case m body) k c number is = counted body k c number is
-    counted (tree.Default body) k c number is = counted body k c number is
-    counted (tree.Label m body) k c number is = label_counted (n == m) k (labels_in n body) (stands_in (label n) body k c) number is (λ j e. counted body k c j e)
-    counted (tree.Goto m) k c number is = absurd (never number is)
-    counted tree.Break k c number is = absurd (never number is)
-    counted tree.Continue k c number is = absurd (never number is)
-    counted (tree.Return at e) k c number is = absurd (never number is)
-
-    all_counted : (items : StatementTrees) (k c number : ℕ) → all_stand_in (label n) items k c ≡ Some number → 1 ≤ all_labels_in n items
-    all_counted tree.NoMore k c number is = absurd (never number is)
-    all_counted (tree.And first rest) k c number is =
-        either_counted (labels_in n first) (all_labels_in n rest) (stands_in (label n) first k c) (all_stand_in (label n) rest k (c + scopes_in first)) number is (λ j e. counted first k c j e) (λ j e. all_counted rest k (c + scopes_in first) j e)
+  counted : (i : StatementTree) (k c number : ℕ) → stands_in (label n) i k c ≡ Some number → 1 ≤ labels_in n i
+  counted i k c number is = subst (λ m. 1 ≤ m) (sym (same_labels n i)) (scope_counted (label n) i k c number is)
 
   -- ---- and noted
 
@@ -224,12 +165,6 @@ module _ (n d : ℕ) where
 
   mutual
     noted : (i : StatementTree) (k c : ℕ) (t : TreeView) (number : ℕ) → n < length t.labels → labels_in n i ≤ 1 → stands_in (label n) i k (length t.scopes) ≡ Some number → note (scoped i k c t) ≡ number
-    noted (tree.Value e) k c t number less once is = absurd (never number is)
-    noted tree.Nothing k c t number less once is = absurd (never number is)
-    noted (tree.Forget at local) k c t number less once is = absurd (never number is)
-    noted (tree.Start at local e) k c t number less once is = absurd (never number is)
-    noted (tree.StartCopy at local l) k c t number less once is = absurd (never number is)
-    noted (tree.StartList at local stores) k c t number less once is = absurd (never number is)
     noted (tree.Block objects items) k c t number less once is =
         let inside = with_new_scope k objects t in
         all_noted items (length t.scopes) c inside number (subst (λ xs. n < length xs) (sym (scope_labels k objects t)) less) once (subst (λ m. all_stand_in (label n) items (length t.scopes) m ≡ Some number) (sym (length_new k objects t)) is)
@@ -260,10 +195,7 @@ module _ (n d : ℕ) where
         let u = with_label m k t in
         label_noted (n == m) k (labels_in n body) (stands_in (label n) body k (length t.scopes)) number (note (scoped body k c u)) (note u) is once (λ none. kept body k c u none) (λ e. label_here m k t n d (eqb-true n m e) less)
         (λ j e few. noted body k c u j (subst (λ l. n < l) (sym (label_length m k t)) less) few (subst (λ xs. stands_in (label n) body k (length xs) ≡ Some j) (sym (label_scopes m k t)) e))
-    noted (tree.Goto m) k c t number less once is = absurd (never number is)
-    noted tree.Break k c t number less once is = absurd (never number is)
-    noted tree.Continue k c t number less once is = absurd (never number is)
-    noted (tree.Return at e) k c t number less once is = absurd (never number is)
+    noted i k c t number less once is = absurd (never number is)
 
     all_noted : (items : StatementTrees) (k c : ℕ) (t : TreeView) (number : ℕ) → n < length t.labels → all_labels_in n items ≤ 1 → all_stand_in (label n) items k (length t.scopes) ≡ Some number → note (all_scoped items k c t) ≡ number
     all_noted tree.NoMore k c t number less once is = absurd (never number is)

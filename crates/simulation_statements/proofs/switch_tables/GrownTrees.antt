@@ -125,12 +125,6 @@ one_before a = omega arith
 
 mutual
   pub grown : (i : StatementTree) (k c : ℕ) (t : TreeView) → Grown (switches_in i) t (scoped i k c t)
-  grown (tree.Value e) k c t = stays t t refl refl
-  grown tree.Nothing k c t = stays t t refl refl
-  grown (tree.Forget at local) k c t = stays t t refl refl
-  grown (tree.Start at local e) k c t = stays t t refl refl
-  grown (tree.StartCopy at local l) k c t = stays t t refl refl
-  grown (tree.StartList at local stores) k c t = stays t t refl refl
   grown (tree.Block objects items) k c t = let u = with_new_scope k objects t in same_count _ _ t (scoped (tree.Block objects items) k c t) (none_before (all_switches_in items)) (grows_on 0 (all_switches_in items) t u (scoped (tree.Block objects items) k c t) (scope_grown k objects t) (all_grown items (length t.scopes) c u))
   grown (tree.If e body) k c t = grown body k c t
   grown (tree.IfElse e first second) k c t = let u = scoped first k c t in grows_on (switches_in first) (switches_in second) t u (scoped second k c u) (grown first k c t) (grown second k c u)
@@ -148,10 +142,7 @@ mutual
   grown (tree.Case n body) k c t = let u = with_case c n k t in same_count _ _ t (scoped body k c u) (none_before (switches_in body)) (grows_on 0 (switches_in body) t u (scoped body k c u) (case_grown c n k t) (grown body k c u))
   grown (tree.Default body) k c t = let u = with_default c k t in same_count _ _ t (scoped body k c u) (none_before (switches_in body)) (grows_on 0 (switches_in body) t u (scoped body k c u) (default_grown c k t) (grown body k c u))
   grown (tree.Label n body) k c t = let u = with_label n k t in same_count _ _ t (scoped body k c u) (none_before (switches_in body)) (grows_on 0 (switches_in body) t u (scoped body k c u) (label_grown n k t) (grown body k c u))
-  grown (tree.Goto n) k c t = stays t t refl refl
-  grown tree.Break k c t = stays t t refl refl
-  grown tree.Continue k c t = stays t t refl refl
-  grown (tree.Return at e) k c t = stays t t refl refl
+  grown other k c t = stays t t refl refl
 
   pub all_grown : (items : StatementTrees) (k c : ℕ) (t : TreeView) → Grown (all_switches_in items) t (all_scoped items k c t)
   all_grown tree.NoMore k c t = stays t t refl refl

@@ -116,12 +116,6 @@ one_there n a = first_some (one n n) a (subst (λ x. 1 ≤ x) (sym (one_self n))
 module _ (q : ℕ) (few : q < 2 ^ 32 - 1) where
   mutual
     pub case_kept : (i : StatementTree) (k c : ℕ) (t : TreeView) (place : ℕ) → q < length t.cases → OwnCases t q c place (λ m. cases_in m i) → get_or (scoped i k c t).cases q 0 ≡ get_or t.cases q 0
-    case_kept (tree.Value e) k c t place less own = refl
-    case_kept tree.Nothing k c t place less own = refl
-    case_kept (tree.Forget at local) k c t place less own = refl
-    case_kept (tree.Start at local e) k c t place less own = refl
-    case_kept (tree.StartCopy at local l) k c t place less own = refl
-    case_kept (tree.StartList at local stores) k c t place less own = refl
     case_kept (tree.Block objects items) k c t place less own =
         let u = with_new_scope k objects t in
         let g = scope_grown k objects t in
@@ -162,10 +156,7 @@ module _ (q : ℕ) (few : q < 2 ^ 32 - 1) where
         let u = with_label n k t in
         let g = label_grown n k t in
         case_kept body k c u place (longer q (length t.cases) (length u.cases) less g.cases) (own_later 0 t u q c place (λ m. cases_in m body) g own) ∙ ap (λ xs. get_or xs q 0) (label_cases n k t)
-    case_kept (tree.Goto n) k c t place less own = refl
-    case_kept tree.Break k c t place less own = refl
-    case_kept tree.Continue k c t place less own = refl
-    case_kept (tree.Return at e) k c t place less own = refl
+    case_kept other k c t place less own = refl
 
     pub all_case_kept : (items : StatementTrees) (k c : ℕ) (t : TreeView) (place : ℕ) → q < length t.cases → OwnCases t q c place (λ m. all_cases_in m items) → get_or (all_scoped items k c t).cases q 0 ≡ get_or t.cases q 0
     all_case_kept tree.NoMore k c t place less own = refl
@@ -201,12 +192,6 @@ module _ (q : ℕ) where
 
   mutual
     pub choice_kept : (i : StatementTree) (k c : ℕ) (t : TreeView) → q < length t.choices → OwnDefaults t q c (defaults_in i) → choice_in (scoped i k c t) q ≡ choice_in t q
-    choice_kept (tree.Value e) k c t less own = refl
-    choice_kept tree.Nothing k c t less own = refl
-    choice_kept (tree.Forget at local) k c t less own = refl
-    choice_kept (tree.Start at local e) k c t less own = refl
-    choice_kept (tree.StartCopy at local l) k c t less own = refl
-    choice_kept (tree.StartList at local stores) k c t less own = refl
     choice_kept (tree.Block objects items) k c t less own =
         let u = with_new_scope k objects t in
         let g = scope_grown k objects t in
@@ -247,10 +232,7 @@ module _ (q : ℕ) where
         let u = with_label n k t in
         let g = label_grown n k t in
         choice_kept body k c u (further q (length t.choices) 0 (length u.choices) less g.choices) (own_on 0 t u c (defaults_in body) g own) ∙ ap (λ xs. get_or xs q no_choice) (label_choices n k t)
-    choice_kept (tree.Goto n) k c t less own = refl
-    choice_kept tree.Break k c t less own = refl
-    choice_kept tree.Continue k c t less own = refl
-    choice_kept (tree.Return at e) k c t less own = refl
+    choice_kept other k c t less own = refl
 
     pub all_choice_kept : (items : StatementTrees) (k c : ℕ) (t : TreeView) → q < length t.choices → OwnDefaults t q c (all_defaults_in items) → choice_in (all_scoped items k c t) q ≡ choice_in t q
     all_choice_kept tree.NoMore k c t less own = refl

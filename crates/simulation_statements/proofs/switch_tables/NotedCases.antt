@@ -102,12 +102,6 @@ module _ (n place : ℕ) (few : place + n < 2 ^ 32 - 1) where
 
   mutual
     pub case_noted_in : (i : StatementTree) (k c : ℕ) (t : TreeView) (number : ℕ) → Begins t c → place + n < length t.cases → AreFew (λ m. cases_in m i) → cases_in n i ≤ 1 → stands_in (case n) i k (length t.scopes) ≡ Some number → get_or (scoped i k c t).cases (place + n) 0 ≡ number
-    case_noted_in (tree.Value e) k c t number begins less are once is = absurd (never number is)
-    case_noted_in tree.Nothing k c t number begins less are once is = absurd (never number is)
-    case_noted_in (tree.Forget at local) k c t number begins less are once is = absurd (never number is)
-    case_noted_in (tree.Start at local e) k c t number begins less are once is = absurd (never number is)
-    case_noted_in (tree.StartCopy at local l) k c t number begins less are once is = absurd (never number is)
-    case_noted_in (tree.StartList at local stores) k c t number begins less are once is = absurd (never number is)
     case_noted_in (tree.Block objects items) k c t number begins less are once is =
         let u = with_new_scope k objects t in
         let g = scope_grown k objects t in
@@ -155,10 +149,7 @@ module _ (n place : ℕ) (few : place + n < 2 ^ 32 - 1) where
         let u = with_label m k t in
         let g = label_grown m k t in
         case_noted_in body k c u number (begins_on 0 t u c g begins) (longer (place + n) (length t.cases) (length u.cases) less g.cases) are once (subst (λ x. stands_in (case n) body k x ≡ Some number) (sym (label_scopes m k t)) is)
-    case_noted_in (tree.Goto m) k c t number begins less are once is = absurd (never number is)
-    case_noted_in tree.Break k c t number begins less are once is = absurd (never number is)
-    case_noted_in tree.Continue k c t number begins less are once is = absurd (never number is)
-    case_noted_in (tree.Return at e) k c t number begins less are once is = absurd (never number is)
+    case_noted_in i k c t number begins less are once is = absurd (never number is)
 
     all_noted : (items : StatementTrees) (k c : ℕ) (t : TreeView) (number : ℕ) → Begins t c → place + n < length t.cases → AreFew (λ m. all_cases_in m items) → all_cases_in n items ≤ 1 → all_stand_in (case n) items k (length t.scopes) ≡ Some number → get_or (all_scoped items k c t).cases (place + n) 0 ≡ number
     all_noted tree.NoMore k c t number begins less are once is = absurd (never number is)

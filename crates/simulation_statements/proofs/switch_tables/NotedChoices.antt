@@ -174,12 +174,6 @@ module _ (s : SettingView) where
 
     mutual
       has : (i : StatementTree) (enclosed : Enclosure) (known : List ℕ) → SuitsIn u f enclosed known i → (k c place low lowc : ℕ) (t : TreeView) → Inner t c place low lowc (λ m. cases_in m i) (defaults_in i) → low ≤ length t.cases → lowc ≤ length t.choices → Settled (scoped i k c t) low lowc → HasChoices s i k (length t.scopes) (length t.choices)
-      has (tree.Value e) enclosed known suits k c place low lowc t x le lec b = tt
-      has tree.Nothing enclosed known suits k c place low lowc t x le lec b = tt
-      has (tree.Forget at local) enclosed known suits k c place low lowc t x le lec b = tt
-      has (tree.Start at local e) enclosed known suits k c place low lowc t x le lec b = tt
-      has (tree.StartCopy at local l) enclosed known suits k c place low lowc t x le lec b = tt
-      has (tree.StartList at local stores) enclosed known suits k c place low lowc t x le lec b = tt
       has (tree.Block objects items) enclosed known suits k c place low lowc t x le lec b =
           let o = with_new_scope k objects t in
           let g = scope_grown k objects t in
@@ -243,10 +237,7 @@ module _ (s : SettingView) where
           let o = with_label m k t in
           let g = label_grown m k t in
           labelled body k t o (label_scopes m k t) g.choices (has body enclosed known suits k c place low lowc o (inner_on 0 t o c place low lowc (λ j. cases_in j body) (defaults_in body) g x) (through low (length t.cases) (length o.cases) le g.cases) (at_least lowc (length t.choices) 0 (length o.choices) lec g.choices) b)
-      has (tree.Goto m) enclosed known suits k c place low lowc t x le lec b = tt
-      has tree.Break enclosed known suits k c place low lowc t x le lec b = tt
-      has tree.Continue enclosed known suits k c place low lowc t x le lec b = tt
-      has (tree.Return at e) enclosed known suits k c place low lowc t x le lec b = tt
+      has other enclosed known suits k c place low lowc t x le lec b = tt
 
       all_have : (items : StatementTrees) (enclosed : Enclosure) (known : List ℕ) → AllSuitIn u f enclosed known items → (k c place low lowc : ℕ) (t : TreeView) → Inner t c place low lowc (λ m. all_cases_in m items) (all_defaults_in items) → low ≤ length t.cases → lowc ≤ length t.choices → Settled (all_scoped items k c t) low lowc → AllHaveChoices s items k (length t.scopes) (length t.choices)
       all_have tree.NoMore enclosed known suits k c place low lowc t x le lec b = tt

@@ -61,12 +61,6 @@ default_here c k t less = noted_here (slice_get t.choices c) c k t.choices (choi
 module _ (u : UnitView) (f : FunctionView) where
   mutual
     pub default_noted_in : (i : StatementTree) (enclosed : Enclosure) (known : List ℕ) → SuitsIn u f enclosed known i → (k c : ℕ) (t : TreeView) → c < length t.choices → defaults_in i ≤ 1 → (choice_in (scoped i k c t) c).fallback ≡ either (stands_in sought.other i k (length t.scopes)) (choice_in t c).fallback
-    default_noted_in (tree.Value e) enclosed known suits k c t there once = refl
-    default_noted_in tree.Nothing enclosed known suits k c t there once = refl
-    default_noted_in (tree.Forget at local) enclosed known suits k c t there once = refl
-    default_noted_in (tree.Start at local e) enclosed known suits k c t there once = refl
-    default_noted_in (tree.StartCopy at local l) enclosed known suits k c t there once = refl
-    default_noted_in (tree.StartList at local stores) enclosed known suits k c t there once = refl
     default_noted_in (tree.Block objects items) enclosed known suits k c t there once =
         let o = with_new_scope k objects t in
         all_default_noted items enclosed _ suits.1 (length t.scopes) c o (further c (length t.choices) 0 (length o.choices) there (scope_grown k objects t).choices) once
@@ -114,10 +108,7 @@ module _ (u : UnitView) (f : FunctionView) where
         default_noted_in body enclosed known suits k c o (further c (length t.choices) 0 (length o.choices) there (label_grown m k t).choices) once
         ∙ ap (λ n. either (stands_in sought.other body k n) (choice_in o c).fallback) (label_scopes m k t)
         ∙ ap (λ xs. either (stands_in sought.other body k (length t.scopes)) (get_or xs c no_choice).fallback) (label_choices m k t)
-    default_noted_in (tree.Goto m) enclosed known suits k c t there once = refl
-    default_noted_in tree.Break enclosed known suits k c t there once = refl
-    default_noted_in tree.Continue enclosed known suits k c t there once = refl
-    default_noted_in (tree.Return at e) enclosed known suits k c t there once = refl
+    default_noted_in other enclosed known suits k c t there once = refl
 
     all_default_noted : (items : StatementTrees) (enclosed : Enclosure) (known : List ℕ) → AllSuitIn u f enclosed known items → (k c : ℕ) (t : TreeView) → c < length t.choices → all_defaults_in items ≤ 1 → (choice_in (all_scoped items k c t) c).fallback ≡ either (all_stand_in sought.other items k (length t.scopes)) (choice_in t c).fallback
     all_default_noted tree.NoMore enclosed known suits k c t there once = refl

@@ -1,9 +1,10 @@
 -- Regular statements suit.
-use Rattle.std.proofs.Common.{◌≡◌, ◌≤◌, ℕ, ◌+◌, ◌-◌, ◌^◌, ◌==◌, Bool, true, false, ◌&&◌, nat_lt, List, [], ◌∷◌, ◌++◌, length, Option, Some, None, slice_get, refl, arith, ap, ◌∙◌}
+use Rattle.std.proofs.Common.{◌≡◌, ◌≤◌, ℕ, ◌+◌, ◌-◌, ◌^◌, Bool, true, false, ◌&&◌, nat_lt, List, [], ◌∷◌, ◌++◌, length, Option, Some, None, slice_get, refl, arith}
 use Rattle.std.specs.List.{list_all}
-use Rattle.std.proofs.lemmas.Bool.{eqb-true, ltb-true}
+use Rattle.std.proofs.lemmas.Bool.{ltb-true}
 use Rattle.cc_base.specs.declared.int_types.IntType.{IntType}
-use Rattle.c_layout.specs.Types.{Ty, Int, Pointer, Array, Struct, Void, same_kind}
+use Rattle.c_types_rules.proofs.SameTypes.{kind_is}
+use Rattle.c_layout.specs.Types.{Ty, Int}
 use Rattle.c_layout.specs.CheckedTrees as tree
 use Rattle.c_layout.specs.CheckedTrees.{TermTree, LvalueTree, StatementTree, StatementTrees, StoreTree, StoreValue, StoreCopy, StoreText, statement_trees}
 use Rattle.c_layout.specs.CheckedUnits.{LocalView, StaticView, FunctionView, UnitView}
@@ -17,7 +18,6 @@ use Rattle.lower_template_theorems.specs.PendingLabels.Marks.{below, all_labels_
 use Rattle.lower_template_theorems.proofs.pending_labels.MarkArithmetic.{below_yes}
 use Rattle.lower_functions.specs.Functions.Functions.{type_or, numbers_from}
 use Rattle.lower_templates.specs.Worklist.TermKinds.{integer_type, lvalue_type}
-use Rattle.lower_preconditions.specs.Units.LabelNumbers.{same_truth}
 use Rattle.lower_preconditions.specs.Units.RegularTerms.{is_struct, has_local, is_regular_term, is_regular_place}
 use Rattle.lower_preconditions.specs.Units.RegularStatements as looks
 use Rattle.lower_preconditions.specs.Units.RegularStatements.{is_regular_clause, is_regular_result, is_regular_source, is_regular_store, is_plain, are_plain, is_of_kind, has_kind, object_type, is_named_as, is_regular_named, is_regular_switch, is_regular_statement, are_regular_statements}
@@ -27,7 +27,7 @@ use Rattle.simulation_terms.specs.Scopes.SuitedStatements as scopes
 use Rattle.simulation_terms.specs.Scopes.SuitedStatements.{SuitsBehind, SuitsIf, SuitsAsReturned, SuitsAsSource, SuitsAsStore, SuitAsStores, Enclosure, not_enclosed, by_loop, by_switch, IsPlain, ArePlain, IsReadAs, IsSwitchedOn, HasCases, HasLabel, SuitsIn, AllSuitIn}
 use Rattle.simulation_layout.specs.FunctionChecks.LabelsOnce.{IsSelectedOnce, AreSelectedOnce, AllSelectedOnce}
 use Rattle.simulation_layout.specs.FunctionChecks.NewObjects.{HasNewObjects, HaveNewObjects}
-use Rattle.simulation_layout.proofs.function_checks.CountedLabels.{both_true, same_bool, labels_once, selected}
+use Rattle.simulation_layout.proofs.function_checks.CountedLabels.{both_true, labels_once, selected}
 use Rattle.simulation_layout.proofs.function_checks.MarkedObjects.{clash, scopes_own}
 use Rattle.simulation_layout.proofs.function_checks.NamesThere.{regular}
 use Rattle.simulation_layout.proofs.function_checks.RoomOfTerms.{room_term, room_place}
@@ -43,20 +43,7 @@ plain (tree.Forget at local) is = tt
 plain (tree.Start at local e) is = tt
 plain (tree.StartCopy at local l) is = tt
 plain (tree.StartList at local stores) is = tt
-plain (tree.Block objects items) is = clash false is refl
-plain (tree.If e body) is = clash false is refl
-plain (tree.IfElse e first second) is = clash false is refl
-plain (tree.While e body) is = clash false is refl
-plain (tree.Do body e) is = clash false is refl
-plain (tree.For objects first e step body) is = clash false is refl
-plain (tree.Switch at e labels has_default values body) is = clash false is refl
-plain (tree.Case n body) is = clash false is refl
-plain (tree.Default body) is = clash false is refl
-plain (tree.Label n body) is = clash false is refl
-plain (tree.Goto n) is = clash false is refl
-plain tree.Break is = clash false is refl
-plain tree.Continue is = clash false is refl
-plain (tree.Return at e) is = clash false is refl
+plain other is = clash false is refl
 
 all_plain : (is : StatementTrees) → are_plain is ≡ true → ArePlain is
 all_plain tree.NoMore e = tt
@@ -64,19 +51,9 @@ all_plain (tree.And first rest) e = let x = both_true (is_plain first) (are_plai
 
 -- ---- switches
 
-kind_is : (a b : IntType) → same_kind a b ≡ true → a ≡ b
-kind_is a b e =
-    let x = both_true (a.bytes == b.bytes) (same_truth a.signed b.signed && a.rank == b.rank) e in
-    let y = both_true (same_truth a.signed b.signed) (a.rank == b.rank) x.1 in
-    let made : ℕ → Bool → ℕ → IntType = λ n s r. record { bytes = n; signed = s; rank = r } in
-    ap (λ n. made n a.signed a.rank) (eqb-true a.bytes b.bytes x.0) ∙ (ap (λ s. made b.bytes s a.rank) (same_bool a.signed b.signed y.0) ∙ ap (λ r. made b.bytes b.signed r) (eqb-true a.rank b.rank y.1))
-
 read_as : (k : IntType) (t : Ty) → is_of_kind k t ≡ true → k ≡ integer_type t
 read_as k (Int kind) e = kind_is k kind e
-read_as k (Pointer t) e = clash false e refl
-read_as k (Array t n) e = clash false e refl
-read_as k (Struct i) e = clash false e refl
-read_as k Void e = clash false e refl
+read_as k other e = clash false e refl
 
 at_least_one : (a b : ℕ) → a ≡ b → b ≡ 1 → 1 ≤ a
 at_least_one a b e one = omega (arith, e, one)

@@ -1,7 +1,7 @@
 -- Regular terms suit.
 use Rattle.std.proofs.Common.{◌≡◌, ℕ, ◌+◌, ◌==◌, Bool, true, false, not, ◌&&◌, ◌||◌, Option, Some, None, slice_get, refl, ap, sym, ◌∙◌}
 use Rattle.std.proofs.lemmas.Bool.{eqb-true}
-use Rattle.c_layout.specs.Types.{Ty, Int, Pointer, Array, Struct, Void}
+use Rattle.c_layout.specs.Types.{Ty, Struct}
 use Rattle.c_layout.specs.CheckedTrees as tree
 use Rattle.c_layout.specs.CheckedTrees.{TermTree, TermTrees, Typed, LvalueTree, Designates}
 use Rattle.c_layout.specs.CheckedUnits.{FunctionView, UnitView}
@@ -17,11 +17,8 @@ use Rattle.simulation_layout.proofs.function_checks.MarkedObjects.{clash}
 use Rattle.simulation_layout.proofs.function_checks.NamesThere.{behind}
 
 pub the_struct : (t : Ty) → is_struct t ≡ true → t ≡ Struct (struct_number t)
-the_struct (Int k) e = clash false e refl
-the_struct (Pointer t) e = clash false e refl
-the_struct (Array t n) e = clash false e refl
 the_struct (Struct i) e = refl
-the_struct Void e = clash false e refl
+the_struct other e = clash false e refl
 
 not_false : (b : Bool) → (not b) ≡ true → b ≡ false
 not_false false e = refl

@@ -203,18 +203,7 @@ module _ (u : UnitView) (g : ℕ) (callers : List Frame) where
   first_ends item.NextIteration = next_turn
   first_ends item.LeaveFunction = leave_function
   first_ends item.EndBody = end_body
-  first_ends (item.Do at operation) = λ rest ends. at_once u g callers _ refl
-  first_ends (item.Object at o offset) = λ rest ends. at_once u g callers _ refl
-  first_ends (item.Literal at i) = λ rest ends. at_once u g callers _ refl
-  first_ends (item.Outcome at) = λ rest ends. at_once u g callers _ refl
-  first_ends (item.OnObject at local how) = λ rest ends. at_once u g callers _ refl
-  first_ends (item.Choose at test held failed) = λ rest ends. at_once u g callers _ refl
-  first_ends (item.ReadLine at unread read) = λ rest ends. at_once u g callers _ refl
-  first_ends (item.Select at o labels i) = λ rest ends. at_once u g callers _ refl
-  first_ends item.Hop = λ rest ends. at_once u g callers _ refl
-  first_ends (item.Invoke at h count used) = λ rest ends. at_once u g callers _ refl
-  first_ends (item.Bind at n depth) = λ rest ends. at_once u g callers _ refl
-  first_ends (item.LeaveOutcome at) = λ rest ends. at_once u g callers _ refl
+  first_ends other = λ rest ends. at_once u g callers _ refl
 
   pub all_end : (items : List Item) → Ends u g callers items
   all_end [] = nothing_left

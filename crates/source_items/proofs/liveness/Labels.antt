@@ -1,27 +1,24 @@
 -- From a label on, items sit, and no object is still to be entered.
-use Rattle.std.proofs.Common.{◌≡◌, ℕ, Bool, true, false, List, [], ◌∷◌, ◌++◌, Option, Some, None, ◌∙◌}
+use Rattle.std.proofs.Common.{◌≡◌, ℕ, Bool, true, List, [], ◌∷◌, ◌++◌, Option, Some, None, sym, subst, ◌∙◌}
 use Rattle.c_layout.specs.CheckedTrees as tree
 use Rattle.c_layout.specs.CheckedTrees.{StatementTree, StatementTrees, statement_trees}
 use Rattle.c_layout.specs.CheckedUnits.{UnitView, FunctionView}
 use Rattle.semantics.specs.SourceMachine.Items as item
 use Rattle.semantics.specs.SourceMachine.Items.{Item}
 use Rattle.semantics.specs.SourceMachine.Scopes.{is_in, all_of, with_scope, open_scopes}
-use Rattle.semantics.specs.SourceMachine.StatementItems.{statements, do_test, for_step, list_statements}
+use Rattle.semantics.specs.SourceMachine.StatementItems.{statements, do_test, for_step}
 use Rattle.semantics.specs.SourceMachine.LabelSearch as sought
-use Rattle.semantics.specs.SourceMachine.LabelSearch.{Sought, is_label, is_case, is_other, inside_switch, first, here_or, found, found_in, found_among}
+use Rattle.semantics.specs.SourceMachine.LabelSearch.{Sought, is_label, is_case, is_other, found, found_in, found_among}
 use Rattle.source_items.specs.Returns.StandingJumps.{JumpsStand, AllJumpsStand}
 use Rattle.source_items.specs.Liveness.Lives.{lives, IsInBody}
 use Rattle.source_items.specs.Liveness.ScopedStatements.{ScopedStatement, ScopedStatements}
 use Rattle.source_items.specs.Liveness.Livings.{Encloses, Turns, Sit}
+use Rattle.source_items.proofs.stack_kinds.FoundItems.{IfSome, either_found, found_here, found_inside}
+use Rattle.source_items.proofs.stack_kinds.Labels.{found_listed}
 use Rattle.source_items.proofs.liveness.Members.{right_or, is_in-append}
 use Rattle.source_items.proofs.liveness.Sitting.{Leads}
-use Rattle.source_items.proofs.liveness.SittingStatements.{statements_keep, list_keeps, statements_enclose, list_encloses, standing, scoped_as, statements_sit, list_sits, scope_encloses}
+use Rattle.source_items.proofs.liveness.SittingStatements.{statements_keep, statements_enclose, standing, scoped_as, statements_sit, scope_encloses}
 use Rattle.source_items.proofs.liveness.SittingLoops.{turning, test_encloses, test_leads, step_encloses, step_leads, switch_encloses, hop_encloses}
-
--- it holds of what is there, if anything is
-abbrev pub IfSome : {A : Type 0} → (A → Type 0) → Option A → Type 0
-IfSome P None = Unit {0}
-IfSome P (Some x) = P x
 
 -- items of a body that sit, within such scopes
 pub record Reached (f : FunctionView) (is_entry : Bool) (scopes : List (List ℕ)) (to : List Item) : Type 0 where
@@ -32,21 +29,6 @@ pub record Reached (f : FunctionView) (is_entry : Bool) (scopes : List (List ℕ
 -- what is found, if anything is, sits within the scopes around the statement
 abbrev pub Finds : FunctionView → Bool → List Item → Option (List Item) → Type 0
 Finds f is_entry rest = IfSome (Reached f is_entry (open_scopes rest))
-
--- ---- one of two
-
-either_found : (P : List Item → Type 0) (a b : Option (List Item)) → IfSome P a → IfSome P b → IfSome P (first a b)
-either_found P (Some to) b one other = one
-either_found P None b one other = other
-
-found_here : (P : List Item → Type 0) (here : Bool) (items : List Item) (later : Option (List Item)) → P items → IfSome P later → IfSome P (here_or here items later)
-found_here P true items later one other = one
-found_here P false items later one other = other
-
-found_inside : (P : List Item → Type 0) (l : Sought) (o : Option (List Item)) → IfSome P o → IfSome P (inside_switch l o)
-found_inside P (sought.label n) o h = h
-found_inside P (sought.case n) o h = tt
-found_inside P sought.other o h = tt
 
 -- ---- scopes around
 
@@ -76,12 +58,6 @@ module _ (u : UnitView) (l : Sought) (f : FunctionView) (is_entry : Bool) where
     unfolding found found_in
 
     pub found_sits : (i : StatementTree) (rest : List Item) (breaks continues : Bool) → JumpsStand breaks continues i → ScopedStatement f (lives f is_entry rest) i → Encloses f is_entry breaks continues rest → Sit f is_entry rest → Finds f is_entry rest (found u l i rest)
-    found_sits (tree.Value e) rest breaks continues jumps scoped enclosed sit = tt
-    found_sits tree.Nothing rest breaks continues jumps scoped enclosed sit = tt
-    found_sits (tree.Forget at local) rest breaks continues jumps scoped enclosed sit = tt
-    found_sits (tree.Start at local e) rest breaks continues jumps scoped enclosed sit = tt
-    found_sits (tree.StartCopy at local source) rest breaks continues jumps scoped enclosed sit = tt
-    found_sits (tree.StartList at local stores) rest breaks continues jumps scoped enclosed sit = tt
     found_sits (tree.Block objects items) rest breaks continues jumps scoped enclosed sit = wider f is_entry (item.Leaves objects ∷ []) rest (found_in u l items (item.Leaves objects ∷ rest)) (all_found_sit items (item.Leaves objects ∷ rest) breaks continues jumps scoped.1 (scope_encloses f is_entry breaks continues objects rest scoped.0 enclosed) (scoped.0, sit))
     found_sits (tree.If c s) rest breaks continues jumps scoped enclosed sit = found_sits s rest breaks continues jumps scoped.1 enclosed sit
     found_sits (tree.IfElse c one two) rest breaks continues jumps scoped enclosed sit =
@@ -108,10 +84,7 @@ module _ (u : UnitView) (l : Sought) (f : FunctionView) (is_entry : Bool) where
     found_sits (tree.Case n s) rest breaks continues jumps scoped enclosed sit = found_here (Within rest) (is_case l n) (item.Statement s ∷ rest) (found u l s rest) (at_label f is_entry breaks continues s rest jumps scoped enclosed sit) (found_sits s rest breaks continues jumps scoped enclosed sit)
     found_sits (tree.Default s) rest breaks continues jumps scoped enclosed sit = found_here (Within rest) (is_other l) (item.Statement s ∷ rest) (found u l s rest) (at_label f is_entry breaks continues s rest jumps scoped enclosed sit) (found_sits s rest breaks continues jumps scoped enclosed sit)
     found_sits (tree.Label n s) rest breaks continues jumps scoped enclosed sit = found_here (Within rest) (is_label l n) (item.Statement s ∷ rest) (found u l s rest) (at_label f is_entry breaks continues s rest jumps scoped enclosed sit) (found_sits s rest breaks continues jumps scoped enclosed sit)
-    found_sits (tree.Goto n) rest breaks continues jumps scoped enclosed sit = tt
-    found_sits tree.Break rest breaks continues jumps scoped enclosed sit = tt
-    found_sits tree.Continue rest breaks continues jumps scoped enclosed sit = tt
-    found_sits (tree.Return at e) rest breaks continues jumps scoped enclosed sit = tt
+    found_sits other rest breaks continues jumps scoped enclosed sit = tt
 
     all_found_sit : (items : StatementTrees) (rest : List Item) (breaks continues : Bool) → AllJumpsStand breaks continues items → ScopedStatements f (lives f is_entry rest) items → Encloses f is_entry breaks continues rest → Sit f is_entry rest → Finds f is_entry rest (found_in u l items rest)
     all_found_sit tree.NoMore rest breaks continues jumps scoped enclosed sit = tt
@@ -121,8 +94,4 @@ module _ (u : UnitView) (l : Sought) (f : FunctionView) (is_entry : Bool) where
         either_found (Within rest) (found u l s after) (found_in u l ss rest) (wider f is_entry (statements ss) rest (found u l s after) here) (all_found_sit ss rest breaks continues jumps.1 scoped.1 enclosed sit)
 
   pub among_found_sit : (ss : List StatementTree) (rest : List Item) (breaks continues : Bool) → AllJumpsStand breaks continues (statement_trees ss) → ScopedStatements f (lives f is_entry rest) (statement_trees ss) → Encloses f is_entry breaks continues rest → Sit f is_entry rest → Finds f is_entry rest (found_among u l ss rest)
-  among_found_sit [] rest breaks continues jumps scoped enclosed sit = tt
-  among_found_sit (s ∷ ss) rest breaks continues jumps scoped enclosed sit =
-      let after : List Item = list_statements ss ++ rest in
-      let here : Finds f is_entry after (found u l s after) = found_sits s after breaks continues jumps.0 (scoped_as f is_entry s (lives f is_entry rest) _ (list_keeps f is_entry ss rest) scoped.0) (list_encloses f is_entry breaks continues ss rest enclosed) (list_sits f is_entry breaks continues ss rest jumps.1 scoped.1 enclosed sit) in
-      either_found (Within rest) (found u l s after) (found_among u l ss rest) (wider f is_entry (list_statements ss) rest (found u l s after) here) (among_found_sit ss rest breaks continues jumps.1 scoped.1 enclosed sit)
+  among_found_sit ss rest breaks continues jumps scoped enclosed sit = subst (λ o. Finds f is_entry rest o) (sym (found_listed u l ss rest)) (all_found_sit (statement_trees ss) rest breaks continues jumps scoped enclosed sit)

@@ -16,6 +16,7 @@ use Rattle.source_items.specs.Returns.StandingJumps.{JumpsStand, AllJumpsStand}
 use Rattle.source_items.specs.Liveness.Lives.{Lives, with_those, without_those, lives, kept_objects, AreNew, IsInBody}
 use Rattle.source_items.specs.Liveness.ScopedStatements.{ScopedStore, ScopedStores, ScopedReturn, ScopedStatement, ScopedStatements}
 use Rattle.source_items.specs.Liveness.Livings.{Encloses, Stands, Sit}
+use Rattle.source_items.proofs.stack_kinds.LeadingStatements.{listed_statements}
 use Rattle.source_items.proofs.liveness.Members.{apart, left_or, right_or, self_in, is_in-append}
 use Rattle.source_items.proofs.liveness.Inlinings.{scope_opens, parts}
 use Rattle.source_items.proofs.liveness.Sitting.{Leads, Adds, adds_both}
@@ -38,10 +39,6 @@ module _ (f : FunctionView) (first : Bool) where
   statements_enclose breaks continues tree.NoMore rest e = e
   statements_enclose breaks continues (tree.And s ss) rest e = one_more breaks continues s (statements ss ++ rest) (statements_enclose breaks continues ss rest e)
 
-  pub list_encloses : (breaks continues : Bool) (ss : List StatementTree) (rest : List Item) → Encloses f first breaks continues rest → Encloses f first breaks continues (list_statements ss ++ rest)
-  list_encloses breaks continues [] rest e = e
-  list_encloses breaks continues (s ∷ ss) rest e = one_more breaks continues s (list_statements ss ++ rest) (list_encloses breaks continues ss rest e)
-
   pub standing : (breaks continues : Bool) (s : StatementTree) (rest : List Item) → JumpsStand breaks continues s → ScopedStatement f (lives f first rest) s → Encloses f first breaks continues rest → Stands f first s rest
   standing breaks continues s rest jumps scoped e = record { breaks = breaks; continues = continues; jumps = jumps; scoped = scoped; enclosed = e }
 
@@ -54,8 +51,7 @@ module _ (f : FunctionView) (first : Bool) where
   statements_sit breaks continues (tree.And s ss) rest jumps scoped e sit = (standing breaks continues s (statements ss ++ rest) jumps.0 (scoped_as s (lives f first rest) _ (statements_keep ss rest) scoped.0) (statements_enclose breaks continues ss rest e), statements_sit breaks continues ss rest jumps.1 scoped.1 e sit)
 
   pub list_sits : (breaks continues : Bool) (ss : List StatementTree) (rest : List Item) → AllJumpsStand breaks continues (statement_trees ss) → ScopedStatements f (lives f first rest) (statement_trees ss) → Encloses f first breaks continues rest → Sit f first rest → Sit f first (list_statements ss ++ rest)
-  list_sits breaks continues [] rest jumps scoped e sit = sit
-  list_sits breaks continues (s ∷ ss) rest jumps scoped e sit = (standing breaks continues s (list_statements ss ++ rest) jumps.0 (scoped_as s (lives f first rest) _ (list_keeps ss rest) scoped.0) (list_encloses breaks continues ss rest e), list_sits breaks continues ss rest jumps.1 scoped.1 e sit)
+  list_sits breaks continues ss rest jumps scoped e sit = subst (λ items. Sit f first (items ++ rest)) (sym (listed_statements ss)) (statements_sit breaks continues (statement_trees ss) rest jumps scoped e sit)
 
   -- ---- scopes
 

@@ -12,7 +12,9 @@ use Rattle.semantics.specs.SourceMachine.StatementItems.{statements, stored, all
 use Rattle.source_items.specs.Returns.StandingJumps.{JumpsStand, AllJumpsStand}
 use Rattle.source_items.specs.Returns.EndedObjects.{ended, AreAmong, EndOwn}
 use Rattle.source_items.specs.Returns.Leavings.{Encloses, Stands, Turns, Fit}
-use Rattle.source_items.proofs.returns.Members.{apart, among_left, all_among, among_through}
+use Rattle.source_items.proofs.stack_kinds.LeadingStatements.{listed_statements}
+use Rattle.source_items.proofs.liveness.Members.{apart}
+use Rattle.source_items.proofs.returns.Members.{among_left, all_among, among_through}
 use Rattle.source_items.proofs.returns.Ends.{ended_more, own_more}
 use Rattle.source_items.proofs.returns.Fitting.{Adds, adds_both}
 use Rattle.source_items.proofs.returns.FittingConditions.{condition_fits, behind_condition}
@@ -34,13 +36,8 @@ module _ (f : FunctionView) where
   statements_fit breaks continues tree.NoMore rest jumps e fit = fit
   statements_fit breaks continues (tree.And s ss) rest jumps e fit = (standing breaks continues s (statements ss ++ rest) jumps.0 (statements_enclose breaks continues ss rest e), statements_fit breaks continues ss rest jumps.1 e fit)
 
-  pub list_encloses : (breaks continues : Bool) (ss : List StatementTree) (rest : List Item) → Encloses f breaks continues rest → Encloses f breaks continues (list_statements ss ++ rest)
-  list_encloses breaks continues [] rest e = e
-  list_encloses breaks continues (s ∷ ss) rest e = one_more breaks continues s (list_statements ss ++ rest) (list_encloses breaks continues ss rest e)
-
   pub list_fits : (breaks continues : Bool) (ss : List StatementTree) (rest : List Item) → AllJumpsStand breaks continues (statement_trees ss) → Encloses f breaks continues rest → Fit f rest → Fit f (list_statements ss ++ rest)
-  list_fits breaks continues [] rest jumps e fit = fit
-  list_fits breaks continues (s ∷ ss) rest jumps e fit = (standing breaks continues s (list_statements ss ++ rest) jumps.0 (list_encloses breaks continues ss rest e), list_fits breaks continues ss rest jumps.1 e fit)
+  list_fits breaks continues ss rest jumps e fit = subst (λ items. Fit f (items ++ rest)) (sym (listed_statements ss)) (statements_fit breaks continues (statement_trees ss) rest jumps e fit)
 
   -- ---- scopes
 

@@ -94,15 +94,10 @@ module _ (u : UnitView) (f : FunctionView) where
   -- ---- terms
 
   form_adds : (used : Bool) (e : TermTree) (form : FormTree) → Adds f (of_form u used e form)
-  form_adds used e (tree.Number n) = adds_if_used f used _ (λ rest fit. (tt, fit))
-  form_adds used e (tree.SizeofType n is_pointer) = adds_if_used f used _ (λ rest fit. (tt, fit))
-  form_adds used e (tree.Sizeof n operand is_pointer) = adds_if_used f used _ (λ rest fit. (tt, fit))
   form_adds used e (tree.Load l) = adds_if_used f used _ (λ rest fit. (tt, (tt, fit)))
-  form_adds used e (tree.AddressOf l) = adds_if_used f used _ (λ rest fit. (tt, fit))
   form_adds used e (tree.Decay l) = adds_if_used f used _ (λ rest fit. (tt, (tt, fit)))
   form_adds used e (tree.Convert kind a) = adds_if_used f used _ (λ rest fit. (tt, (tt, fit)))
   form_adds used e (tree.Discard a) = λ rest fit. (tt, fit)
-  form_adds used e (tree.Plus a) = adds_if_used f used _ (λ rest fit. (tt, fit))
   form_adds used e (tree.Minus a) = adds_if_used f used _ (λ rest fit. (tt, (tt, fit)))
   form_adds used e (tree.Complement a) = adds_if_used f used _ (λ rest fit. (tt, (tt, fit)))
   form_adds used e (tree.Not a) = adds_if_used f used _ (λ rest fit. (tt, (tt, fit)))
@@ -118,9 +113,9 @@ module _ (u : UnitView) (f : FunctionView) where
   form_adds used e (tree.CompoundShift back size l a) = adds_if_used f used _ (λ rest fit. (tt, (tt, (tt, (tt, (tt, fit))))))
   form_adds used e (tree.Step sign time kind l) = adds_if_used f used _ (step_adds (term_at e) sign (integer_type kind) l (keeps_old time used))
   form_adds used e (tree.StepPointer sign time size l) = adds_if_used f used _ (pointer_step_adds (term_at e) sign size l (keeps_old time used))
-  form_adds used e (tree.Struct l) = adds_if_used f used _ (λ rest fit. (tt, fit))
   form_adds used e (tree.Call g args is_used) = adds_left_if f is_used used _ (call_adds (term_at e) g args is_used)
   form_adds used e (tree.Library function args allocated) = adds_left_if f (gives function) used _ (library_adds (term_at e) function args allocated)
+  form_adds used e other = adds_if_used f used _ (λ rest fit. (tt, fit))
 
   pub term_adds : (used : Bool) (e : TermTree) → Adds f (term_items u used e)
   term_adds used (Typed at t parens fixed form) = form_adds used (Typed at t parens fixed form) form

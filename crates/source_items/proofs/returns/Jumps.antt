@@ -8,7 +8,8 @@ use Rattle.semantics.specs.SourceMachine.Scopes.{is_in, entered_between, jump, e
 use Rattle.semantics.specs.SourceMachine.SourceStates.{Frame, function_at}
 use Rattle.source_items.specs.Returns.EndedObjects.{ended_by, ended, AreAmong, EndOwn}
 use Rattle.source_items.specs.Returns.Leavings.{Fits, Fit, Leaving, AllLeaving}
-use Rattle.source_items.proofs.returns.Members.{right_or, all_among}
+use Rattle.source_items.proofs.liveness.Members.{right_or}
+use Rattle.source_items.proofs.returns.Members.{all_among}
 use Rattle.source_items.proofs.returns.Ends.{ended_more, entered_among, left_or_ended}
 use Rattle.source_items.proofs.returns.Fitting.{fit_behind_loop, fit_behind_turn}
 use Rattle.source_items.proofs.returns.Labels.{Reached}

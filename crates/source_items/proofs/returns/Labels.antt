@@ -1,48 +1,30 @@
 -- From a label on, items fit and end the parameters and the result.
-use Rattle.std.proofs.Common.{ℕ, Bool, true, false, List, [], ◌∷◌, ◌++◌, Option, Some, None}
+use Rattle.std.proofs.Common.{ℕ, Bool, true, false, List, [], ◌∷◌, ◌++◌, Option, Some, None, sym, subst}
 use Rattle.c_layout.specs.CheckedTrees as tree
 use Rattle.c_layout.specs.CheckedTrees.{StatementTree, StatementTrees, statement_trees}
 use Rattle.c_layout.specs.CheckedUnits.{UnitView, FunctionView}
 use Rattle.semantics.specs.SourceMachine.Items as item
 use Rattle.semantics.specs.SourceMachine.Items.{Item}
-use Rattle.semantics.specs.SourceMachine.StatementItems.{statements, do_test, for_step, list_statements}
+use Rattle.semantics.specs.SourceMachine.StatementItems.{statements, do_test, for_step}
 use Rattle.semantics.specs.SourceMachine.LabelSearch as sought
-use Rattle.semantics.specs.SourceMachine.LabelSearch.{Sought, is_label, is_case, is_other, inside_switch, first, here_or, found, found_in, found_among, from_label}
+use Rattle.semantics.specs.SourceMachine.LabelSearch.{Sought, is_label, is_case, is_other, found, found_in, from_label}
 use Rattle.source_items.specs.Returns.StandingJumps.{JumpsStand, AllJumpsStand}
 use Rattle.source_items.specs.Returns.EndedObjects.{own_objects, ended, AreAmong, EndOwn}
 use Rattle.source_items.specs.Returns.Leavings.{Encloses, Turns, Fit}
+use Rattle.source_items.proofs.stack_kinds.FoundItems.{IfSome, either_found, found_here, found_inside}
+use Rattle.source_items.proofs.stack_kinds.Labels.{found_listed}
 use Rattle.source_items.proofs.returns.Members.{among_left, all_among, among_through}
 use Rattle.source_items.proofs.returns.Ends.{ended_more, own_more}
-use Rattle.source_items.proofs.returns.FittingStatements.{statements_enclose, statements_fit, list_encloses, list_fits, standing, scope_encloses, no_loop, turning, test_encloses, test_fits, step_encloses, step_fits, switch_encloses, hop_encloses}
+use Rattle.source_items.proofs.returns.FittingStatements.{statements_enclose, statements_fit, standing, scope_encloses, no_loop, turning, test_encloses, test_fits, step_encloses, step_fits, switch_encloses, hop_encloses}
 
 -- items that fit and end some objects
 pub record Reached (f : FunctionView) (objects : List ℕ) (to : List Item) : Type 0 where
   pub fit : Fit f to
   pub ends : AreAmong objects (ended f to)
 
--- it holds of what is there, if anything is
-abbrev pub IfSome : {A : Type 0} → (A → Type 0) → Option A → Type 0
-IfSome P None = Unit {0}
-IfSome P (Some x) = P x
-
 -- what is found, if anything is, fits and ends what the items behind the statement end
 abbrev pub Finds : FunctionView → List Item → Option (List Item) → Type 0
 Finds f rest = IfSome (Reached f (ended f rest))
-
--- ---- one of two
-
-either_found : (P : List Item → Type 0) (a b : Option (List Item)) → IfSome P a → IfSome P b → IfSome P (first a b)
-either_found P (Some to) b one other = one
-either_found P None b one other = other
-
-found_here : (P : List Item → Type 0) (here : Bool) (items : List Item) (later : Option (List Item)) → P items → IfSome P later → IfSome P (here_or here items later)
-found_here P true items later one other = one
-found_here P false items later one other = other
-
-found_inside : (P : List Item → Type 0) (l : Sought) (o : Option (List Item)) → IfSome P o → IfSome P (inside_switch l o)
-found_inside P (sought.label n) o h = h
-found_inside P (sought.case n) o h = tt
-found_inside P sought.other o h = tt
 
 module _ (f : FunctionView) where
   fewer : (objects more : List ℕ) (o : Option (List Item)) → AreAmong objects more → IfSome (Reached f more) o → IfSome (Reached f objects) o
@@ -62,12 +44,6 @@ module _ (u : UnitView) (l : Sought) (f : FunctionView) where
     unfolding found found_in
 
     pub found_fits : (i : StatementTree) (rest : List Item) (breaks continues : Bool) → JumpsStand breaks continues i → Encloses f breaks continues rest → Fit f rest → Finds f rest (found u l i rest)
-    found_fits (tree.Value e) rest breaks continues jumps enclosed fit = tt
-    found_fits tree.Nothing rest breaks continues jumps enclosed fit = tt
-    found_fits (tree.Forget at local) rest breaks continues jumps enclosed fit = tt
-    found_fits (tree.Start at local e) rest breaks continues jumps enclosed fit = tt
-    found_fits (tree.StartCopy at local source) rest breaks continues jumps enclosed fit = tt
-    found_fits (tree.StartList at local stores) rest breaks continues jumps enclosed fit = tt
     found_fits (tree.Block objects items) rest breaks continues jumps enclosed fit = fewer_before f (item.Leaves objects ∷ []) rest (found_in u l items (item.Leaves objects ∷ rest)) (all_found_fit items (item.Leaves objects ∷ rest) breaks continues jumps (scope_encloses f breaks continues objects rest enclosed) (tt, fit))
     found_fits (tree.If c s) rest breaks continues jumps enclosed fit = found_fits s rest breaks continues jumps enclosed fit
     found_fits (tree.IfElse c one two) rest breaks continues jumps enclosed fit =
@@ -88,10 +64,7 @@ module _ (u : UnitView) (l : Sought) (f : FunctionView) where
     found_fits (tree.Case n s) rest breaks continues jumps enclosed fit = found_here (Reached f (ended f rest)) (is_case l n) (item.Statement s ∷ rest) (found u l s rest) (at_label f breaks continues s rest jumps enclosed fit) (found_fits s rest breaks continues jumps enclosed fit)
     found_fits (tree.Default s) rest breaks continues jumps enclosed fit = found_here (Reached f (ended f rest)) (is_other l) (item.Statement s ∷ rest) (found u l s rest) (at_label f breaks continues s rest jumps enclosed fit) (found_fits s rest breaks continues jumps enclosed fit)
     found_fits (tree.Label n s) rest breaks continues jumps enclosed fit = found_here (Reached f (ended f rest)) (is_label l n) (item.Statement s ∷ rest) (found u l s rest) (at_label f breaks continues s rest jumps enclosed fit) (found_fits s rest breaks continues jumps enclosed fit)
-    found_fits (tree.Goto n) rest breaks continues jumps enclosed fit = tt
-    found_fits tree.Break rest breaks continues jumps enclosed fit = tt
-    found_fits tree.Continue rest breaks continues jumps enclosed fit = tt
-    found_fits (tree.Return at e) rest breaks continues jumps enclosed fit = tt
+    found_fits other rest breaks continues jumps enclosed fit = tt
 
     all_found_fit : (items : StatementTrees) (rest : List Item) (breaks continues : Bool) → AllJumpsStand breaks continues items → Encloses f breaks continues rest → Fit f rest → Finds f rest (found_in u l items rest)
     all_found_fit tree.NoMore rest breaks continues jumps enclosed fit = tt
@@ -99,13 +72,6 @@ module _ (u : UnitView) (l : Sought) (f : FunctionView) where
         let after : List Item = statements ss ++ rest in
         let here : Finds f after (found u l s after) = found_fits s after breaks continues jumps.0 (statements_enclose f breaks continues ss rest enclosed) (statements_fit f breaks continues ss rest jumps.1 enclosed fit) in
         either_found (Reached f (ended f rest)) (found u l s after) (found_in u l ss rest) (fewer_before f (statements ss) rest (found u l s after) here) (all_found_fit ss rest breaks continues jumps.1 enclosed fit)
-
-  among_found_fit : (ss : List StatementTree) (rest : List Item) (breaks continues : Bool) → AllJumpsStand breaks continues (statement_trees ss) → Encloses f breaks continues rest → Fit f rest → Finds f rest (found_among u l ss rest)
-  among_found_fit [] rest breaks continues jumps enclosed fit = tt
-  among_found_fit (s ∷ ss) rest breaks continues jumps enclosed fit =
-      let after : List Item = list_statements ss ++ rest in
-      let here : Finds f after (found u l s after) = found_fits s after breaks continues jumps.0 (list_encloses f breaks continues ss rest enclosed) (list_fits f breaks continues ss rest jumps.1 enclosed fit) in
-      either_found (Reached f (ended f rest)) (found u l s after) (found_among u l ss rest) (fewer_before f (list_statements ss) rest (found u l s after) here) (among_found_fit ss rest breaks continues jumps.1 enclosed fit)
 
 -- ---- functions
 
@@ -116,4 +82,4 @@ pub label_found : (u : UnitView) (f : FunctionView) (n : ℕ) → AllJumpsStand 
 label_found u f n jumps =
     let end : List Item = item.Leaves f.scope ∷ (item.EndBody ∷ []) in
     let own : EndOwn f end = own_more f (item.Leaves f.scope ∷ []) (item.EndBody ∷ []) (end_owns f) in
-    fewer f (own_objects f) (ended f end) (from_label u f n) own (among_found_fit u (sought.label n) f f.body end false false jumps (no_loop f end own) (tt, (all_among [], tt)))
+    fewer f (own_objects f) (ended f end) (from_label u f n) own (subst (λ o. Finds f end o) (sym (found_listed u (sought.label n) f.body end)) (all_found_fit u (sought.label n) f (statement_trees f.body) end false false jumps (no_loop f end own) (tt, (all_among [], tt))))

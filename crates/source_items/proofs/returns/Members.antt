@@ -3,34 +3,7 @@ use Rattle.std.proofs.Common.{◌≡◌, ◌⊎◌, ℕ, ◌==◌, Bool, true, f
 use Rattle.std.proofs.lemmas.Bool.{eqb-true}
 use Rattle.semantics.specs.SourceMachine.Scopes.{is_in, all_of, without, inwards}
 use Rattle.source_items.specs.Returns.EndedObjects.{AreAmong}
-
-pub apart : false ≡ true → ⊥
-apart e = cc
-
-pub other_apart : true ≡ false → ⊥
-other_apart e = cc
-
--- ---- one of two
-
-or_assoc : (a b c : Bool) → ((a || b) || c) ≡ (a || (b || c))
-or_assoc true b c = refl
-or_assoc false b c = refl
-
-pub is_in-append : (n : ℕ) (xs ys : List ℕ) → is_in n (xs ++ ys) ≡ (is_in n xs || is_in n ys)
-is_in-append n [] ys = refl
-is_in-append n (x ∷ xs) ys = ap (λ b. (n == x) || b) (is_in-append n xs ys) ∙ sym (or_assoc (n == x) (is_in n xs) (is_in n ys))
-
-either : (a b : Bool) → (a || b) ≡ true → (a ≡ true) ⊎ (b ≡ true)
-either true b e = inl refl
-either false b e = inr e
-
-pub left_or : (a b : Bool) → a ≡ true → (a || b) ≡ true
-left_or true b e = refl
-left_or false b e = absurd (apart e)
-
-pub right_or : (a b : Bool) → b ≡ true → (a || b) ≡ true
-right_or true b e = refl
-right_or false b e = e
+use Rattle.source_items.proofs.liveness.Members.{apart, either, left_or, right_or, is_in-append}
 
 pub of_both : (n : ℕ) (xs ys : List ℕ) → is_in n (xs ++ ys) ≡ true → (is_in n xs ≡ true) ⊎ (is_in n ys ≡ true)
 of_both n xs ys e = either (is_in n xs) (is_in n ys) (sym (is_in-append n xs ys) ∙ e)

@@ -1,16 +1,12 @@
 -- What holds of the state in which a run goes on.
-use Rattle.std.proofs.Common.{◌≡◌, ℤ, Option, Some, None, refl}
+use Rattle.std.proofs.Common.{◌≡◌, ℤ, Option, Some, None, refl, sym, subst}
 use Rattle.memory_model.specs.Memory.Scalars.{Scalar, integer, pointer}
 use Rattle.memory_model.specs.Memory.Labels.{Labels}
 use Rattle.memory_model.specs.Effects.Worlds.{World, Reply, goes, stops, behind}
 use Rattle.memory_model.specs.Effects.Operands.{with_number}
 use Rattle.semantics.specs.SourceMachine.SourceStates.{State, if_some}
-use Rattle.source_items.proofs.returns.Labels.{IfSome}
-
--- it holds of what a reply gives, where the run goes on
-abbrev pub IfGoes : {A : Type 0} → (A → Type 0) → Reply A → Type 0
-IfGoes P (goes x w) = P x
-IfGoes P (stops why w) = Unit {0}
+use Rattle.source_items.specs.Operations.GoingReplies.{IfGoes}
+use Rattle.source_items.proofs.stack_kinds.FoundItems.{IfSome}
 
 module _ {A B : Type 0} (P : B → Type 0) where
   pub goes_behind : (Q : A → Type 0) (r : Reply A) (next : A → World → Reply B) → IfGoes Q r → ((x : A) (w : World) → Q x → IfGoes P (next x w)) → IfGoes P (behind r next)
@@ -28,6 +24,9 @@ module _ {A B : Type 0} (P : B → Type 0) where
   pub goes_if_such : (Q : A → Type 0) (s : State) (o : Option A) (use_it : A → Reply B) → IfSome Q o → ((x : A) → Q x → IfGoes P (use_it x)) → IfGoes P (if_some s o use_it)
   goes_if_such Q s None use_it q h = tt
   goes_if_such Q s (Some x) use_it q h = h x q
+
+  pub goes_if_known : (s : State) (o : Option A) (x : A) (use_it : A → Reply B) → o ≡ Some x → IfGoes P (use_it x) → IfGoes P (if_some s o use_it)
+  goes_if_known s o x use_it is h = subst (λ o. IfGoes P (if_some s o use_it)) (sym is) h
 
 pub goes_with_number : {B : Type 0} (P : B → Type 0) (v : Scalar) (w : World) (use_it : ℤ → Labels → World → Reply B) → ((n : ℤ) (l : Labels) (w : World) → IfGoes P (use_it n l w)) → IfGoes P (with_number v w use_it)
 goes_with_number P (integer n l) w use_it h = h n l w

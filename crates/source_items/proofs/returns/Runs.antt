@@ -13,8 +13,8 @@ use Rattle.source_items.specs.Returns.StandingJumps.{UnitJumpsStand}
 use Rattle.source_items.specs.Returns.EndedObjects.{ended}
 use Rattle.source_items.specs.Returns.Leavings.{Leaving, AllLeaving, IsLeaving}
 use Rattle.source_items.specs.Returns.ReturnedFunctions.{CalledFunctionsLeaveAll}
-use Rattle.source_items.proofs.returns.Members.{apart, other_apart}
-use Rattle.source_items.proofs.returns.Replies.{IfGoes}
+use Rattle.source_items.proofs.liveness.Members.{apart, other_apart}
+use Rattle.source_items.specs.Operations.GoingReplies.{IfGoes}
 use Rattle.source_items.proofs.returns.Turns.{turn_leaves}
 
 -- it holds of the state in which a run is, if it goes on

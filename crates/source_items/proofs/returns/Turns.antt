@@ -14,24 +14,23 @@ use Rattle.lower_conditions.specs.declared.branch_tests.NamedObject.{NamedObject
 use Rattle.lower_functions.specs.Functions.Functions.{local_type}
 use Rattle.memory_model.specs.Memory.Scalars.{Scalar, is_false}
 use Rattle.memory_model.specs.Effects.NumberedTables.{put_at, clear_at}
-use Rattle.memory_model.specs.Effects.Worlds.{World, Reply, behind, unviolated}
+use Rattle.memory_model.specs.Effects.Worlds.{behind, unviolated}
 use Rattle.memory_model.specs.Effects.ObjectEffects.{next_instance}
 use Rattle.memory_model.specs.Effects.Accesses.{store}
 use Rattle.memory_model.specs.Effects.LibraryCalls.{fgets}
-use Rattle.memory_model.specs.Effects.Tests.{TestedSide}
 use Rattle.semantics.specs.SourceMachine.Operations.{Operation, perform}
 use Rattle.semantics.specs.SourceMachine.Items as item
-use Rattle.semantics.specs.SourceMachine.Items.{NamedSide, NamedTest, Item, Items, listed, Change}
+use Rattle.semantics.specs.SourceMachine.Items.{NamedTest, Item, Items, listed, Change}
 use Rattle.semantics.specs.SourceMachine.TermItems.{address_items}
 use Rattle.semantics.specs.SourceMachine.ConditionItems.{term_items}
 use Rattle.semantics.specs.SourceMachine.StatementItems.{of_statement, while_iteration, do_iteration, for_iteration}
 use Rattle.semantics.specs.SourceMachine.Scopes.{is_in, all_of, open_scopes, jump, leap_in, past_loop, past_iteration}
 use Rattle.semantics.specs.SourceMachine.LabelSearch as sought
 use Rattle.semantics.specs.SourceMachine.LabelSearch.{Sought, found, from_label, case_of}
-use Rattle.semantics.specs.SourceMachine.SourceStates.{Frame, State, with_world, first_do, function_at, result_object, type_of, instance_of}
+use Rattle.semantics.specs.SourceMachine.SourceStates.{Frame, State, first_do, function_at, result_object, type_of, instance_of}
 use Rattle.semantics.specs.SourceMachine.ObjectSteps.{on, point_to, point_to_literal, point_to_outcome, enter_if}
 use Rattle.semantics.specs.SourceMachine.ObjectSteps as objects
-use Rattle.semantics.specs.SourceMachine.BranchSteps.{in_world, with_side, testing, choose_by, choose, read_line, matching, on_case, landing, land, select_label, select}
+use Rattle.semantics.specs.SourceMachine.BranchSteps.{testing, choose_by, choose, read_line, on_case, landing, land, select_label, select}
 use Rattle.semantics.specs.SourceMachine.CallSteps.{behind_body, invoke, bind_value, bind_parameter, leave_outcome}
 use Rattle.semantics.specs.SourceMachine.SourceSteps.{is_entry, operate, again, enter_all, leave_all, go_to, act, return_to, turn_by, turn}
 use Rattle.source_items.specs.Returns.StandingJumps.{UnitJumpsStand}
@@ -40,8 +39,11 @@ use Rattle.source_items.specs.Returns.Leavings.{Selects, Fits, AllFit, Fit, Leav
 use Rattle.source_items.proofs.returns.Fitting.{listed_fit, fit_behind_loop}
 use Rattle.source_items.proofs.returns.FittingTerms.{address_adds, term_adds}
 use Rattle.source_items.proofs.returns.FittingStatements.{while_fits, do_fits, for_fits, statement_fits}
-use Rattle.source_items.proofs.returns.Labels.{IfSome, Reached, found_fits, label_found}
-use Rattle.source_items.proofs.returns.Replies.{IfGoes, goes_behind, goes_on, goes_if_some, goes_if_such, goes_with_number}
+use Rattle.source_items.proofs.returns.Labels.{Reached, found_fits, label_found}
+use Rattle.source_items.proofs.stack_kinds.FoundItems.{IfSome}
+use Rattle.source_items.specs.Operations.GoingReplies.{IfGoes}
+use Rattle.source_items.proofs.returns.TestReplies.{test_goes, case_goes}
+use Rattle.source_items.proofs.returns.Replies.{goes_behind, goes_on, goes_if_some, goes_if_such, goes_with_number}
 use Rattle.source_items.proofs.returns.Jumps.{change_all, change_for, gone, in_place, jumping, breaking, continuing, leaping, entering_one, leaving_one}
 use Rattle.source_items.proofs.returns.Calls.{beginning, at_end, at_return, leaving_outcome}
 
@@ -110,36 +112,12 @@ module _ (u : UnitView) where
 
   -- ---- conditions
 
-  -- what does not speak of the world
-  module _ (Q : State → Type 0) (s : State) (holds : (w : World) → Q (with_world s w)) where
-    in_some_world : (reply : Reply (Unit {0})) → IfGoes Q (in_world s reply)
-    in_some_world reply = goes_on Q reply _ (λ x w. holds w)
-
-    with_some_side : (side : NamedSide) (use_it : TestedSide → Reply State) → ((t : TestedSide) → IfGoes Q (use_it t)) → IfGoes Q (with_side s side use_it)
-    with_some_side (item.named o) use_it h = goes_if_some Q s (instance_of s.names o.object) _ (λ i is. h _)
-    with_some_side (item.number n) use_it h = h _
-    with_some_side item.nothing use_it h = h _
-
-    test_goes : (test : Option NamedTest) (held : Bool) → IfGoes Q (testing u s test held)
-    test_goes None held = holds s.world
-    test_goes (Some t) held = with_some_side t.left _ (λ left. with_some_side t.right _ (λ right. in_some_world _))
-
-    case_goes : (o : Option NamedObject) (l : Sought) (value : ℤ) → IfGoes Q (on_case u o l value s)
-    case_goes None l value = holds s.world
-    case_goes (Some o) (sought.label n) value = holds s.world
-    case_goes (Some o) sought.other value = holds s.world
-    case_goes (Some o) (sought.case n) value = by o.kind
-      where
-        by : (kind : declared.Scalar) → IfGoes Q (matching u s o kind value)
-        by (of.Int kind) = goes_if_some Q s (instance_of s.names o.object) _ (λ i is. in_some_world _)
-        by of.Pointer = holds s.world
-
   module _ (at : Place) (test : Option NamedTest) (held failed : Items) where
     abbrev IsChoosing : State → Type 0
     IsChoosing = IsLeavingAt u (item.Choose at test held failed)
 
     tested : (s : State) (b : Bool) (items : Items) → ((f : FunctionView) (rest : List Item) → Fits f (item.Choose at test held failed) rest → AllFit f items rest) → IsChoosing s → IfGoes (IsLeaving u) (behind (testing u s test b) (λ s w. on (first_do (listed items) s)))
-    tested s b items one all = goes_behind (IsLeaving u) IsChoosing (testing u s test b) _ (test_goes IsChoosing s (λ w. all) test b) (λ t w all. expanded t (item.Choose at test held failed) (listed items) (λ f. refl) (λ f fits fit. listed_fit f items t.control (one f t.control fits) fit) all)
+    tested s b items one all = goes_behind (IsLeaving u) IsChoosing (testing u s test b) _ (test_goes u IsChoosing s (λ w. all) test b) (λ t w all. expanded t (item.Choose at test held failed) (listed items) (λ f. refl) (λ f fits fit. listed_fit f items t.control (one f t.control fits) fit) all)
 
     chosen_by : (s : State) (b : Bool) → IsChoosing s → IfGoes (IsLeaving u) (choose_by u test b held failed s)
     chosen_by s true all = tested s true held (λ f rest fits. fits.0) all
@@ -187,7 +165,7 @@ module _ (u : UnitView) where
         how to is f leaving = leaping f s.names s.control to (reached f to is leaving.fit) (gone f s.names (item.Select at o labels statement) s.control refl leaving)
 
     matched : (l : Sought) (value : ℤ) (s : State) → IsSelecting s → IfGoes (IsLeaving u) (select_label u o statement l value s)
-    matched l value s all = goes_behind (IsLeaving u) IsSelecting (on_case u o l value s) _ (case_goes IsSelecting s (λ w. all) o l value) (λ t w all. land_goes l t all)
+    matched l value s all = goes_behind (IsLeaving u) IsSelecting (on_case u o l value s) _ (case_goes u IsSelecting s (λ w. all) o l value) (λ t w all. land_goes l t all)
 
     selected : (s : State) (vs : List Scalar) → IsSelecting s → IfGoes (IsLeaving u) (select u o labels statement s vs)
     selected s [] all = tt

@@ -8,13 +8,14 @@ use Rattle.semantics.specs.SourceMachine.TermItems.{arguments, argument_count}
 use Rattle.source_items.specs.Operations.Kinds.{Kind}
 use Rattle.source_items.specs.StackKinds.KindedTerms.{term_kind, argument_kinds, HaveParameters, KindedTerms}
 use Rattle.source_items.specs.StackKinds.KindedItems.{parameter_kinds}
-use Rattle.source_items.proofs.stack_kinds.Leading.{Leads}
+use Rattle.source_items.proofs.stack_kinds.ItemWalks.{Leads}
+use Rattle.source_items.proofs.stack_kinds.Leading.{kinds}
 
 abbrev pub stacked : TermTrees → List Kind → List Kind
 stacked tree.End ks = ks
 stacked (tree.More e rest) ks = stacked rest (term_kind e ∷ ks)
 
-pub arguments_lead : (u : UnitView) (f : FunctionView) (called : Option Bool) (args : TermTrees) (ks : List Kind) → KindedTerms u args → Leads u f called (arguments args) ks (stacked args ks)
+pub arguments_lead : (u : UnitView) (f : FunctionView) (called : Option Bool) (args : TermTrees) (ks : List Kind) → KindedTerms u args → Leads (kinds u f called) (arguments args) ks (stacked args ks)
 arguments_lead u f called tree.End ks kinded rest = refl
 arguments_lead u f called (tree.More e args) ks kinded rest = (term_kind e ∷ ks, (kinded.0, refl), arguments_lead u f called args (term_kind e ∷ ks) kinded.1 rest)
 

@@ -1,5 +1,5 @@
 -- The items of conditions lead to what both of the ways behind them lead to.
-use Rattle.std.proofs.Common.{◌≡◌, Bool, true, false, cond, List, [], ◌∷◌, ◌++◌, reverse, Option, Some, None, refl, ap, ◌∙◌}
+use Rattle.std.proofs.Common.{◌≡◌, Bool, true, false, List, [], ◌∷◌, ◌++◌, reverse, Option, Some, None, refl, ap, ◌∙◌}
 use Rattle.cc_base.specs.declared.diagnostics.Place.{Place}
 use Rattle.c_layout.specs.CheckedTrees as tree
 use Rattle.c_layout.specs.CheckedTrees.{TermTree, TermTrees, Typed}
@@ -8,24 +8,20 @@ use Rattle.c_layout.specs.Types.{Ty}
 use Rattle.c_layout.specs.declared.checked_tree.checked_terms.ConversionKind.TheVariants.{Implicit}
 use Rattle.c_layout.specs.declared.library_functions.LibFn.{LibFn}
 use Rattle.c_layout.specs.declared.library_functions.LibFn.TheVariants.{Fgets}
-use Rattle.c_layout.specs.declared.syntax_tree.expressions.BinaryOp.{BinaryOp}
-use Rattle.c_layout.specs.declared.syntax_tree.expressions.BinaryOp.TheVariants.{Equal, NotEqual}
 use Rattle.c_layout.specs.declared.syntax_tree.expressions.LogicalOp.TheVariants.{And, Or}
-use Rattle.lower_templates.specs.Worklist.TermKinds.{peeled, is_null_constant}
-use Rattle.lower_conditions.specs.Conditions.{LineCallView, line_call_of, line_call_in, line_call, line_call_beside, ReadView, read_test, compared_read, read_by}
+use Rattle.lower_templates.specs.Worklist.TermKinds.{peeled}
+use Rattle.lower_conditions.specs.Conditions.{LineCallView, line_call_of, line_call_in, line_call, ReadView, read_by}
 use Rattle.semantics.specs.SourceMachine.Items as item
 use Rattle.semantics.specs.SourceMachine.Items.{Item, items_of}
 use Rattle.semantics.specs.SourceMachine.TermItems.{arguments}
 use Rattle.semantics.specs.SourceMachine.ConditionItems.{line_items, leaf_by, leaf, condition}
 use Rattle.source_items.specs.Operations.Kinds.{Kind, Number, Address}
 use Rattle.source_items.specs.StackKinds.KindedTerms.{term_kind, argument_kinds, CallsLibrary, KindedTerm, KindedTerms}
-use Rattle.source_items.proofs.stack_kinds.Leading.{Through, all_through, through_both}
+use Rattle.source_items.proofs.stack_kinds.ItemWalks.{Through, all_through, through_both}
+use Rattle.source_items.proofs.stack_kinds.Leading.{kinds}
+use Rattle.source_items.proofs.stack_kinds.FoundItems.{IfSome}
+use Rattle.source_items.proofs.stack_kinds.LineCalls.{read_tested, read_compared}
 use Rattle.source_items.proofs.stack_kinds.LeadingArguments.{stacked, arguments_lead, stacked_reverse}
-
--- it holds of what is there, if anything is
-abbrev pub IfSome : {A : Type 0} → (A → Type 0) → Option A → Type 0
-IfSome P None = Unit {0}
-IfSome P (Some x) = P x
 
 -- ---- lines that are read
 
@@ -56,50 +52,33 @@ module _ (u : UnitView) where
   line_called : (e : TermTree) → KindedTerm u true e → LineCalled u (line_call e)
   line_called e kinded = called_in true (peeled e) (peeled_kinded e kinded)
 
-  called_beside : (left right : TermTree) → KindedTerm u true left → KindedTerm u true right → LineCalled u (line_call_beside left right)
-  called_beside left right one other = by (is_null_constant right) (is_null_constant left)
-    where
-      by : (b c : Bool) → LineCalled u (cond b (line_call left) (cond c (line_call right) None))
-      by true c = line_called left one
-      by false true = line_called right other
-      by false false = tt
-
-  read_tested : (o : Option LineCallView) (wants : Bool) → LineCalled u o → LineRead u (read_test o wants)
-  read_tested None wants called = tt
-  read_tested (Some c) wants called = called
-
-  read_compared : (sign : BinaryOp) (left right : TermTree) → KindedTerm u true left → KindedTerm u true right → LineRead u (compared_read sign left right)
-  read_compared Equal left right one other = read_tested (line_call_beside left right) false (called_beside left right one other)
-  read_compared NotEqual left right one other = read_tested (line_call_beside left right) true (called_beside left right one other)
-  read_compared sign left right one other = tt
-
   line_read : (e : TermTree) → KindedTerm u true e → LineRead u (read_by e)
-  line_read (Typed at t parens fixed (tree.Compare sign left right)) kinded = read_compared sign left right kinded.0 kinded.1
-  line_read e kinded = read_tested (line_call e) true (line_called e kinded)
+  line_read (Typed at t parens fixed (tree.Compare sign left right)) kinded = read_compared (λ c. ReadsLine u c.arguments) sign left right (line_called left kinded.0) (line_called right kinded.1)
+  line_read e kinded = read_tested (λ c. ReadsLine u c.arguments) (line_call e) true (line_called e kinded)
 
 module _ (u : UnitView) (f : FunctionView) (called : Option Bool) where
   -- ---- a condition that is a term or reads a line
 
-  read_through : (args : TermTrees) (at : Place) (none some rest : List Item) (ks after : List Kind) → ReadsLine u args → Through u f called none rest ks after → Through u f called some rest ks after → Through u f called (arguments args ++ item.ReadLine at (items_of none) (items_of some) ∷ []) rest ks after
+  read_through : (args : TermTrees) (at : Place) (none some rest : List Item) (ks after : List Kind) → ReadsLine u args → Through (kinds u f called) none rest ks after → Through (kinds u f called) some rest ks after → Through (kinds u f called) (arguments args ++ item.ReadLine at (items_of none) (items_of some) ∷ []) rest ks after
   read_through args at none some rest ks after reads one other =
       let read : Item = item.ReadLine at (items_of none) (items_of some) in
       let three : stacked args ks ≡ Address ∷ (Number ∷ (Address ∷ ks)) = stacked_reverse args ks ∙ ap (λ xs. reverse xs ++ ks) reads.are in
-      through_both u f called (arguments args) (read ∷ []) rest ks (stacked args ks) after (arguments_lead u f called args ks reads.kinded (read ∷ rest)) (after, (ks, three, all_through u f called none rest ks after one, all_through u f called some rest ks after other), refl)
+      through_both (kinds u f called) (arguments args) (read ∷ []) rest ks (stacked args ks) after (arguments_lead u f called args ks reads.kinded (read ∷ rest)) (after, (ks, three, all_through (kinds u f called) none rest ks after one, all_through (kinds u f called) some rest ks after other), refl)
 
-  line_through : (r : ReadView) (wants : Bool) (held failed rest : List Item) (ks after : List Kind) → ReadsLine u r.call.arguments → Through u f called held rest ks after → Through u f called failed rest ks after → Through u f called (line_items r wants (items_of held) (items_of failed)) rest ks after
+  line_through : (r : ReadView) (wants : Bool) (held failed rest : List Item) (ks after : List Kind) → ReadsLine u r.call.arguments → Through (kinds u f called) held rest ks after → Through (kinds u f called) failed rest ks after → Through (kinds u f called) (line_items r wants (items_of held) (items_of failed)) rest ks after
   line_through r true held failed rest ks after reads one other = read_through r.call.arguments r.call.at failed held rest ks after reads other one
   line_through r false held failed rest ks after reads one other = read_through r.call.arguments r.call.at held failed rest ks after reads one other
 
-  leaf_by_through : (is_test : Bool) (e : TermTree) (o : Option ReadView) (held failed rest : List Item) (ks after : List Kind) → KindedTerm u true e → LineRead u o → Through u f called held rest ks after → Through u f called failed rest ks after → Through u f called (leaf_by u is_test e o (items_of held) (items_of failed)) rest ks after
+  leaf_by_through : (is_test : Bool) (e : TermTree) (o : Option ReadView) (held failed rest : List Item) (ks after : List Kind) → KindedTerm u true e → LineRead u o → Through (kinds u f called) held rest ks after → Through (kinds u f called) failed rest ks after → Through (kinds u f called) (leaf_by u is_test e o (items_of held) (items_of failed)) rest ks after
   leaf_by_through is_test e (Some r) held failed rest ks after kinded read one other = line_through r r.wants_line held failed rest ks after read one other
-  leaf_by_through is_test e None held failed rest ks after kinded read one other = (term_kind e ∷ ks, (kinded, refl), (after, (term_kind e, ks, refl, all_through u f called held rest ks after one, all_through u f called failed rest ks after other), refl))
+  leaf_by_through is_test e None held failed rest ks after kinded read one other = (term_kind e ∷ ks, (kinded, refl), (after, (term_kind e, ks, refl, all_through (kinds u f called) held rest ks after one, all_through (kinds u f called) failed rest ks after other), refl))
 
-  leaf_through : (is_test : Bool) (e : TermTree) (held failed rest : List Item) (ks after : List Kind) → KindedTerm u true e → Through u f called held rest ks after → Through u f called failed rest ks after → Through u f called (leaf u is_test e held failed) rest ks after
+  leaf_through : (is_test : Bool) (e : TermTree) (held failed rest : List Item) (ks after : List Kind) → KindedTerm u true e → Through (kinds u f called) held rest ks after → Through (kinds u f called) failed rest ks after → Through (kinds u f called) (leaf u is_test e held failed) rest ks after
   leaf_through is_test e held failed rest ks after kinded one other = leaf_by_through is_test e (read_by e) held failed rest ks after kinded (line_read u e kinded) one other
 
   -- ---- conditions
 
-  pub condition_through : (is_test : Bool) (e : TermTree) (held failed rest : List Item) (ks after : List Kind) → KindedTerm u true e → Through u f called held rest ks after → Through u f called failed rest ks after → Through u f called (condition u is_test e held failed) rest ks after
+  pub condition_through : (is_test : Bool) (e : TermTree) (held failed rest : List Item) (ks after : List Kind) → KindedTerm u true e → Through (kinds u f called) held rest ks after → Through (kinds u f called) failed rest ks after → Through (kinds u f called) (condition u is_test e held failed) rest ks after
   condition_through is_test (Typed at t parens fixed (tree.Logical And a b)) held failed rest ks after kinded one other = condition_through is_test a (condition u is_test b held failed) failed rest ks after kinded.0 (condition_through is_test b held failed rest ks after kinded.1 one other) other
   condition_through is_test (Typed at t parens fixed (tree.Logical Or a b)) held failed rest ks after kinded one other = condition_through is_test a held (condition u is_test b held failed) rest ks after kinded.0 one (condition_through is_test b held failed rest ks after kinded.1 one other)
   condition_through is_test (Typed at t parens fixed (tree.Not a)) held failed rest ks after kinded one other = condition_through is_test a failed held rest ks after kinded.0 other one

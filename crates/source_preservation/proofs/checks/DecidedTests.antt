@@ -24,7 +24,8 @@ use Rattle.source_preservation.specs.WellTyped.WellTypedTerms.{DecidesAlone, Dec
 use Rattle.source_preservation.specs.Checks.LookedTypes.{is_kind, is_wider, is_pointer, same_scalar}
 use Rattle.source_preservation.specs.Checks.LookedTests.{same_reference, same_object, same_side, same_relation, same_common, same_test, converted_number, converted_pointer, converted_mark, is_side_of, compares_in, is_null_test, with_loaded, are_with_null, zero_test_in, decides_number, decides_alone, decides_converted, decides}
 use Rattle.source_preservation.proofs.checks.Truths.{never, no_some, some_is, both_true, both, three, four, one_of}
-use Rattle.source_preservation.proofs.checks.SameTypes.{kind_is, kind_there, wider, scalar_is, pointer_is}
+use Rattle.c_types_rules.proofs.SameTypes.{kind_is}
+use Rattle.source_preservation.proofs.checks.SameTypes.{kind_there, wider, scalar_is, pointer_is}
 
 -- ---- the same tests
 
@@ -151,23 +152,11 @@ null_test o rel test h = both (is_pointer o.kind) (same_test test (null_test_of 
 module _ (rel : Rel) (test : NamedTest) where
   on_left : (left : Mark) → with_loaded rel left test ≡ true → NullCompared rel left Null test
   on_left (Loaded o) h = let x = null_test o rel test h in record { o = o; pointer = x.0; are = inl (refl, refl); is = x.1 }
-  on_left (Ranged kind) h = never h
-  on_left (Exactly n) h = never h
-  on_left Pointing h = never h
-  on_left (Naming o) h = never h
-  on_left Null h = never h
-  on_left (Converted o kind) h = never h
-  on_left (Tested t) h = never h
+  on_left other h = never h
 
   on_right : (right : Mark) → with_loaded rel right test ≡ true → NullCompared rel Null right test
   on_right (Loaded o) h = let x = null_test o rel test h in record { o = o; pointer = x.0; are = inr (refl, refl); is = x.1 }
-  on_right (Ranged kind) h = never h
-  on_right (Exactly n) h = never h
-  on_right Pointing h = never h
-  on_right (Naming o) h = never h
-  on_right Null h = never h
-  on_right (Converted o kind) h = never h
-  on_right (Tested t) h = never h
+  on_right other h = never h
 
   pub null_compared : (left right : Mark) → are_with_null rel left right test ≡ true → NullCompared rel left right test
   null_compared (Loaded o) Null h = on_left (Loaded o) h
@@ -215,9 +204,4 @@ module _ (u : UnitView) (o : NamedObject) where
 pub decided : (u : UnitView) (mark : Mark) (t : NamedTest) → decides u (Some mark) t ≡ true → Decides u mark t
 decided u (Loaded o) t h = alone_decides u o o.kind t h
 decided u (Converted o wide) t h = converted_decides u o wide t h
-decided u (Ranged kind) t h = never h
-decided u (Exactly n) t h = never h
-decided u Pointing t h = never h
-decided u (Naming o) t h = never h
-decided u Null t h = never h
-decided u (Tested test) t h = never h
+decided u other t h = never h

@@ -25,7 +25,8 @@ use Rattle.source_preservation.specs.WellTyped.WellTypedTerms.{argument_marks, H
 use Rattle.source_preservation.specs.Checks.LookedTypes.{same_mark}
 use Rattle.source_preservation.specs.Checks.LookedTerms.{has_tests, have_parameters, calls, same_kinds, begins_with_address, accepts, is_given, calls_library, is_well_typed_term, is_well_typed_place, are_well_typed_terms, is_well_typed_condition}
 use Rattle.source_preservation.proofs.checks.Truths.{never, there, implied, is_false, both_true, both, three, four, five, six, one_of}
-use Rattle.source_preservation.proofs.checks.SameTypes.{type_is, mark_is, address_is, scalar_type, number, integer, integer_there, truth, subtracted, combined, added, stepped, compounded, converted}
+use Rattle.c_types_rules.proofs.SameTypes.{type_is}
+use Rattle.source_preservation.proofs.checks.SameTypes.{mark_is, address_is, scalar_type, number, integer, integer_there, truth, subtracted, combined, added, stepped, compounded, converted}
 use Rattle.source_preservation.proofs.checks.ExactNumbers.{zero_is}
 use Rattle.source_preservation.proofs.checks.LookedOperands.{object_there, tests}
 

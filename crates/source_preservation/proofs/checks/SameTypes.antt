@@ -1,13 +1,14 @@
 -- What looks at types say.
-use Rattle.std.proofs.Common.{◌≡◌, ℕ, ◌==◌, ℤ, pos, negsuc, Bool, true, false, not, ◌&&◌, refl, ap, ◌∙◌}
+use Rattle.std.proofs.Common.{◌≡◌, ◌==◌, ℤ, pos, negsuc, Bool, true, ◌&&◌, refl, ap, ◌∙◌}
 use Rattle.std.proofs.lemmas.Bool.{eqb-true}
 use Rattle.cc_base.specs.IntegerTypes.{is_size, least_of, greatest_of, in_type}
 use Rattle.cc_base.specs.declared.int_types.IntType.{IntType}
 use Rattle.cc_base.specs.declared.integer_operators.IntOp.{IntOp}
-use Rattle.cc_base.specs.declared.integer_operators.IntOp.TheVariants.{Add, Sub, Mul, Div, Rem, And, Or, Xor, Shl, Shr}
+use Rattle.cc_base.specs.declared.integer_operators.IntOp.TheVariants.{Shl, Shr}
 use Rattle.c_layout.specs.Leaves.{class_of}
-use Rattle.c_layout.specs.Types.{Ty, Int, Pointer, Array, Struct, Void, same_kind, same_type}
+use Rattle.c_layout.specs.Types.{Ty, Int, same_kind, same_type}
 use Rattle.c_layout.specs.CheckedUnits.{UnitView}
+use Rattle.c_types_rules.proofs.SameTypes.{kind_is, type_is}
 use Rattle.c_layout.specs.declared.data_model.Model.{Model}
 use Rattle.lower_templates.specs.Worklist.TermKinds.{scalar_of}
 use Rattle.lower_templates.specs.declared.worklist.term_kinds.OperatorMeaning.{OperatorMeaning}
@@ -23,35 +24,6 @@ use Rattle.source_preservation.specs.Checks.LookedTypes.{is_kind, is_wider, has_
 use Rattle.source_preservation.proofs.checks.Truths.{never, both_true, both, three, one_of}
 
 -- ---- the same types
-
-abbrev same_sign : Bool → Bool → Bool
-same_sign true b = b
-same_sign false b = not b
-
-sign_is : (a b : Bool) → same_sign a b ≡ true → a ≡ b
-sign_is true true h = refl
-sign_is true false h = never h
-sign_is false true h = never h
-sign_is false false h = refl
-
-pub kind_is : (a b : IntType) → same_kind a b ≡ true → a ≡ b
-kind_is a b h =
-    let p = both_true (a.bytes == b.bytes) (same_sign a.signed b.signed && a.rank == b.rank) h in
-    let q = both_true (same_sign a.signed b.signed) (a.rank == b.rank) p.1 in
-    let made : ℕ → Bool → ℕ → IntType = λ n s r. record { bytes = n; signed = s; rank = r } in
-    ap (λ n. made n a.signed a.rank) (eqb-true a.bytes b.bytes p.0) ∙ (ap (λ s. made b.bytes s a.rank) (sign_is a.signed b.signed q.0) ∙ ap (λ r. made b.bytes b.signed r) (eqb-true a.rank b.rank q.1))
-
-pub type_is : (t u : Ty) → same_type t u ≡ true → t ≡ u
-type_is (Int a) (Int b) h = ap Int (kind_is a b h)
-type_is (Pointer t) (Pointer u) h = ap Pointer (type_is t u h)
-type_is (Array t m) (Array u n) h = let p = both_true (m == n) (same_type t u) h in ap (λ c. Array t c) (eqb-true m n p.0) ∙ ap (λ e. Array e n) (type_is t u p.1)
-type_is (Struct i) (Struct j) h = ap Struct (eqb-true i j h)
-type_is Void Void h = refl
-type_is (Int a) _ h = never h
-type_is (Pointer t) _ h = never h
-type_is (Array t m) _ h = never h
-type_is (Struct i) _ h = never h
-type_is Void _ h = never h
 
 pub scalar_is : (a b : Scalar) → same_scalar a b ≡ true → a ≡ b
 scalar_is (of.Int a) (of.Int b) h = ap of.Int (kind_is a b h)
@@ -83,14 +55,7 @@ truths kind h = let x = both_true (in_type kind (pos 0)) (in_type kind (pos 1)) 
 counted : (sign : IntOp) (kind count : IntType) → counts_as sign kind count ≡ true → CountsAs sign kind count
 counted Shl kind count h = tt
 counted Shr kind count h = tt
-counted Add kind count h = kind_is count kind h
-counted Sub kind count h = kind_is count kind h
-counted Mul kind count h = kind_is count kind h
-counted Div kind count h = kind_is count kind h
-counted Rem kind count h = kind_is count kind h
-counted And kind count h = kind_is count kind h
-counted Or kind count h = kind_is count kind h
-counted Xor kind count h = kind_is count kind h
+counted other kind count h = kind_is count kind h
 
 pub scalar_there : (m : Model) (a : Scalar) → is_scalar m a ≡ true → IsScalar m a
 scalar_there m (of.Int kind) h = kind_there m kind h
@@ -103,10 +68,7 @@ scalar_type u t h = scalar_there u.model (scalar_of t) h
 
 pub such : (look : IntType → Bool) (t : Ty) → is_such look t ≡ true → (kind : IntType) × (t ≡ Int kind) × (look kind ≡ true)
 such look (Int kind) h = (kind, refl, h)
-such look (Pointer t) h = never h
-such look (Array t n) h = never h
-such look (Struct i) h = never h
-such look Void h = never h
+such look other h = never h
 
 pub integer : (t : Ty) → is_integer t ≡ true → (kind : IntType) × (t ≡ Int kind)
 integer t h = let x = such (λ kind. true) t h in (x.0, x.1)

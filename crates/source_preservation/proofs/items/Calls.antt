@@ -20,7 +20,8 @@ use Rattle.source_preservation.specs.WellTyped.WellTypedStatements.{WellTypedFun
 use Rattle.source_preservation.specs.WellTyped.WellTypedItems as items
 use Rattle.source_preservation.specs.WellTyped.WellTypedItems.{left_marks, parameter_marks, Does}
 use Rattle.source_preservation.proofs.items.TypeMarks.{stable_type, free_type}
-use Rattle.source_preservation.proofs.items.Leading.{Through, Leads, through_both, through_does}
+use Rattle.source_items.proofs.stack_kinds.ItemWalks.{Through, Leads, through_both, through_does}
+use Rattle.source_preservation.proofs.items.Leading.{marks}
 use Rattle.source_preservation.proofs.items.Labels.{body_does}
 
 none_less : {A : Type 0} (n : ℕ) → zero ≡ suc n → A
@@ -47,7 +48,7 @@ parameters_free f (suc n) = (free_type (local_type f n), parameters_free f n)
 module _ (u : UnitView) (f : FunctionView) (called : Option Bool) (well_typed : WellTypedFunction u f) where
   -- ---- calls
 
-  bound_through : (count first n : ℕ) (rest : List Item) → first + n ≡ count → count ≡ f.parameters → Through u f called (bind_all f count (numbers_from first n)) rest (parameter_marks f count) (parameter_marks f count)
+  bound_through : (count first n : ℕ) (rest : List Item) → first + n ≡ count → count ≡ f.parameters → Through (marks u f called) (bind_all f count (numbers_from first n)) rest (parameter_marks f count) (parameter_marks f count)
   bound_through count first zero rest is all = refl
   bound_through count first (suc n) rest is all =
       let ks : List Mark = parameter_marks f count in
@@ -57,7 +58,7 @@ module _ (u : UnitView) (f : FunctionView) (called : Option Bool) (well_typed : 
       let small : 0 ≤ most_size u.model = omega arith in
       (Pointing ∷ ks, (tt, items.PointsInto.any small refl), (ks, (refl, parameters_stable f count, well_typed.parameters first below, parameter_at f first (count - suc first) count far), bound_through count (first + 1) n rest next all))
 
-  dropped_through : (count : ℕ) (rest : List Item) → Through u f called (replicate count item.Drop) rest (parameter_marks f count) []
+  dropped_through : (count : ℕ) (rest : List Item) → Through (marks u f called) (replicate count item.Drop) rest (parameter_marks f count) []
   dropped_through zero rest = refl
   dropped_through (suc count) rest = (parameter_marks f count, (local_mark f count, refl), dropped_through count rest)
 
@@ -67,8 +68,8 @@ module _ (u : UnitView) (f : FunctionView) (called : Option Bool) (well_typed : 
       let bound : List Item = bind_all f count (numbers_from 0 f.parameters) in
       let drops : List Item = replicate count item.Drop in
       let all : 0 + f.parameters ≡ count = omega arith in
-      let through : Through u f called (bound ++ drops) (body f) ks [] = through_both u f called bound drops (body f) ks ks [] (bound_through count 0 f.parameters (drops ++ body f) all is) (dropped_through count (body f)) in
-      (ks, (parameters_free f count, refl), through_does u f called (bound ++ drops) (body f) ks [] (left_marks f called) through (body_does u f called well_typed jumps))
+      let through : Through (marks u f called) (bound ++ drops) (body f) ks [] = through_both (marks u f called) bound drops (body f) ks ks [] (bound_through count 0 f.parameters (drops ++ body f) all is) (dropped_through count (body f)) in
+      (ks, (parameters_free f count, refl), through_does (marks u f called) (bound ++ drops) (body f) ks [] (left_marks f called) through (body_does u f called well_typed jumps))
 
 -- ---- returns
 
@@ -87,6 +88,6 @@ epilogue_does u f caller well_typed = by (is_void f.returns) refl
     by false is = loaded caller.used is
 
 -- what is behind the body of a function leads to what the function leaves
-pub behind_does : (u : UnitView) (f : FunctionView) (hop : List Item) → WellTypedFunction u f → ((called : Option Bool) → Leads u f called hop [] []) → (frames : List Frame) → Does u f (called_by frames) (behind_body f hop frames) [] (left_marks f (called_by frames))
+pub behind_does : (u : UnitView) (f : FunctionView) (hop : List Item) → WellTypedFunction u f → ((called : Option Bool) → Leads (marks u f called) hop [] []) → (frames : List Frame) → Does u f (called_by frames) (behind_body f hop frames) [] (left_marks f (called_by frames))
 behind_does u f hop well_typed leads [] = refl
-behind_does u f hop well_typed leads (c ∷ cs) = ([], (tt, refl), through_does u f (Some c.used) hop (epilogue f c) [] [] (left_marks f (Some c.used)) (leads (Some c.used) (epilogue f c)) (epilogue_does u f c well_typed))
+behind_does u f hop well_typed leads (c ∷ cs) = ([], (tt, refl), through_does (marks u f (Some c.used)) hop (epilogue f c) [] [] (left_marks f (Some c.used)) (leads (Some c.used) (epilogue f c)) (epilogue_does u f c well_typed))

@@ -8,13 +8,14 @@ use Rattle.semantics.specs.SourceMachine.TermItems.{arguments, argument_count}
 use Rattle.source_preservation.specs.ValueTyping.Marks.{Mark, AreStable}
 use Rattle.source_preservation.specs.WellTyped.WellTypedTerms.{term_mark, argument_marks, HaveParameters, WellTypedTerms}
 use Rattle.source_preservation.specs.WellTyped.WellTypedItems.{by_type, parameter_marks}
-use Rattle.source_preservation.proofs.items.Leading.{Leads, stable_above}
+use Rattle.source_items.proofs.stack_kinds.ItemWalks.{Leads}
+use Rattle.source_preservation.proofs.items.Leading.{marks, stable_above}
 
 abbrev pub stacked : TermTrees → List Mark → List Mark
 stacked tree.End ks = ks
 stacked (tree.More e rest) ks = stacked rest (term_mark e ∷ ks)
 
-pub arguments_lead : (u : UnitView) (f : FunctionView) (called : Option Bool) (args : TermTrees) (ks : List Mark) → WellTypedTerms u args → AreStable ks → Leads u f called (arguments args) ks (stacked args ks)
+pub arguments_lead : (u : UnitView) (f : FunctionView) (called : Option Bool) (args : TermTrees) (ks : List Mark) → WellTypedTerms u args → AreStable ks → Leads (marks u f called) (arguments args) ks (stacked args ks)
 arguments_lead u f called tree.End ks well_typed stable rest = refl
 arguments_lead u f called (tree.More e args) ks well_typed stable rest = (term_mark e ∷ ks, by_type well_typed.0 stable refl, arguments_lead u f called args (term_mark e ∷ ks) well_typed.1 (stable_above e ks stable) rest)
 

@@ -16,7 +16,8 @@ use Rattle.source_preservation.specs.ValueTyping.Marks.{Mark, Exactly, Ranged, P
 use Rattle.source_preservation.specs.WellTyped.ExactTerms.{is_true, ExactTerm}
 use Rattle.source_preservation.specs.WellTyped.WellTypedTerms.{term_mark, Decides, Operand, TestTerm, HasTest, HasTests, WellTypedTerm}
 use Rattle.source_preservation.specs.WellTyped.WellTypedItems.{Evaluates, by_type, quietly, as_stored, as_test}
-use Rattle.source_preservation.proofs.items.Leading.{Through, all_through, through_both}
+use Rattle.source_items.proofs.stack_kinds.ItemWalks.{Through, all_through, through_both}
+use Rattle.source_preservation.proofs.items.Leading.{marks}
 use Rattle.source_preservation.proofs.items.LeadingArguments.{stacked, arguments_lead, stacked_reverse}
 use Rattle.source_preservation.proofs.items.LineReads.{ReadsLine, LineRead, line_read}
 use Rattle.source_preservation.proofs.items.ExactOperands.{negation_is, Right, right_is, both_right, both_failed, either_right, either_held, first_arm, second_arm}
@@ -46,29 +47,29 @@ module _ (u : UnitView) (f : FunctionView) (called : Option Bool) where
 
   -- ---- a condition that is a term or reads a line
 
-  read_through : (args : TermTrees) (at : Place) (none some rest : List Item) (ks after : List Mark) → ReadsLine u args → AreStable ks → Through u f called none rest ks after → Through u f called some rest ks after → Through u f called (arguments args ++ item.ReadLine at (items_of none) (items_of some) ∷ []) rest ks after
+  read_through : (args : TermTrees) (at : Place) (none some rest : List Item) (ks after : List Mark) → ReadsLine u args → AreStable ks → Through (marks u f called) none rest ks after → Through (marks u f called) some rest ks after → Through (marks u f called) (arguments args ++ item.ReadLine at (items_of none) (items_of some) ∷ []) rest ks after
   read_through args at none some rest ks after reads stable one other =
       let read : Item = item.ReadLine at (items_of none) (items_of some) in
       let three : stacked args ks ≡ Pointing ∷ (Ranged reads.count ∷ (Pointing ∷ ks)) = stacked_reverse args ks ∙ ap (λ xs. reverse xs ++ ks) reads.are in
-      through_both u f called (arguments args) (read ∷ []) rest ks (stacked args ks) after (arguments_lead u f called args ks reads.well_typed stable (read ∷ rest)) (after, (reads.count, ks, three, stable, all_through u f called none rest ks after one, all_through u f called some rest ks after other), refl)
+      through_both (marks u f called) (arguments args) (read ∷ []) rest ks (stacked args ks) after (arguments_lead u f called args ks reads.well_typed stable (read ∷ rest)) (after, (reads.count, ks, three, stable, all_through (marks u f called) none rest ks after one, all_through (marks u f called) some rest ks after other), refl)
 
-  line_through : (r : ReadView) (wants : Bool) (held failed rest : List Item) (ks after : List Mark) → ReadsLine u r.call.arguments → AreStable ks → Through u f called held rest ks after → Through u f called failed rest ks after → Through u f called (line_items r wants (items_of held) (items_of failed)) rest ks after
+  line_through : (r : ReadView) (wants : Bool) (held failed rest : List Item) (ks after : List Mark) → ReadsLine u r.call.arguments → AreStable ks → Through (marks u f called) held rest ks after → Through (marks u f called) failed rest ks after → Through (marks u f called) (line_items r wants (items_of held) (items_of failed)) rest ks after
   line_through r true held failed rest ks after reads stable one other = read_through r.call.arguments r.call.at failed held rest ks after reads stable other one
   line_through r false held failed rest ks after reads stable one other = read_through r.call.arguments r.call.at held failed rest ks after reads stable one other
 
-  value_through : (e : TermTree) (test : Option NamedTest) (held failed rest : List Item) (ks after : List Mark) → WellTypedTerm u true e → HasTest u e test → AreStable ks → Through u f called held rest ks after → Through u f called failed rest ks after → Through u f called (item.Value e ∷ (item.Choose (term_at e) test (items_of held) (items_of failed) ∷ [])) rest ks after
-  value_through e None held failed rest ks after well_typed tested stable one other = (term_mark e ∷ ks, by_type well_typed stable refl, (after, (term_mark e, ks, refl, (λ may. all_through u f called held rest ks after one), (λ may. all_through u f called failed rest ks after other)), refl))
+  value_through : (e : TermTree) (test : Option NamedTest) (held failed rest : List Item) (ks after : List Mark) → WellTypedTerm u true e → HasTest u e test → AreStable ks → Through (marks u f called) held rest ks after → Through (marks u f called) failed rest ks after → Through (marks u f called) (item.Value e ∷ (item.Choose (term_at e) test (items_of held) (items_of failed) ∷ [])) rest ks after
+  value_through e None held failed rest ks after well_typed tested stable one other = (term_mark e ∷ ks, by_type well_typed stable refl, (after, (term_mark e, ks, refl, (λ may. all_through (marks u f called) held rest ks after one), (λ may. all_through (marks u f called) failed rest ks after other)), refl))
   value_through e (Some test) held failed rest ks after well_typed tested stable one other =
       let t : Tests e test ks = tests e test ks tested well_typed stable in
-      (t.0 ∷ ks, t.1, (after, (t.0, ks, refl, t.2, stable, all_through u f called held rest ks after one, all_through u f called failed rest ks after other), refl))
+      (t.0 ∷ ks, t.1, (after, (t.0, ks, refl, t.2, stable, all_through (marks u f called) held rest ks after one, all_through (marks u f called) failed rest ks after other), refl))
 
-  leaf_by_through : (is_test : Bool) (e : TermTree) (o : Option ReadView) (held failed rest : List Item) (ks after : List Mark) → WellTypedTerm u true e → HasTest u e (test_if u is_test e) → LineRead u o → AreStable ks → Through u f called held rest ks after → Through u f called failed rest ks after → Through u f called (leaf_by u is_test e o (items_of held) (items_of failed)) rest ks after
+  leaf_by_through : (is_test : Bool) (e : TermTree) (o : Option ReadView) (held failed rest : List Item) (ks after : List Mark) → WellTypedTerm u true e → HasTest u e (test_if u is_test e) → LineRead u o → AreStable ks → Through (marks u f called) held rest ks after → Through (marks u f called) failed rest ks after → Through (marks u f called) (leaf_by u is_test e o (items_of held) (items_of failed)) rest ks after
   leaf_by_through is_test e (Some r) held failed rest ks after well_typed tested read stable one other = line_through r r.wants_line held failed rest ks after read stable one other
   leaf_by_through is_test e None held failed rest ks after well_typed tested read stable one other = value_through e (test_if u is_test e) held failed rest ks after well_typed tested stable one other
 
   -- ---- conditions
 
-  pub condition_through : (is_test : Bool) (e : TermTree) (held failed rest : List Item) (ks after : List Mark) → WellTypedTerm u true e → HasTests u is_test e → AreStable ks → Through u f called held rest ks after → Through u f called failed rest ks after → Through u f called (condition u is_test e held failed) rest ks after
+  pub condition_through : (is_test : Bool) (e : TermTree) (held failed rest : List Item) (ks after : List Mark) → WellTypedTerm u true e → HasTests u is_test e → AreStable ks → Through (marks u f called) held rest ks after → Through (marks u f called) failed rest ks after → Through (marks u f called) (condition u is_test e held failed) rest ks after
   condition_through is_test (Typed at t parens fixed (tree.Logical And a b)) held failed rest ks after well_typed tested stable one other = condition_through is_test a (condition u is_test b held failed) failed rest ks after well_typed.0 tested.0 stable (condition_through is_test b held failed rest ks after well_typed.1 tested.1 stable one other) other
   condition_through is_test (Typed at t parens fixed (tree.Logical Or a b)) held failed rest ks after well_typed tested stable one other = condition_through is_test a held (condition u is_test b held failed) rest ks after well_typed.0 tested.0 stable one (condition_through is_test b held failed rest ks after well_typed.1 tested.1 stable one other)
   condition_through is_test (Typed at t parens fixed (tree.Not a)) held failed rest ks after well_typed tested stable one other = condition_through is_test a failed held rest ks after well_typed.0 tested stable other one
@@ -77,19 +78,19 @@ module _ (u : UnitView) (f : FunctionView) (called : Option Bool) where
 
   -- ---- conditions that are known
 
-  exactly_through : (e : TermTree) (test : Option NamedTest) (n : ℤ) (held failed rest : List Item) (ks after : List Mark) → test ≡ None → ExactTerm u.model e n → (is_true n ≡ true → Through u f called held rest ks after) → (is_true n ≡ false → Through u f called failed rest ks after) → Through u f called (item.Value e ∷ (item.Choose (term_at e) test (items_of held) (items_of failed) ∷ [])) rest ks after
+  exactly_through : (e : TermTree) (test : Option NamedTest) (n : ℤ) (held failed rest : List Item) (ks after : List Mark) → test ≡ None → ExactTerm u.model e n → (is_true n ≡ true → Through (marks u f called) held rest ks after) → (is_true n ≡ false → Through (marks u f called) failed rest ks after) → Through (marks u f called) (item.Value e ∷ (item.Choose (term_at e) test (items_of held) (items_of failed) ∷ [])) rest ks after
   exactly_through e (Some test) n held failed rest ks after is exact one other = let no : ⊥ = cc in absurd no
-  exactly_through e None n held failed rest ks after is exact one other = (Exactly n ∷ ks, quietly (Exactly n) (inr (inl (n, exact, refl))) refl, (after, (Exactly n, ks, refl, (λ may. all_through u f called held rest ks after (one may)), (λ may. all_through u f called failed rest ks after (other (not_not (is_true n) may)))), refl))
+  exactly_through e None n held failed rest ks after is exact one other = (Exactly n ∷ ks, quietly (Exactly n) (inr (inl (n, exact, refl))) refl, (after, (Exactly n, ks, refl, (λ may. all_through (marks u f called) held rest ks after (one may)), (λ may. all_through (marks u f called) failed rest ks after (other (not_not (is_true n) may)))), refl))
 
-  pub exact_choice_through : (e : TermTree) (n : ℤ) (held failed rest : List Item) (ks after : List Mark) → ExactTerm u.model e n → (is_true n ≡ true → Through u f called held rest ks after) → (is_true n ≡ false → Through u f called failed rest ks after) → Through u f called (choice_of e held failed) rest ks after
+  pub exact_choice_through : (e : TermTree) (n : ℤ) (held failed rest : List Item) (ks after : List Mark) → ExactTerm u.model e n → (is_true n ≡ true → Through (marks u f called) held rest ks after) → (is_true n ≡ false → Through (marks u f called) failed rest ks after) → Through (marks u f called) (choice_of e held failed) rest ks after
   exact_choice_through e n held failed rest ks after exact one other = exactly_through e None n held failed rest ks after refl exact one other
 
-  exact_leaf_by_through : (is_test : Bool) (e : TermTree) (o : Option ReadView) (n : ℤ) (held failed rest : List Item) (ks after : List Mark) → o ≡ None → ExactTerm u.model e n → (is_true n ≡ true → Through u f called held rest ks after) → (is_true n ≡ false → Through u f called failed rest ks after) → Through u f called (leaf_by u is_test e o (items_of held) (items_of failed)) rest ks after
+  exact_leaf_by_through : (is_test : Bool) (e : TermTree) (o : Option ReadView) (n : ℤ) (held failed rest : List Item) (ks after : List Mark) → o ≡ None → ExactTerm u.model e n → (is_true n ≡ true → Through (marks u f called) held rest ks after) → (is_true n ≡ false → Through (marks u f called) failed rest ks after) → Through (marks u f called) (leaf_by u is_test e o (items_of held) (items_of failed)) rest ks after
   exact_leaf_by_through is_test e (Some r) n held failed rest ks after is exact one other = let no : ⊥ = cc in absurd no
   exact_leaf_by_through is_test e None n held failed rest ks after is exact one other = exactly_through e (test_if u is_test e) n held failed rest ks after (no_test u.model u is_test e n exact) exact one other
 
   -- only the way that is gone has to lead anywhere
-  pub exact_condition_through : (is_test : Bool) (e : TermTree) (n : ℤ) (held failed rest : List Item) (ks after : List Mark) → ExactTerm u.model e n → (is_true n ≡ true → Through u f called held rest ks after) → (is_true n ≡ false → Through u f called failed rest ks after) → Through u f called (condition u is_test e held failed) rest ks after
+  pub exact_condition_through : (is_test : Bool) (e : TermTree) (n : ℤ) (held failed rest : List Item) (ks after : List Mark) → ExactTerm u.model e n → (is_true n ≡ true → Through (marks u f called) held rest ks after) → (is_true n ≡ false → Through (marks u f called) failed rest ks after) → Through (marks u f called) (condition u is_test e held failed) rest ks after
   exact_condition_through is_test (Typed at t parens fixed (tree.Logical And a b)) n held failed rest ks after exact one other = exact_condition_through is_test a exact.0 (condition u is_test b held failed) failed rest ks after exact.1 (λ yes. let r : Right u.model exact.0 n b = both_right u.model exact.0 n b exact.2 yes in exact_condition_through is_test b r.0 held failed rest ks after r.1 (λ h. one (right_is u.model exact.0 n b r ∙ h)) (λ h. other (right_is u.model exact.0 n b r ∙ h))) (λ no. other (ap is_true (both_failed u.model exact.0 n b exact.2 no)))
   exact_condition_through is_test (Typed at t parens fixed (tree.Logical Or a b)) n held failed rest ks after exact one other = exact_condition_through is_test a exact.0 held (condition u is_test b held failed) rest ks after exact.1 (λ yes. one (ap is_true (either_held u.model exact.0 n b exact.2 yes))) (λ no. let r : Right u.model exact.0 n b = either_right u.model exact.0 n b exact.2 no in exact_condition_through is_test b r.0 held failed rest ks after r.1 (λ h. one (right_is u.model exact.0 n b r ∙ h)) (λ h. other (right_is u.model exact.0 n b r ∙ h)))
   exact_condition_through is_test (Typed at t parens fixed (tree.Not a)) n held failed rest ks after exact one other = exact_condition_through is_test a exact.0 failed held rest ks after exact.1 (λ yes. other (negation_is exact.0 n exact.2 ∙ ap not yes)) (λ no. one (negation_is exact.0 n exact.2 ∙ ap not no))

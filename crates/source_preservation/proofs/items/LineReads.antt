@@ -1,5 +1,5 @@
 -- A condition that reads a line takes a pointer, a number and a pointer.
-use Rattle.std.proofs.Common.{◌≡◌, pos, Bool, true, false, cond, List, [], ◌∷◌, Option, Some, None, inl, inr, refl, ap, sym, subst, ◌∙◌}
+use Rattle.std.proofs.Common.{◌≡◌, pos, Bool, true, List, [], ◌∷◌, Option, Some, None, inl, inr, refl, ap, sym, subst, ◌∙◌}
 use Rattle.cc_base.specs.declared.diagnostics.Place.{Place}
 use Rattle.cc_base.specs.declared.int_types.IntType.{IntType}
 use Rattle.c_layout.specs.CheckedTrees as tree
@@ -9,11 +9,9 @@ use Rattle.c_layout.specs.Types.{Ty}
 use Rattle.c_layout.specs.declared.checked_tree.checked_terms.ConversionKind.TheVariants.{Implicit}
 use Rattle.c_layout.specs.declared.library_functions.LibFn.{LibFn}
 use Rattle.c_layout.specs.declared.library_functions.LibFn.TheVariants.{Fgets}
-use Rattle.c_layout.specs.declared.syntax_tree.expressions.BinaryOp.{BinaryOp}
-use Rattle.c_layout.specs.declared.syntax_tree.expressions.BinaryOp.TheVariants.{Equal, NotEqual}
-use Rattle.lower_templates.specs.Worklist.TermKinds.{is_null_constant}
-use Rattle.lower_conditions.specs.Conditions.{LineCallView, line_call_of, line_call_in, line_call, line_call_beside, ReadView, read_test, compared_read, read_by}
-use Rattle.source_items.proofs.stack_kinds.LeadingConditions.{IfSome}
+use Rattle.lower_conditions.specs.Conditions.{LineCallView, line_call_of, line_call_in, line_call, ReadView, read_by}
+use Rattle.source_items.proofs.stack_kinds.FoundItems.{IfSome}
+use Rattle.source_items.proofs.stack_kinds.LineCalls.{read_tested, read_compared}
 use Rattle.source_items.specs.Operations.Kinds.{Kind, Number, Address}
 use Rattle.source_preservation.specs.ValueTyping.Marks.{Mark, Ranged, Pointing}
 use Rattle.source_preservation.specs.ValueTyping.MarkOperations.{AreOfKinds}
@@ -92,23 +90,6 @@ module _ (u : UnitView) where
   line_called (Typed at t parens fixed (tree.Convert Implicit a)) well_typed = elim well_typed.1 [ inl m ↦ line_called a m.0 | inr exact ↦ nothing_called (line_call a) (no_line u.model a (pos 0) exact.1) ]
   line_called e well_typed = called_in true e well_typed
 
-  called_beside : (left right : TermTree) → WellTypedTerm u true left → WellTypedTerm u true right → LineCalled u (line_call_beside left right)
-  called_beside left right one other = by (is_null_constant right) (is_null_constant left)
-    where
-      by : (b c : Bool) → LineCalled u (cond b (line_call left) (cond c (line_call right) None))
-      by true c = line_called left one
-      by false true = line_called right other
-      by false false = tt
-
-  read_tested : (o : Option LineCallView) (wants : Bool) → LineCalled u o → LineRead u (read_test o wants)
-  read_tested None wants called = tt
-  read_tested (Some c) wants called = called
-
-  read_compared : (sign : BinaryOp) (left right : TermTree) → WellTypedTerm u true left → WellTypedTerm u true right → LineRead u (compared_read sign left right)
-  read_compared Equal left right one other = read_tested (line_call_beside left right) false (called_beside left right one other)
-  read_compared NotEqual left right one other = read_tested (line_call_beside left right) true (called_beside left right one other)
-  read_compared sign left right one other = tt
-
   pub line_read : (e : TermTree) → WellTypedTerm u true e → LineRead u (read_by e)
-  line_read (Typed at t parens fixed (tree.Compare sign left right)) well_typed = read_compared sign left right well_typed.0 well_typed.1
-  line_read e well_typed = read_tested (line_call e) true (line_called e well_typed)
+  line_read (Typed at t parens fixed (tree.Compare sign left right)) well_typed = read_compared (λ c. ReadsLine u c.arguments) sign left right (line_called left well_typed.0) (line_called right well_typed.1)
+  line_read e well_typed = read_tested (λ c. ReadsLine u c.arguments) (line_call e) true (line_called e well_typed)

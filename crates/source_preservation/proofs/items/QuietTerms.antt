@@ -27,7 +27,8 @@ use Rattle.source_preservation.specs.WellTyped.ExactTerms.{is_true, Results, Exa
 use Rattle.source_preservation.specs.WellTyped.WellTypedTerms.{SideTerm, Quiet}
 use Rattle.source_preservation.specs.WellTyped.WellTypedItems.{quietly, named, Effect}
 use Rattle.source_preservation.proofs.items.ExactOperands.{Right, both_right, both_failed, either_right, either_held, first_arm, second_arm}
-use Rattle.source_preservation.proofs.items.Leading.{Through, Leads, leads_to}
+use Rattle.source_items.proofs.stack_kinds.ItemWalks.{Through, Leads, leads_to}
+use Rattle.source_preservation.proofs.items.Leading.{marks}
 use Rattle.source_preservation.proofs.items.LeadingConditions.{exact_choice_through, exact_condition_through}
 
 -- ---- types
@@ -53,33 +54,33 @@ module _ (u : UnitView) (f : FunctionView) (called : Option Bool) where
 
   -- ---- operators
 
-  constant_leads : (at : Place) (k n : ℤ) (ks : List Mark) → n ≡ k → Leads u f called (item.Do at (op.Constant k) ∷ []) ks (Exactly n ∷ ks)
+  constant_leads : (at : Place) (k n : ℤ) (ks : List Mark) → n ≡ k → Leads (marks u f called) (item.Do at (op.Constant k) ∷ []) ks (Exactly n ∷ ks)
   constant_leads at k n ks is rest = (Exactly n ∷ ks, (Exactly n, is, (ks, refl, refl)), refl)
 
-  one_known : (a : TermTree) (k n : ℤ) (at : Place) (operation : Operation) (ks : List Mark) → ExactTerm u.model a k → MarkOperates u.model operation (Exactly k ∷ ks) (Exactly n ∷ ks) → Leads u f called (item.Value a ∷ (item.Do at operation ∷ [])) ks (Exactly n ∷ ks)
+  one_known : (a : TermTree) (k n : ℤ) (at : Place) (operation : Operation) (ks : List Mark) → ExactTerm u.model a k → MarkOperates u.model operation (Exactly k ∷ ks) (Exactly n ∷ ks) → Leads (marks u f called) (item.Value a ∷ (item.Do at operation ∷ [])) ks (Exactly n ∷ ks)
   one_known a k n at operation ks exact operates rest = (Exactly k ∷ ks, known a k (item.Do at operation ∷ rest) ks exact, (Exactly n ∷ ks, operates, refl))
 
-  two_known : (a b : TermTree) (k l n : ℤ) (at : Place) (operation : Operation) (ks : List Mark) → ExactTerm u.model a k → ExactTerm u.model b l → MarkOperates u.model operation (Exactly l ∷ (Exactly k ∷ ks)) (Exactly n ∷ ks) → Leads u f called (item.Value a ∷ (item.Value b ∷ (item.Do at operation ∷ []))) ks (Exactly n ∷ ks)
+  two_known : (a b : TermTree) (k l n : ℤ) (at : Place) (operation : Operation) (ks : List Mark) → ExactTerm u.model a k → ExactTerm u.model b l → MarkOperates u.model operation (Exactly l ∷ (Exactly k ∷ ks)) (Exactly n ∷ ks) → Leads (marks u f called) (item.Value a ∷ (item.Value b ∷ (item.Do at operation ∷ []))) ks (Exactly n ∷ ks)
   two_known a b k l n at operation ks one other operates rest = (Exactly k ∷ ks, known a k (item.Value b ∷ (item.Do at operation ∷ rest)) ks one, (Exactly l ∷ (Exactly k ∷ ks), known b l (item.Do at operation ∷ rest) (Exactly k ∷ ks) other, (Exactly n ∷ ks, operates, refl)))
 
   results : (sign : OperatorMeaning) (t : Ty) (k l n : ℤ) (ks : List Mark) → Results sign (integer_type t) k l n → MarkOperates u.model (operating sign t) (Exactly l ∷ (Exactly k ∷ ks)) (Exactly n ∷ ks)
   results (meant.Number sign) t k l n ks is = marks.Computes.exact k l n is (ks, refl, refl)
   results (meant.Truth rel) t k l n ks is = marks.Compares.exact k l (ks, refl, ap (λ n. Exactly n ∷ ks) is)
 
-  truth_through : (b : Bool) (n : ℤ) (rest : List Item) (ks : List Mark) → n ≡ number_of_truth b → Through u f called (truth_of b) rest ks (Exactly n ∷ ks)
+  truth_through : (b : Bool) (n : ℤ) (rest : List Item) (ks : List Mark) → n ≡ number_of_truth b → Through (marks u f called) (truth_of b) rest ks (Exactly n ∷ ks)
   truth_through b n rest ks is = (Exactly n ∷ ks, (Exactly n, is, refl), refl)
 
   -- a value that is true or false
-  truth_chosen : (b : TermTree) (l n : ℤ) (rest : List Item) (ks : List Mark) → ExactTerm u.model b l → n ≡ number_of_truth (is_true l) → Through u f called (choice_of b (truth_of true) (truth_of false)) rest ks (Exactly n ∷ ks)
+  truth_chosen : (b : TermTree) (l n : ℤ) (rest : List Item) (ks : List Mark) → ExactTerm u.model b l → n ≡ number_of_truth (is_true l) → Through (marks u f called) (choice_of b (truth_of true) (truth_of false)) rest ks (Exactly n ∷ ks)
   truth_chosen b l n rest ks exact is = exact_choice_through u f called b l (truth_of true) (truth_of false) rest ks (Exactly n ∷ ks) exact (λ yes. truth_through true n rest ks (is ∙ ap number_of_truth yes)) (λ no. truth_through false n rest ks (is ∙ ap number_of_truth no))
 
   -- an operand of a conversion whose value is known quietly
-  converted_leads : (a : TermTree) (t : Ty) (old new : Mark) (at : Place) (ks : List Mark) → Quiet u a old → IsScalar u.model (scalar_of t) → ConvertsTo u.model (scalar_of t) old new → Leads u f called (item.Value a ∷ (item.Do at (op.Convert (scalar_of t)) ∷ [])) ks (new ∷ ks)
+  converted_leads : (a : TermTree) (t : Ty) (old new : Mark) (at : Place) (ks : List Mark) → Quiet u a old → IsScalar u.model (scalar_of t) → ConvertsTo u.model (scalar_of t) old new → Leads (marks u f called) (item.Value a ∷ (item.Do at (op.Convert (scalar_of t)) ∷ [])) ks (new ∷ ks)
   converted_leads a t old new at ks quiet scalar converts rest = (old ∷ ks, quietly old quiet refl, (new ∷ ks, (old, new, scalar, converts, (ks, refl, refl)), refl))
 
   -- ---- terms
 
-  exact_leads : (e : TermTree) (n : ℤ) (ks : List Mark) → ExactTerm u.model e n → Leads u f called (term_items u true e) ks (Exactly n ∷ ks)
+  exact_leads : (e : TermTree) (n : ℤ) (ks : List Mark) → ExactTerm u.model e n → Leads (marks u f called) (term_items u true e) ks (Exactly n ∷ ks)
   exact_leads (Typed at t parens fixed (tree.Number k)) n ks exact = constant_leads at k n ks exact
   exact_leads (Typed at t parens fixed (tree.SizeofType size is_pointer)) n ks exact = constant_leads at (pos size) n ks exact
   exact_leads (Typed at t parens fixed (tree.Sizeof size operand is_pointer)) n ks exact = constant_leads at (pos size) n ks exact
@@ -96,16 +97,16 @@ module _ (u : UnitView) (f : FunctionView) (called : Option Bool) where
       λ rest. exact_condition_through u f called true c exact.0 (item.Value a ∷ (item.Hop ∷ [])) (item.Value b ∷ []) rest ks after exact.1 (λ yes. (after, known a n (item.Hop ∷ rest) ks (first_arm u.model exact.0 n a b exact.2 yes), (after, refl, refl))) (λ no. (after, known b n rest ks (second_arm u.model exact.0 n a b exact.2 no), refl))
   exact_leads e n ks exact = absurd exact
 
-  null_leads : (e : TermTree) (ks : List Mark) → NullTerm u.model e → Leads u f called (term_items u true e) ks (Null ∷ ks)
+  null_leads : (e : TermTree) (ks : List Mark) → NullTerm u.model e → Leads (marks u f called) (term_items u true e) ks (Null ∷ ks)
   null_leads (Typed at t parens fixed (tree.Convert sort a)) ks null = elim null.1 [ inl other ↦ converted_leads a t Null Null at ks (inr (inr (other, refl))) (pointer_scalar u.model t null.0) (null_converts u.model t null.0) | inr zero ↦ converted_leads a t (Exactly (pos 0)) Null at ks (inr (inl (pos 0, zero, refl))) (pointer_scalar u.model t null.0) (zero_is_null u.model t null.0) ]
   null_leads e ks null = absurd null
 
-  side_leads : (e : TermTree) (k : Mark) (ks : List Mark) → SideTerm u e k → Leads u f called (term_items u true e) ks (k ∷ ks)
-  side_leads (Typed at t parens fixed (tree.Load (Designates place s wrapped (tree.Object o)))) k ks side = leads_to u f called (item.Address (Designates place s wrapped (tree.Object o)) ∷ (item.Do place (op.Load (scalar_of s)) ∷ [])) ks (Loaded (record { object = o; kind = scalar_of s }) ∷ ks) (k ∷ ks) (ap (λ k. k ∷ ks) (sym side.2)) (λ rest. (Naming o ∷ ks, named o refl side.0 refl, (Loaded (record { object = o; kind = scalar_of s }) ∷ ks, (side.1, marks.Loads.named (record { object = o; kind = scalar_of s }) refl (ks, refl, refl)), refl)))
+  side_leads : (e : TermTree) (k : Mark) (ks : List Mark) → SideTerm u e k → Leads (marks u f called) (term_items u true e) ks (k ∷ ks)
+  side_leads (Typed at t parens fixed (tree.Load (Designates place s wrapped (tree.Object o)))) k ks side = leads_to (marks u f called) (item.Address (Designates place s wrapped (tree.Object o)) ∷ (item.Do place (op.Load (scalar_of s)) ∷ [])) ks (Loaded (record { object = o; kind = scalar_of s }) ∷ ks) (k ∷ ks) (ap (λ k. k ∷ ks) (sym side.2)) (λ rest. (Naming o ∷ ks, named o refl side.0 refl, (Loaded (record { object = o; kind = scalar_of s }) ∷ ks, (side.1, marks.Loads.named (record { object = o; kind = scalar_of s }) refl (ks, refl, refl)), refl)))
   side_leads (Typed at t parens fixed (tree.Convert sort a)) k ks side = converted_leads a t side.1.0 k at ks (inl side.1.1) side.0 side.1.2
   side_leads e k ks side = absurd side
 
-  pub quiet_leads : (e : TermTree) (k : Mark) (ks : List Mark) → Quiet u e k → Leads u f called (term_items u true e) ks (k ∷ ks)
+  pub quiet_leads : (e : TermTree) (k : Mark) (ks : List Mark) → Quiet u e k → Leads (marks u f called) (term_items u true e) ks (k ∷ ks)
   quiet_leads e k ks (inl side) = side_leads e k ks side
-  quiet_leads e k ks (inr (inl exact)) = subst (λ k. Leads u f called (term_items u true e) ks (k ∷ ks)) (sym exact.2) (exact_leads e exact.0 ks exact.1)
-  quiet_leads e k ks (inr (inr null)) = subst (λ k. Leads u f called (term_items u true e) ks (k ∷ ks)) (sym null.1) (null_leads e ks null.0)
+  quiet_leads e k ks (inr (inl exact)) = subst (λ k. Leads (marks u f called) (term_items u true e) ks (k ∷ ks)) (sym exact.2) (exact_leads e exact.0 ks exact.1)
+  quiet_leads e k ks (inr (inr null)) = subst (λ k. Leads (marks u f called) (term_items u true e) ks (k ∷ ks)) (sym null.1) (null_leads e ks null.0)

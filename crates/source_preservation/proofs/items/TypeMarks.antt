@@ -1,9 +1,7 @@
 -- Marks of types: they hold whatever becomes of memory and whatever is named, and say which types are those of pointers.
-use Rattle.std.proofs.Common.{◌≡◌, ℕ, pos, Bool, true, false, not, inr, refl, ap, ◌∙◌}
-use Rattle.std.specs.Prelude.{◌&&◌, ◌==◌}
-use Rattle.std.proofs.lemmas.Bool.{and_parts, eqb-true}
+use Rattle.std.proofs.Common.{◌≡◌, pos, true, inr, refl}
 use Rattle.cc_base.specs.declared.int_types.IntType.{IntType}
-use Rattle.c_layout.specs.Types.{Ty, Int, Pointer, Array, Struct, Void, same_kind}
+use Rattle.c_layout.specs.Types.{Ty, Int}
 use Rattle.c_layout.specs.declared.data_model.Model.{Model}
 use Rattle.lower_templates.specs.Worklist.TermKinds.{scalar_of}
 use Rattle.cfg.specs.declared.machine_instructions.Scalar as declared
@@ -42,26 +40,4 @@ zero_converts m of.Pointer is = (refl, inr refl)
 -- a sum whose left operand is a pointer computes it first
 pub pointer_order : (t : Ty) → mark_of_type t ≡ Pointing → order_of t ≡ LeftFirst
 pointer_order (Int kind) is = absurd (no_pointer kind is)
-pointer_order (Pointer t) is = refl
-pointer_order (Array t n) is = refl
-pointer_order (Struct i) is = refl
-pointer_order Void is = refl
-
--- ---- integer types that compare equal are equal
-
-abbrev same_signs : Bool → Bool → Bool
-same_signs true b = b
-same_signs false b = not b
-
-sign_is : (a b : Bool) → same_signs a b ≡ true → a ≡ b
-sign_is true true h = refl
-sign_is true false h = absurd (cc)
-sign_is false true h = absurd (cc)
-sign_is false false h = refl
-
-pub kind_is : (a b : IntType) → same_kind a b ≡ true → a ≡ b
-kind_is a b h =
-    let p = and_parts (a.bytes == b.bytes) (same_signs a.signed b.signed && a.rank == b.rank) h in
-    let q = and_parts (same_signs a.signed b.signed) (a.rank == b.rank) p.1 in
-    let made : ℕ → Bool → ℕ → IntType = λ n s r. record { bytes = n; signed = s; rank = r } in
-    ap (λ n. made n a.signed a.rank) (eqb-true a.bytes b.bytes p.0) ∙ (ap (λ s. made b.bytes s a.rank) (sign_is a.signed b.signed q.0) ∙ ap (λ r. made b.bytes b.signed r) (eqb-true a.rank b.rank q.1))
+pointer_order other is = refl

@@ -18,7 +18,8 @@ use Rattle.source_items.specs.Liveness.Livings.{Encloses, Sit}
 use Rattle.source_items.proofs.liveness.Members.{apart, either, neither, is_false, distinct_both}
 use Rattle.source_items.proofs.liveness.Inlinings.{scope_opens}
 use Rattle.source_items.proofs.liveness.SittingStatements.{list_keeps, list_sits, no_loop, Replaces, scope_replaces}
-use Rattle.source_items.proofs.liveness.Labels.{IfSome, Reached, among_found_sit}
+use Rattle.source_items.proofs.stack_kinds.FoundItems.{IfSome}
+use Rattle.source_items.proofs.liveness.Labels.{Reached, among_found_sit}
 
 -- ---- parameters
 

@@ -11,7 +11,7 @@ use Rattle.source_items.specs.Returns.StandingJumps.{UnitJumpsStand}
 use Rattle.source_items.specs.Liveness.ScopedStatements.{ScopedUnit}
 use Rattle.source_items.specs.Liveness.Livings.{IsLiving}
 use Rattle.source_preservation.specs.Liveness.NamedObjects.{ObjectsLiveWhereNamed}
-use Rattle.source_preservation.proofs.liveness.Replies.{IfGoes}
+use Rattle.source_items.specs.Operations.GoingReplies.{IfGoes}
 use Rattle.source_preservation.proofs.liveness.Starts.{begins_living}
 use Rattle.source_preservation.proofs.liveness.Turns.{turn_lives}
 

@@ -14,24 +14,23 @@ use Rattle.lower_conditions.specs.declared.branch_tests.NamedObject.{NamedObject
 use Rattle.lower_functions.specs.Functions.Functions.{local_type}
 use Rattle.memory_model.specs.Memory.Scalars.{Scalar, is_false}
 use Rattle.memory_model.specs.Effects.NumberedTables.{put_at, clear_at}
-use Rattle.memory_model.specs.Effects.Worlds.{World, Reply, behind, unviolated}
+use Rattle.memory_model.specs.Effects.Worlds.{behind, unviolated}
 use Rattle.memory_model.specs.Effects.ObjectEffects.{next_instance}
 use Rattle.memory_model.specs.Effects.Accesses.{store}
 use Rattle.memory_model.specs.Effects.LibraryCalls.{fgets}
-use Rattle.memory_model.specs.Effects.Tests.{TestedSide}
 use Rattle.semantics.specs.SourceMachine.Operations.{Operation, perform}
 use Rattle.semantics.specs.SourceMachine.Items as item
-use Rattle.semantics.specs.SourceMachine.Items.{NamedSide, NamedTest, Item, Items, listed, Change}
+use Rattle.semantics.specs.SourceMachine.Items.{NamedTest, Item, Items, listed, Change}
 use Rattle.semantics.specs.SourceMachine.TermItems.{address_items}
 use Rattle.semantics.specs.SourceMachine.ConditionItems.{term_items}
 use Rattle.semantics.specs.SourceMachine.StatementItems.{of_statement, while_iteration, do_iteration, for_iteration}
 use Rattle.semantics.specs.SourceMachine.Scopes.{is_in, all_of, open_scopes, jump, leap_in, past_loop, past_iteration}
 use Rattle.semantics.specs.SourceMachine.LabelSearch as sought
 use Rattle.semantics.specs.SourceMachine.LabelSearch.{Sought, found, from_label, case_of}
-use Rattle.semantics.specs.SourceMachine.SourceStates.{Frame, State, with_world, first_do, function_at, result_object, type_of, instance_of}
+use Rattle.semantics.specs.SourceMachine.SourceStates.{Frame, State, first_do, function_at, result_object, type_of, instance_of}
 use Rattle.semantics.specs.SourceMachine.ObjectSteps.{on, point_to, point_to_literal, point_to_outcome, enter_if}
 use Rattle.semantics.specs.SourceMachine.ObjectSteps as objects
-use Rattle.semantics.specs.SourceMachine.BranchSteps.{in_world, with_side, testing, choose_by, choose, read_line, matching, on_case, landing, land, select_label, select}
+use Rattle.semantics.specs.SourceMachine.BranchSteps.{testing, choose_by, choose, read_line, on_case, landing, land, select_label, select}
 use Rattle.semantics.specs.SourceMachine.CallSteps.{behind_body, invoke, bind_value, bind_parameter, leave_outcome}
 use Rattle.semantics.specs.SourceMachine.SourceSteps.{is_entry, operate, again, enter_all, leave_all, go_to, act, return_to, turn_by, turn}
 use Rattle.source_items.specs.Returns.StandingJumps.{UnitJumpsStand}
@@ -43,10 +42,13 @@ use Rattle.source_items.proofs.liveness.Sitting.{listed_sit, sit_behind_loop, si
 use Rattle.source_items.proofs.liveness.SittingTerms.{address_adds, term_adds}
 use Rattle.source_items.proofs.liveness.SittingStatements.{Replaces, replacing}
 use Rattle.source_items.proofs.liveness.SittingLoops.{while_leads, do_leads, for_leads, statement_replaces}
-use Rattle.source_items.proofs.liveness.Labels.{IfSome, Reached, found_sits}
+use Rattle.source_items.proofs.liveness.Labels.{Reached, found_sits}
 use Rattle.source_preservation.proofs.liveness.Bodies.{label_found}
 use Rattle.source_preservation.proofs.liveness.Calls.{beginning, ended_replaces, hopped_replaces, return_replaces}
-use Rattle.source_preservation.proofs.liveness.Replies.{IfGoes, goes_behind, goes_on, goes_if_some, goes_if_such, goes_with_number}
+use Rattle.source_items.proofs.stack_kinds.FoundItems.{IfSome}
+use Rattle.source_items.specs.Operations.GoingReplies.{IfGoes}
+use Rattle.source_items.proofs.returns.TestReplies.{test_goes, case_goes}
+use Rattle.source_items.proofs.returns.Replies.{goes_behind, goes_on, goes_if_some, goes_if_such, goes_with_number}
 use Rattle.source_preservation.proofs.liveness.Jumps.{change_at, change_for, in_place, jump_replaces, leap_replaces, landed_behind, entering_one, leaving_one}
 
 -- the function that runs has such items to do and names what lives there, and so it is of those that wait
@@ -128,30 +130,6 @@ module _ (u : UnitView) where
 
   -- ---- conditions
 
-  -- what does not speak of the world
-  module _ (Q : State → Type 0) (s : State) (holds : (w : World) → Q (with_world s w)) where
-    in_some_world : (reply : Reply (Unit {0})) → IfGoes Q (in_world s reply)
-    in_some_world reply = goes_on Q reply _ (λ x w. holds w)
-
-    with_some_side : (side : NamedSide) (use_it : TestedSide → Reply State) → ((t : TestedSide) → IfGoes Q (use_it t)) → IfGoes Q (with_side s side use_it)
-    with_some_side (item.named o) use_it h = goes_if_some Q s (instance_of s.names o.object) _ (λ i is. h _)
-    with_some_side (item.number n) use_it h = h _
-    with_some_side item.nothing use_it h = h _
-
-    test_goes : (test : Option NamedTest) (held : Bool) → IfGoes Q (testing u s test held)
-    test_goes None held = holds s.world
-    test_goes (Some t) held = with_some_side t.left _ (λ left. with_some_side t.right _ (λ right. in_some_world _))
-
-    case_goes : (o : Option NamedObject) (l : Sought) (value : ℤ) → IfGoes Q (on_case u o l value s)
-    case_goes None l value = holds s.world
-    case_goes (Some o) (sought.label n) value = holds s.world
-    case_goes (Some o) sought.other value = holds s.world
-    case_goes (Some o) (sought.case n) value = by o.kind
-      where
-        by : (kind : declared.Scalar) → IfGoes Q (matching u s o kind value)
-        by (of.Int kind) = goes_if_some Q s (instance_of s.names o.object) _ (λ i is. in_some_world _)
-        by of.Pointer = holds s.world
-
   -- the items that are chosen
   chosen_replaces : (f : FunctionView) (first : Bool) (items : Items) (rest : List Item) → Keeps f first items rest → AllSit f first items rest → Sit f first rest → Replaces f first (listed items ++ rest) rest
   chosen_replaces f first items rest keeps all sit = ((λ n. ap (λ alive. alive n) keeps), listed_sit f first items rest all sit)
@@ -161,7 +139,7 @@ module _ (u : UnitView) where
     IsChoosing = IsLivingAt u (item.Choose at test held failed)
 
     tested : (s : State) (b : Bool) (items : Items) → ((f : FunctionView) (first : Bool) (rest : List Item) → Sits f first (item.Choose at test held failed) rest → Keeps f first items rest × AllSit f first items rest) → IsChoosing s → IfGoes (IsLiving u) (behind (testing u s test b) (λ s w. on (first_do (listed items) s)))
-    tested s b items one all = goes_behind (IsLiving u) IsChoosing (testing u s test b) _ (test_goes IsChoosing s (λ w. all) test b) (λ t w all. replaced t (item.Choose at test held failed) (listed items ++ t.control) (λ f. refl) (λ f is sits sit. let chosen = one f (is_entry t.frames) t.control sits in chosen_replaces f (is_entry t.frames) items t.control chosen.0 chosen.1 sit) all)
+    tested s b items one all = goes_behind (IsLiving u) IsChoosing (testing u s test b) _ (test_goes u IsChoosing s (λ w. all) test b) (λ t w all. replaced t (item.Choose at test held failed) (listed items ++ t.control) (λ f. refl) (λ f is sits sit. let chosen = one f (is_entry t.frames) t.control sits in chosen_replaces f (is_entry t.frames) items t.control chosen.0 chosen.1 sit) all)
 
     chosen_by : (s : State) (b : Bool) → IsChoosing s → IfGoes (IsLiving u) (choose_by u test b held failed s)
     chosen_by s true all = tested s true held (λ f first rest sits. (sits.0, sits.1)) all
@@ -205,7 +183,7 @@ module _ (u : UnitView) where
     land_goes l s all = goes_if_some (IsLiving u) s (landing l (found u l statement s.control) s.control) _ (λ to is. replaced s (item.Select at o labels statement) (leap_in s.control to) (λ f. refl) (λ f is_f sits sit. leap_replaces f (is_entry s.frames) s.control to sits.stands.enclosed.here (such_some (Reached f (is_entry s.frames) (open_scopes s.control)) (landing l (found u l statement s.control) s.control) to is (landed f (is_entry s.frames) statement l s.control sits sit))) all)
 
     matched : (l : Sought) (value : ℤ) (s : State) → IsSelecting s → IfGoes (IsLiving u) (select_label u o statement l value s)
-    matched l value s all = goes_behind (IsLiving u) IsSelecting (on_case u o l value s) _ (case_goes IsSelecting s (λ w. all) o l value) (λ t w all. land_goes l t all)
+    matched l value s all = goes_behind (IsLiving u) IsSelecting (on_case u o l value s) _ (case_goes u IsSelecting s (λ w. all) o l value) (λ t w all. land_goes l t all)
 
     selected : (s : State) (vs : List Scalar) → IsSelecting s → IfGoes (IsLiving u) (select u o labels statement s vs)
     selected s [] all = tt

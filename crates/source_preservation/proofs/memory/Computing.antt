@@ -7,7 +7,7 @@ use Rattle.cc_base.specs.declared.int_types.IntType.{IntType}
 use Rattle.cc_base.specs.declared.integer_operators.IntOp.{IntOp}
 use Rattle.cc_base.specs.declared.integer_operators.UnOp.{UnOp}
 use Rattle.cc_base.specs.declared.integer_operators.Rel.{Rel}
-use Rattle.cc_base.specs.declared.integer_operators.Rel.TheVariants.{Lt, Le, Gt, Ge, Eq, Ne}
+use Rattle.cc_base.specs.declared.integer_operators.Rel.TheVariants.{Eq, Ne}
 use Rattle.cc_base.specs.declared.diagnostics.Rule.{Rule}
 use Rattle.cc_base.specs.declared.diagnostics.Rule.TheVariants as rule
 use Rattle.c_layout.specs.declared.data_model.Model.{Model}
@@ -52,10 +52,7 @@ equality_keeps w p q b = when_unless {A = Scalar} (Same w.memory) w (is_ended w.
 pointers_compared_keeps : (rel : Rel) (p q : MachinePointer) (w : World) → Keeps w.memory (pointers_compared rel p q w)
 pointers_compared_keeps Eq p q w = equality_keeps w p q _
 pointers_compared_keeps Ne p q w = equality_keeps w p q _
-pointers_compared_keeps Lt p q w = compared_keeps w p q _ refl
-pointers_compared_keeps Le p q w = compared_keeps w p q _ refl
-pointers_compared_keeps Gt p q w = compared_keeps w p q _ refl
-pointers_compared_keeps Ge p q w = compared_keeps w p q _ refl
+pointers_compared_keeps other p q w = compared_keeps w p q _ refl
 
 pub difference_keeps : (left right : Scalar) (size : ℕ) (w : World) → Keeps w.memory (difference left right size w)
 difference_keeps left right size w = when_pointer (Same w.memory) left w _ (λ p _. when_pointer (Same w.memory) right w _ (λ q _. compared_keeps w p q _ refl))

@@ -7,7 +7,7 @@ use Rattle.cc_base.specs.IntegerTypes.{in_type, wrap_into}
 use Rattle.cc_base.specs.MachineArithmetic.{holds}
 use Rattle.cc_base.specs.declared.int_types.IntType.{IntType}
 use Rattle.cc_base.specs.declared.integer_operators.Rel.{Rel}
-use Rattle.cc_base.specs.declared.integer_operators.Rel.TheVariants.{Lt, Le, Gt, Ge, Eq, Ne}
+use Rattle.cc_base.specs.declared.integer_operators.Rel.TheVariants.{Eq, Ne}
 use Rattle.cc_base.specs.declared.diagnostics.Rule.TheVariants as rule
 use Rattle.c_layout.specs.declared.data_model.Model.{Model}
 use Rattle.lower_conditions.specs.declared.branch_tests.NamedObject.{NamedObject}
@@ -167,10 +167,7 @@ module _ (m : Model) (names : ℕ → Option ℕ) (memory : Memory) where
   pub compared_null : (o : NamedObject) (rel : Rel) (p q : MachinePointer) (w after : World) (v : Scalar) → AreNullAnd o p q → pointers_compared rel p q w ≡ goes v after → Agrees m names memory (null_test_of o rel) v
   compared_null o Eq p q w after v are e = subst (Agrees m names memory (null_test_of o Eq)) (sym (equal_given w after p q (are_equal p q) v e)) (equality_agrees o p q are)
   compared_null o Ne p q w after v are e = subst (Agrees m names memory (null_test_of o Ne)) (sym (equal_given w after p q (not (are_equal p q)) v e)) (difference_agrees o p q are)
-  compared_null o Lt p q w after v are e = absurd (never_compared w after p q _ v (not_shared o p q are) e)
-  compared_null o Le p q w after v are e = absurd (never_compared w after p q _ v (not_shared o p q are) e)
-  compared_null o Gt p q w after v are e = absurd (never_compared w after p q _ v (not_shared o p q are) e)
-  compared_null o Ge p q w after v are e = absurd (never_compared w after p q _ v (not_shared o p q are) e)
+  compared_null o other p q w after v are e = absurd (never_compared w after p q _ v (not_shared o p q are) e)
 
   -- so where their marks say so
   pub are_null_and : (o : NamedObject) (left right : Mark) (p q : MachinePointer) → AreWithNull o left right → Has m names memory left (pointer p) → Has m names memory right (pointer q) → AreNullAnd o p q

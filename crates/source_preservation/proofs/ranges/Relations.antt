@@ -5,7 +5,7 @@ use Rattle.std.specs.Ordering.{int_eq}
 use Rattle.std.proofs.lemmas.Int.{ints}
 use Rattle.cc_base.specs.MachineArithmetic.{holds}
 use Rattle.cc_base.specs.declared.integer_operators.Rel.{Rel}
-use Rattle.cc_base.specs.declared.integer_operators.Rel.TheVariants.{Lt, Le, Gt, Ge, Eq, Ne}
+use Rattle.cc_base.specs.declared.integer_operators.Rel.TheVariants.{Eq, Ne}
 use Rattle.memory_model.specs.Memory.Bytes.{MachinePointer, null, into}
 use Rattle.memory_model.specs.Memory.Scalars.{is_false, is_null}
 use Rattle.memory_model.specs.Effects.IntegerEffects.{truth}
@@ -17,16 +17,13 @@ not_true : (b : Bool) → b ≡ false → not b ≡ true
 not_true b e = ap not e
 
 opposite_holds : (rel : Rel) (a b : ℤ) → holds rel a b ≡ false → holds (opposite rel) a b ≡ true
-opposite_holds Lt a b e = grind (arith, ints)
-opposite_holds Le a b e = grind (arith, ints)
-opposite_holds Gt a b e = grind (arith, ints)
-opposite_holds Ge a b e = grind (arith, ints)
 opposite_holds Eq a b e = not_true (int_eq a b) e
 opposite_holds Ne a b e = kept (int_eq a b) e
   where
     kept : (b : Bool) → not b ≡ false → b ≡ true
     kept true e = refl
     kept false e = cc
+opposite_holds other a b e = grind (arith, ints)
 
 -- the relation that holds on the way that is taken
 pub on_way : (rel : Rel) (held : Bool) (a b : ℤ) → holds rel a b ≡ held → holds (relation_on held rel) a b ≡ true
@@ -34,10 +31,6 @@ on_way rel true a b e = e
 on_way rel false a b e = opposite_holds rel a b e
 
 pub turned_holds : (rel : Rel) (a b : ℤ) → holds (turned rel) b a ≡ holds rel a b
-turned_holds Lt a b = refl
-turned_holds Le a b = refl
-turned_holds Gt a b = refl
-turned_holds Ge a b = refl
 turned_holds Eq a b = same_turned a b
   where
     same_turned : (a b : ℤ) → int_eq b a ≡ int_eq a b
@@ -46,6 +39,7 @@ turned_holds Ne a b = ap not (same_turned a b)
   where
     same_turned : (a b : ℤ) → int_eq b a ≡ int_eq a b
     same_turned a b = grind (arith, ints)
+turned_holds other a b = refl
 
 -- a truth value is true where what it says holds
 pub truth_is : (b : Bool) → not (is_false (truth b)) ≡ b

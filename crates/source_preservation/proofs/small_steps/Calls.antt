@@ -17,7 +17,8 @@ use Rattle.source_preservation.specs.WellTyped.WellTypedStatements.{WellTypedUni
 use Rattle.source_preservation.specs.WellTyped.WellTypedItems.{left_marks, parameter_marks, Invokes}
 use Rattle.source_preservation.specs.WellTyped.WellTypedStates.{Goes, Wait, caller, Runs}
 use Rattle.source_preservation.proofs.items.TypeMarks.{free_type}
-use Rattle.source_preservation.proofs.items.Leading.{does_from}
+use Rattle.source_items.proofs.stack_kinds.ItemWalks.{does_from}
+use Rattle.source_preservation.proofs.items.Leading.{marks}
 use Rattle.source_preservation.proofs.items.Calls.{parameters_free, prologue_does}
 use Rattle.source_preservation.proofs.small_steps.Keeping.{frees_kept, none_some, Parts, parts, both_well_typed}
 use Rattle.source_preservation.proofs.small_steps.Changes.{RunsAt}
@@ -94,7 +95,7 @@ begun u well_typed stand s at g count used r =
         is = r.goes.is;
         room = r.goes.room;
         leaves = r.goes.leaves;
-        does = does_from u r.goes.function (called_by s.frames) s.control (given ++ i.below) r.goes.does.0 r.left (sym i.given) r.goes.does.2;
+        does = does_from (marks u r.goes.function (called_by s.frames)) s.control (given ++ i.below) r.goes.does.0 r.left (sym i.given) r.goes.does.2;
       }) r.wait;
       proper = r.proper;
       statics = r.statics;

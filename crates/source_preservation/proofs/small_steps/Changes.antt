@@ -13,7 +13,8 @@ use Rattle.source_preservation.specs.ValueTyping.ProperMemory.{Evolves}
 use Rattle.source_preservation.specs.WellTyped.WellTypedItems.{AtRest, Does}
 use Rattle.source_preservation.specs.WellTyped.WellTypedStates.{HaveRoom, Runs}
 use Rattle.source_preservation.proofs.memory.Evolving.{evolves_same}
-use Rattle.source_preservation.proofs.items.Leading.{Through, does_from, through_does}
+use Rattle.source_items.proofs.stack_kinds.ItemWalks.{Through, does_from, through_does}
+use Rattle.source_preservation.proofs.items.Leading.{marks}
 use Rattle.source_preservation.proofs.small_steps.Keeping.{stables_kept, frees_kept, room_kept, statics_kept, wait_kept}
 
 -- the function that runs has such items to do, and one item more before the others
@@ -55,8 +56,8 @@ module _ (u : UnitView) where
   pub instead_of : (items : List Item) (s : State) (r : RunsBy u items s) (others : List Item) → Does u r.goes.function (called_by s.frames) others r.marks r.left → RunsBy u others s
   instead_of items s r others does = revalued items s r others s.values (record { marks = r.marks; own = r.own; is = r.values; are = r.are; does = does })
 
-  pub expanded : (i : Item) (s : State) (r : RunsAt u i s) (items : List Item) → Through u r.goes.function (called_by s.frames) items s.control r.marks r.goes.does.0 → RunsBy u (items ++ s.control) s
-  expanded i s r items through = instead_of (i ∷ s.control) s r (items ++ s.control) (through_does u r.goes.function (called_by s.frames) items s.control r.marks r.goes.does.0 r.left through r.goes.does.2)
+  pub expanded : (i : Item) (s : State) (r : RunsAt u i s) (items : List Item) → Through (marks u r.goes.function (called_by s.frames)) items s.control r.marks r.goes.does.0 → RunsBy u (items ++ s.control) s
+  expanded i s r items through = instead_of (i ∷ s.control) s r (items ++ s.control) (through_does (marks u r.goes.function (called_by s.frames)) items s.control r.marks r.goes.does.0 r.left through r.goes.does.2)
 
   pub passed : (i : Item) (s : State) (r : RunsAt u i s) → r.marks ≡ r.goes.does.0 → Runs u s
   passed i s r same = expanded i s r [] same
@@ -68,7 +69,7 @@ module _ (u : UnitView) where
     own = v ∷ r.own;
     is = ap (λ vs. v ∷ vs) r.values;
     are = (has, r.are);
-    does = does_from u r.goes.function (called_by s.frames) s.control (k ∷ r.marks) r.goes.does.0 r.left (sym same) r.goes.does.2;
+    does = does_from (marks u r.goes.function (called_by s.frames)) s.control (k ∷ r.marks) r.goes.does.0 r.left (sym same) r.goes.does.2;
   })
 
   -- another memory, on which no value rests
@@ -78,7 +79,7 @@ module _ (u : UnitView) where
     own = r.own;
     is = r.values;
     are = stables_kept u.model s.names s.world.memory w.memory r.marks r.own evolves.grows stable r.are;
-    does = does_from u r.goes.function (called_by s.frames) s.control r.marks r.goes.does.0 r.left (sym same) r.goes.does.2;
+    does = does_from (marks u r.goes.function (called_by s.frames)) s.control r.marks r.goes.does.0 r.left (sym same) r.goes.does.2;
   })
 
   -- other names, on which no value rests either
@@ -92,8 +93,8 @@ module _ (u : UnitView) where
   })
 
   module _ (f : FunctionView) (called : Option Bool) where
-    pub resting : (items rest : List Item) (ks mid : List Mark) → AtRest ks mid → Through u f called items rest [] [] → Through u f called items rest ks mid
-    resting items rest ks mid rests through = subst (λ xs. Through u f called items rest xs mid) (sym rests.0) (subst (λ xs. Through u f called items rest [] xs) (sym rests.1) through)
+    pub resting : (items rest : List Item) (ks mid : List Mark) → AtRest ks mid → Through (marks u f called) items rest [] [] → Through (marks u f called) items rest ks mid
+    resting items rest ks mid rests through = subst (λ xs. Through (marks u f called) items rest xs mid) (sym rests.0) (subst (λ xs. Through (marks u f called) items rest [] xs) (sym rests.1) through)
 
     -- ---- jumps
 

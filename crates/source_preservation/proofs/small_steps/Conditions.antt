@@ -20,7 +20,8 @@ use Rattle.source_preservation.specs.WellTyped.WellTypedItems.{may_hold, may_fai
 use Rattle.source_preservation.specs.WellTyped.WellTypedStates.{Runs}
 use Rattle.source_preservation.specs.SmallSteps.KeptMarks.{RunsOn}
 use Rattle.source_preservation.proofs.memory.Objects.{after_test_evolves}
-use Rattle.source_preservation.proofs.items.Leading.{listed_does}
+use Rattle.source_items.proofs.stack_kinds.ItemWalks.{listed_does}
+use Rattle.source_preservation.proofs.items.Leading.{marks}
 use Rattle.source_preservation.proofs.tests.DecidedTests.{decided}
 use Rattle.source_preservation.proofs.small_steps.Replies.{comes_behind}
 use Rattle.source_preservation.proofs.small_steps.Keeping.{stables_kept, room_kept, Newest, newest}
@@ -69,14 +70,14 @@ module _ (u : UnitView) (at : Place) (held failed : Items) (s : State) where
     own = n.others;
     is = refl;
     are = n.are;
-    does = listed_does u r.goes.function (called_by s.frames) held s.control r.goes.does.1.1 r.goes.does.0 r.left (r.goes.does.1.3 (true_way u s r.goes.does.1.0 n.value n.has is)) r.goes.does.2;
+    does = listed_does (marks u r.goes.function (called_by s.frames)) held s.control r.goes.does.1.1 r.goes.does.0 r.left (r.goes.does.1.3 (true_way u s r.goes.does.1.0 n.value n.has is)) r.goes.does.2;
   })
   chosen_plainly r n false is = revalued u (item.Choose at None held failed ∷ s.control) s r (listed failed ++ s.control) (n.others ++ r.rest) (record {
     marks = r.goes.does.1.1;
     own = n.others;
     is = refl;
     are = n.are;
-    does = listed_does u r.goes.function (called_by s.frames) failed s.control r.goes.does.1.1 r.goes.does.0 r.left (r.goes.does.1.4 (false_way u s r.goes.does.1.0 n.value n.has is)) r.goes.does.2;
+    does = listed_does (marks u r.goes.function (called_by s.frames)) failed s.control r.goes.does.1.1 r.goes.does.0 r.left (r.goes.does.1.4 (false_way u s r.goes.does.1.0 n.value n.has is)) r.goes.does.2;
   })
 
   pub chosen : RunsAt u (item.Choose at None held failed) s → Comes (RunsOn u) (choose u None held failed s s.values)
@@ -92,7 +93,7 @@ module _ (u : UnitView) (at : Place) (held failed : Items) (s : State) where
       own = n.others;
       is = refl;
       are = stables_kept u.model s.names s.world.memory w.memory r.goes.does.1.1 n.others evolves.grows r.goes.does.1.4 n.are;
-      does = listed_does u r.goes.function (called_by s.frames) items s.control r.goes.does.1.1 r.goes.does.0 r.left all r.goes.does.2;
+      does = listed_does (marks u r.goes.function (called_by s.frames)) items s.control r.goes.does.1.1 r.goes.does.0 r.left all r.goes.does.2;
     })
 
     abbrev rest_state : State
@@ -124,7 +125,7 @@ module _ (u : UnitView) (lines : LinesKeepMarks) (at : Place) (none some : Items
     own = others;
     is = refl;
     are = stables_kept u.model s.names s.world.memory w.memory below others evolves.grows r.goes.does.1.3 are;
-    does = listed_does u r.goes.function (called_by s.frames) items s.control below r.goes.does.0 r.left all r.goes.does.2;
+    does = listed_does (marks u r.goes.function (called_by s.frames)) items s.control below r.goes.does.0 r.left all r.goes.does.2;
   })
 
   line_by : (others : List Scalar) (w : World) → AreWellTyped u.model s.names s.world.memory below others → Evolves u.model s.world.memory w.memory → (b : Bool) → Runs u (record s { control = listed (cond b none some) ++ s.control; values = others ++ r.rest; world = w })

@@ -74,14 +74,10 @@ module _ (m : Model) where
   frees_kept names others before after (k ∷ ks) (v ∷ vs) free are = (free_kept names others before after k v free.0 are.0, frees_kept names others before after ks vs free.1 are.1)
 
 free_stable : (k : Mark) → is_free k ≡ true → is_stable k ≡ true
-free_stable (Ranged kind) free = refl
-free_stable (Exactly n) free = refl
-free_stable Pointing free = refl
-free_stable (Naming o) free = refl
-free_stable Null free = refl
 free_stable (Loaded o) free = free
 free_stable (Converted o kind) free = free
 free_stable (Tested test) free = free
+free_stable other free = refl
 
 pub frees_stable : (ks : List Mark) → AreFree ks → AreStable ks
 frees_stable [] free = tt

@@ -38,7 +38,8 @@ use Rattle.source_preservation.specs.WellTyped.WellTypedStates.{HaveRoom, Runs}
 use Rattle.source_preservation.specs.SmallSteps.KeptMarks.{RunsOn}
 use Rattle.source_preservation.proofs.memory.Evolving.{bytes_of_fresh}
 use Rattle.source_preservation.proofs.memory.Objects.{entered_evolves, left_evolves, forgotten_evolves, cleared_evolves, spelled_evolves}
-use Rattle.source_preservation.proofs.items.Leading.{does_from}
+use Rattle.source_items.proofs.stack_kinds.ItemWalks.{does_from}
+use Rattle.source_preservation.proofs.items.Leading.{marks}
 use Rattle.source_preservation.proofs.small_steps.Replies.{comes_at}
 use Rattle.source_preservation.proofs.small_steps.Keeping.{apart, none_some, same_some, room_kept}
 use Rattle.source_preservation.proofs.small_steps.Changes.{RunsBy, RunsAt, pushing, evolved, renamed, passed}
@@ -194,5 +195,5 @@ module _ (u : UnitView) (s : State) where
   leaving_outcome at r alive named =
       let n : ℕ = result_object r.goes.function in
       let there : IsThere (s.names n) = there (s.names n) (named n ∙ first_left n [] alive) in
-      let does : Does u r.goes.function (called_by s.frames) s.control r.marks r.left = does_from u r.goes.function (called_by s.frames) s.control r.marks r.goes.does.0 r.left (sym r.goes.does.1.1) r.goes.does.2 in
+      let does : Does u r.goes.function (called_by s.frames) s.control r.marks r.left = does_from (marks u r.goes.function (called_by s.frames)) s.control r.marks r.goes.does.0 r.left (sym r.goes.does.1.1) r.goes.does.2 in
       comes_at (RunsOn u) s (function_at u s.function) r.goes.function _ r.goes.is (comes_at (RunsOn u) s (s.names n) there.0 _ there.1 (without (item.LeaveOutcome at ∷ s.control) s.control r n there.0 r.goes.does.1.0 does))

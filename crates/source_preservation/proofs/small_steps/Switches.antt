@@ -1,6 +1,5 @@
 -- A switch leads to a label that is there, and a case agrees with the object that is switched on.
-use Rattle.std.proofs.Common.{◌≡◌, ◌<◌, ◌≤◌, ℕ, ◌+◌, ℤ, Bool, true, false, cond, List, [], ◌∷◌, ◌++◌, length, Option, Some, None, refl, ap, sym, subst, ◌∙◌, arith}
-use Rattle.std.specs.Ordering.{int_eq}
+use Rattle.std.proofs.Common.{◌≡◌, ℕ, ◌+◌, ℤ, Bool, List, [], ◌∷◌, ◌++◌, length, Option, Some, None, refl, ap, sym, subst, ◌∙◌, arith}
 use Rattle.cc_base.specs.declared.diagnostics.Place.{Place}
 use Rattle.cc_base.specs.declared.int_types.IntType.{IntType}
 use Rattle.c_layout.specs.CheckedTrees.{StatementTree}
@@ -14,14 +13,13 @@ use Rattle.memory_model.specs.Effects.Worlds.{World, behind, with_memory}
 use Rattle.memory_model.specs.Effects.Tests.{object_relabelled, passing, pass_case}
 use Rattle.semantics.specs.SourceMachine.Items as item
 use Rattle.semantics.specs.SourceMachine.Items.{Item}
-use Rattle.semantics.specs.SourceMachine.Scopes.{leap_in, past_loop}
+use Rattle.semantics.specs.SourceMachine.Scopes.{leap_in}
 use Rattle.semantics.specs.SourceMachine.LabelSearch as sought
 use Rattle.semantics.specs.SourceMachine.LabelSearch.{Sought, found, case_of}
 use Rattle.semantics.specs.SourceMachine.SourceStates.{State, with_world, if_some}
 use Rattle.semantics.specs.SourceMachine.ObjectSteps.{on}
 use Rattle.semantics.specs.SourceMachine.BranchSteps.{in_world, matching, landing, land, select_label, select}
 use Rattle.source_items.specs.StackKinds.KindedTerms.{IsThere}
-use Rattle.source_items.specs.StackKinds.KindedStatements.{HasCases}
 use Rattle.source_items.specs.StackKinds.KindedItems.{called_by}
 use Rattle.source_preservation.specs.ValueTyping.Marks.{Mark, Ranged, Has, AreWellTyped}
 use Rattle.source_preservation.specs.ValueTyping.MarkLaws.{Comes}
@@ -30,8 +28,10 @@ use Rattle.source_preservation.specs.WellTyped.WellTypedItems.{Selects, Does}
 use Rattle.source_preservation.specs.SmallSteps.KeptMarks.{RunsOn}
 use Rattle.source_preservation.proofs.memory.Evolving.{evolves_same}
 use Rattle.source_preservation.proofs.memory.Objects.{relabelled_evolves}
-use Rattle.source_items.proofs.stack_kinds.LeadingConditions.{IfSome}
-use Rattle.source_preservation.proofs.items.Leading.{does_from}
+use Rattle.source_items.proofs.stack_kinds.FoundItems.{IfSome}
+use Rattle.source_items.proofs.stack_kinds.SwitchLandings.{IsCase, is_case, lands}
+use Rattle.source_items.proofs.stack_kinds.ItemWalks.{does_from}
+use Rattle.source_preservation.proofs.items.Leading.{marks}
 use Rattle.source_preservation.proofs.items.Loops.{does_behind_loop}
 use Rattle.source_preservation.proofs.items.Labels.{found_does}
 use Rattle.source_preservation.proofs.tests.MatchedCases.{IsMatched, matched}
@@ -40,35 +40,6 @@ use Rattle.source_preservation.proofs.small_steps.Keeping.{room_kept, Newest, ne
 use Rattle.source_preservation.proofs.small_steps.Changes.{RunsAt, renewed, leapt}
 
 -- ---- labels
-
--- a case below a number, or the default label
-abbrev IsCase : ℕ → Sought → Type 0
-IsCase most (sought.label n) = ⊥
-IsCase most (sought.case n) = n < most
-IsCase most sought.other = Unit {0}
-
-here_or_later : (most n : ℕ) (b : Bool) (later : Sought) → n < most → IsCase most later → IsCase most (cond b (sought.case n) later)
-here_or_later most n true later below is = below
-here_or_later most n false later below is = is
-
-is_case : (cs : List CaseLabel) (most n : ℕ) (value : ℤ) → n + length cs ≤ most → IsCase most (case_of cs n value)
-is_case [] most n value within = tt
-is_case (c ∷ cs) most n value within = here_or_later most n (int_eq c.value value) (case_of cs (n + 1) value) (omega arith) (is_case cs most (n + 1) value (omega arith))
-
-module _ (u : UnitView) (labels : List CaseLabel) (statement : StatementTree) (cases : HasCases u labels statement) where
-  lands : (l : Sought) (rest : List Item) → IsCase (length labels) l → IsThere (landing l (found u l statement rest) rest)
-  lands (sought.label n) rest is = absurd is
-  lands (sought.case n) rest is =
-      let to : IsThere (found u (sought.case n) statement rest) = cases n is rest in
-      (to.0, landed n rest (found u (sought.case n) statement rest) to.0 to.1)
-    where
-      landed : (n : ℕ) (rest : List Item) (o : Option (List Item)) (to : List Item) → o ≡ Some to → landing (sought.case n) o rest ≡ Some to
-      landed n rest o to is = ap (λ o. landing (sought.case n) o rest) is
-  lands sought.other rest is = by (found u sought.other statement rest)
-    where
-      by : (o : Option (List Item)) → IsThere (landing sought.other o rest)
-      by None = (past_loop rest, refl)
-      by (Some to) = (to, refl)
 
 -- wherever a label leads, items lead to what is left
 landed : (u : UnitView) (f : FunctionView) (called : Option Bool) (labels : List CaseLabel) (statement : StatementTree) (l : Sought) (rest : List Item) (left : List Mark) → Selects u f labels statement rest → Does u f called rest [] left → IfSome (λ to. Does u f called to [] left) (landing l (found u l statement rest) rest)
@@ -101,7 +72,7 @@ module _ (u : UnitView) (at : Place) (o : Option NamedObject) (labels : List Cas
         let called : Option Bool = called_by s.frames in
         let selects : Selects u f labels statement s.control = r.goes.does.1.0 in
         let to : IsThere (landing l (found u l statement s.control) s.control) = lands u labels statement selects.cases l s.control is in
-        let rest : Does u f called s.control [] r.left = does_from u f called s.control [] r.goes.does.0 r.left (sym r.goes.does.1.2) r.goes.does.2 in
+        let rest : Does u f called s.control [] r.left = does_from (marks u f called) s.control [] r.goes.does.0 r.left (sym r.goes.does.1.2) r.goes.does.2 in
         let reached : Does u f called to.0 [] r.left = such_some (λ to. Does u f called to [] r.left) (landing l (found u l statement s.control) s.control) to.0 to.1 (landed u f called labels statement l s.control r.left selects rest) in
         comes_at (RunsOn u) (record s { values = others ++ r.rest; world = w }) (landing l (found u l statement s.control) s.control) to.0 _ to.1 (renewed u (item.Select at o labels statement ∷ s.control) s r s.names (leap_in s.control to.0) (others ++ r.rest) w evolves (room_kept u s.world.memory w.memory evolves.grows f s.names r.goes.room) (record {
           marks = [];

@@ -27,7 +27,7 @@ use Rattle.source_items.specs.Returns.StandingJumps.{UnitJumpsStand}
 use Rattle.source_items.specs.StackKinds.KindedItems.{called_by}
 use Rattle.source_items.specs.Liveness.Lives.{lives}
 use Rattle.source_items.specs.Liveness.Livings.{Sits, Living}
-use Rattle.source_preservation.specs.ValueTyping.Marks.{Mark, Ranged, Exactly, Pointing, Naming, Null, Loaded, Converted, Tested, mark_of, Has}
+use Rattle.source_preservation.specs.ValueTyping.Marks.{Mark, Ranged, Exactly, Pointing, mark_of, Has}
 use Rattle.source_preservation.specs.ValueTyping.MarkOperations as stores
 use Rattle.source_preservation.specs.ValueTyping.ProperMemory.{Evolves}
 use Rattle.source_preservation.specs.ValueTyping.MarkLaws.{Comes, Leaves, OperationsKeepMarks, LinesKeepMarks}
@@ -36,7 +36,8 @@ use Rattle.source_preservation.specs.WellTyped.WellTypedStatements.{WellTypedUni
 use Rattle.source_preservation.specs.WellTyped.WellTypedItems.{left_marks, Does}
 use Rattle.source_preservation.specs.WellTyped.WellTypedStates.{Runs}
 use Rattle.source_preservation.specs.SmallSteps.KeptMarks.{RunsOn, TurnsKeepMarks}
-use Rattle.source_preservation.proofs.items.Leading.{Through, does_from}
+use Rattle.source_items.proofs.stack_kinds.ItemWalks.{Through, does_from}
+use Rattle.source_preservation.proofs.items.Leading.{marks}
 use Rattle.source_preservation.proofs.items.LeadingTerms.{value_leads, unused_leads, address_leads}
 use Rattle.source_preservation.proofs.items.LeadingStatements.{while_through, do_through, for_through, statement_through}
 use Rattle.source_preservation.proofs.items.Loops.{does_behind_loop, does_behind_turn}
@@ -67,12 +68,7 @@ record Before (u : UnitView) (i : Item) (s : State) : Type 0 where
 constant_has : (u : UnitView) (s : State) (b : Bool) (mark : Mark) → stores.IsConstant (stores.number_of_truth b) mark → Has u.model s.names s.world.memory mark (truth b)
 constant_has u s b (Ranged kind) is = is
 constant_has u s b (Exactly k) is = sym is
-constant_has u s b Pointing is = absurd is
-constant_has u s b (Naming o) is = absurd is
-constant_has u s b Null is = absurd is
-constant_has u s b (Loaded o) is = absurd is
-constant_has u s b (Converted o kind) is = absurd is
-constant_has u s b (Tested test) is = absurd is
+constant_has u s b other is = absurd is
 
 module _ (u : UnitView) where
   -- ---- values
@@ -115,7 +111,7 @@ module _ (u : UnitView) where
 
   -- no value is pending, and other items lead to what the function leaves
   moved : (items : List Item) (s : State) (r : RunsBy u items s) (others : List Item) → r.marks ≡ [] → Does u r.goes.function (called_by s.frames) others [] r.left → RunsBy u others s
-  moved items s r others none does = instead_of u items s r others (does_from u r.goes.function (called_by s.frames) others r.marks [] r.left none does)
+  moved items s r others none does = instead_of u items s r others (does_from (marks u r.goes.function (called_by s.frames)) others r.marks [] r.left none does)
 
   ended : (items : List Item) (s : State) (r : RunsBy u items s) (others : List Item) → r.marks ≡ [] → Does u r.goes.function (called_by s.frames) others [] (left_marks r.goes.function (called_by s.frames)) → RunsBy u others s
   ended items s r others none does = moved items s r others none (subst (λ ks. Does u r.goes.function (called_by s.frames) others [] ks) (sym r.goes.leaves) does)
@@ -144,7 +140,7 @@ module _ (u : UnitView) where
 
     acts : (i : Item) (s : State) → Before u i s → Comes (RunsOn u) (act u i s).reply
     acts (item.Value e) s b = let r = b.runs in expanded u (item.Value e) s r (term_items u true e) (value_leads u r.goes.function (called_by s.frames) e r.marks r.goes.does.0 r.goes.does.1 s.control)
-    acts (item.Unused e) s b = let r = b.runs in expanded u (item.Unused e) s r (term_items u false e) (subst (λ ks. Through u r.goes.function (called_by s.frames) (term_items u false e) s.control r.marks ks) (sym r.goes.does.1.2) (unused_leads u r.goes.function (called_by s.frames) e r.marks r.goes.does.1.0 r.goes.does.1.1 s.control))
+    acts (item.Unused e) s b = let r = b.runs in expanded u (item.Unused e) s r (term_items u false e) (subst (λ ks. Through (marks u r.goes.function (called_by s.frames)) (term_items u false e) s.control r.marks ks) (sym r.goes.does.1.2) (unused_leads u r.goes.function (called_by s.frames) e r.marks r.goes.does.1.0 r.goes.does.1.1 s.control))
     acts (item.Address l) s b = let r = b.runs in expanded u (item.Address l) s r (address_items u l) (address_leads u r.goes.function (called_by s.frames) l r.marks r.goes.does.0 r.goes.does.1 s.control)
     acts (item.Do at operation) s b = operating laws.operations at operation s b.runs
     acts (item.Truth holds) s b = let r = b.runs in changes.pushing u (item.Truth holds) s r r.goes.does.1.0 (truth holds) (constant_has u s holds r.goes.does.1.0 r.goes.does.1.1) r.goes.does.1.2

@@ -128,7 +128,6 @@ module _ (f : FunctionView) where
   mutual
     statement : (alive : Lives) (list : List ℕ) (i : StatementTree) → IsList alive list → is_scoped_statement f list i ≡ true → ScopedStatement f alive i
     statement alive list (tree.Value e) same h = term alive list same e h
-    statement alive list tree.Nothing same h = tt
     statement alive list (tree.Forget at local) same h = lives alive list same local h
     statement alive list (tree.Start at local e) same h = both (is_in local list) (is_scoped_term list e) (lives alive list same local) (term alive list same e) h
     statement alive list (tree.StartCopy at local l) same h = both (is_in local list) (is_scoped_place list l) (lives alive list same local) (place alive list same l) h
@@ -148,10 +147,8 @@ module _ (f : FunctionView) where
     statement alive list (tree.Case n body) same h = statement alive list body same h
     statement alive list (tree.Default body) same h = statement alive list body same h
     statement alive list (tree.Label n body) same h = statement alive list body same h
-    statement alive list (tree.Goto n) same h = tt
-    statement alive list tree.Break same h = tt
-    statement alive list tree.Continue same h = tt
     statement alive list (tree.Return at e) same h = returned alive list same f e h
+    statement alive list other same h = tt
 
     statements : (alive : Lives) (list : List ℕ) (items : StatementTrees) → IsList alive list → are_scoped_statements f list items ≡ true → ScopedStatements f alive items
     statements alive list tree.NoMore same h = tt

@@ -21,7 +21,7 @@ use Rattle.memory_model.specs.Effects.LibraryChecks.{most_size}
 use Rattle.semantics.specs.SourceMachine.LabelSearch.{from_label}
 use Rattle.source_items.specs.StackKinds.KindedTerms.{IsThere}
 use Rattle.source_items.specs.StackKinds.KindedStatements.{HasCases}
-use Rattle.source_preservation.specs.ValueTyping.Marks.{Mark, Ranged, Exactly, Pointing, Naming, Null, Loaded, Converted, Tested}
+use Rattle.source_preservation.specs.ValueTyping.Marks.{Mark, Loaded, Converted}
 use Rattle.source_preservation.specs.ValueTyping.MarkOperations.{IsKind, IsWider}
 use Rattle.source_preservation.specs.WellTyped.WellTypedTerms.{SideTerm}
 use Rattle.source_preservation.specs.WellTyped.WellTypedStatements.{WellTypedIf, WellTypedStep, Matches, SelectsBy, AreBytes, WellTypedStore, WellTypedStores, WellTypedReturn, WellTypedStatement, WellTypedStatements}
@@ -59,12 +59,7 @@ module _ (u : UnitView) where
   matched : (o : NamedObject) (mark : Mark) → matches u o (Some mark) ≡ true → Matches u o mark
   matched o (Loaded p) h = both (same_object p o) (is_of_kind u o.kind) (object_is p o) (of_kind o.kind) h
   matched o (Converted p wide) h = both (same_object p o) (is_within u wide o.kind) (object_is p o) (within wide o.kind) h
-  matched o (Ranged kind) h = never h
-  matched o (Exactly n) h = never h
-  matched o Pointing h = never h
-  matched o (Naming p) h = never h
-  matched o Null h = never h
-  matched o (Tested test) h = never h
+  matched o other h = never h
 
   selected : (e : TermTree) (o : Option NamedObject) → selects_by u e o ≡ true → SelectsBy u e o
   selected e None h = both (is_well_typed_term u true e) (is_integer (term_type e)) (well_typed u true e) (integer (term_type e)) h
@@ -105,8 +100,6 @@ module _ (u : UnitView) where
     mutual
       statement : (breaks loops : Bool) (i : StatementTree) → is_regular_statement u f breaks loops i ≡ true → AreSelectedOnce i → is_well_typed_statement u f i ≡ true → WellTypedStatement u f i
       statement breaks loops (tree.Value e) is once h = well_typed u false e h
-      statement breaks loops tree.Nothing is once h = tt
-      statement breaks loops (tree.Forget at local) is once h = tt
       statement breaks loops (tree.Start at local e) is once h = both (is_well_typed_term u true e) (is_scalar_type u (term_type e)) (well_typed u true e) (scalar_type u (term_type e)) h
       statement breaks loops (tree.StartCopy at local l) is once h = placed u l h
       statement breaks loops (tree.StartList at local xs) is once h = stores xs h
@@ -138,9 +131,8 @@ module _ (u : UnitView) where
       statement breaks loops (tree.Default body) is once h = statement breaks loops body is once h
       statement breaks loops (tree.Label n body) is once h = statement breaks loops body is once h
       statement breaks loops (tree.Goto n) is once h = there n (ltb-true n f.labels is)
-      statement breaks loops tree.Break is once h = tt
-      statement breaks loops tree.Continue is once h = tt
       statement breaks loops (tree.Return at e) is once h = returned f e h
+      statement breaks loops other is once h = tt
 
       pub statements : (breaks loops : Bool) (items : StatementTrees) → are_regular_statements u f breaks loops items ≡ true → AllSelectedOnce items → are_well_typed_statements u f items ≡ true → WellTypedStatements u f items
       statements breaks loops tree.NoMore is once h = tt

@@ -48,13 +48,8 @@ module _ (laws : Laws) (u : UnitView) (f : FunctionView) (called : Option Bool) 
   such s i b ks is = subst (λ ks. AreOf (ks ++ b.below) s.values) is b.are
 
   acts : (i : Item) (s : State) → At i s → is_open s.values i ≡ false → NotStuck (act u i s).reply
-  acts (item.Value e) s b shut = tt
-  acts (item.Unused e) s b shut = tt
-  acts (item.Address l) s b shut = tt
   acts (item.Do at operation) s b shut = steps_behind (perform u operation s.values s.world) _ (operation_steps u s.world laws.operations operation b.before b.after b.below s.values shut b.effect b.are) (λ vs w. tt)
-  acts (item.Truth holds) s b shut = tt
   acts item.Again s b shut = again_steps s b.effect.0 (b.effect.1 ++ b.below) s.values (such s item.Again b (b.effect.0 ∷ b.effect.1) b.effect.2)
-  acts item.Drop s b shut = tt
   acts (item.Object at o offset) s b shut = point_steps u s f b.is (lives f first s.control) b.named o offset b.effect.0 b.sits
   acts (item.Literal at n) s b shut = literal_steps u s n b.effect.0
   acts (item.Outcome at) s b shut = outcome_steps u s f b.is (lives f first s.control) b.named b.sits
@@ -62,20 +57,11 @@ module _ (laws : Laws) (u : UnitView) (f : FunctionView) (called : Option Bool) 
   acts (item.Choose at None held failed) s b shut = choose_steps u s held failed b.effect.0 (b.effect.1 ++ b.below) s.values (such s (item.Choose at None held failed) b (b.effect.0 ∷ b.effect.1) b.effect.2)
   acts (item.Choose at (Some test) held failed) s b shut = absurd (apart shut)
   acts (item.ReadLine at none some) s b shut = line_steps u s laws.lines none some (b.effect.0 ++ b.below) s.values (such s (item.ReadLine at none some) b (Address ∷ (Number ∷ (Address ∷ b.effect.0))) b.effect.1)
-  acts (item.Statement statement) s b shut = tt
-  acts (item.WhileIteration c statement) s b shut = tt
-  acts (item.DoIteration statement c) s b shut = tt
-  acts (item.ForIteration c clause statement) s b shut = tt
-  acts item.IterationEnd s b shut = tt
-  acts item.LoopEnd s b shut = tt
   acts (item.Select at None labels statement) s b shut = select_steps u labels statement b.effect.0.cases s b.below s.values (such s (item.Select at None labels statement) b (Number ∷ []) b.effect.1)
   acts (item.Select at (Some o) labels statement) s b shut = absurd (apart shut)
   acts (item.Enters objects) s b shut = enter_steps u s f b.is (lives f first s.control) objects b.named
   acts (item.Leaves objects) s b shut = leave_steps u s f b.is (lives f first s.control) objects b.named
-  acts item.Hop s b shut = tt
   acts (item.GoTo n) s b shut = in_function u s f b.is _ (step_there s (from_label u f n) _ b.effect.0 (λ to. tt))
-  acts item.BreakOut s b shut = tt
-  acts item.NextIteration s b shut = tt
   acts item.LeaveFunction s b shut = in_function u s f b.is _ tt
   acts item.EndBody s b shut = in_function u s f b.is _ tt
   acts (item.Invoke at g count used) s b shut = step_there s (function_at u g) _ (b.effect.function, b.effect.is) (λ called. tt)
@@ -84,6 +70,7 @@ module _ (laws : Laws) (u : UnitView) (f : FunctionView) (called : Option Bool) 
     where
       left : (n : ℕ) → with_those (n ∷ []) (lives f first s.control) n ≡ true
       left n = first_left n [] (lives f first s.control)
+  acts other s b shut = tt
 
 -- ---- turns
 

@@ -17,7 +17,8 @@ use Rattle.source_items.specs.StackKinds.KindedTerms.{local_kind}
 use Rattle.source_items.specs.StackKinds.KindedStatements.{KindedFunction}
 use Rattle.source_items.specs.StackKinds.KindedItems.{called_by, left_kinds, parameter_kinds, Does}
 use Rattle.source_items.specs.StackKinds.KindedStates.{Runs}
-use Rattle.source_items.proofs.stack_kinds.Leading.{Through, Leads, through_both, through_does}
+use Rattle.source_items.proofs.stack_kinds.ItemWalks.{Through, Leads, through_both, through_does}
+use Rattle.source_items.proofs.stack_kinds.Leading.{kinds}
 use Rattle.source_items.proofs.stack_kinds.Labels.{body_does}
 
 none_less : {A : Type 0} (n : ℕ) → zero ≡ suc n → A
@@ -36,7 +37,7 @@ parameter_at f n (suc depth) (suc m) is =
 module _ (u : UnitView) (f : FunctionView) (called : Option Bool) where
   -- ---- calls
 
-  bound_through : (count first n : ℕ) (rest : List Item) → first + n ≡ count → Through u f called (bind_all f count (numbers_from first n)) rest (parameter_kinds f count) (parameter_kinds f count)
+  bound_through : (count first n : ℕ) (rest : List Item) → first + n ≡ count → Through (kinds u f called) (bind_all f count (numbers_from first n)) rest (parameter_kinds f count) (parameter_kinds f count)
   bound_through count first zero rest is = refl
   bound_through count first (suc n) rest is =
       let ks : List Kind = parameter_kinds f count in
@@ -44,7 +45,7 @@ module _ (u : UnitView) (f : FunctionView) (called : Option Bool) where
       let far : count ≡ suc (first + (count - suc first)) = omega arith in
       (Address ∷ ks, (tt, refl), (ks, (refl, parameter_at f first (count - suc first) count far), bound_through count (first + 1) n rest next))
 
-  dropped_through : (count : ℕ) (rest : List Item) → Through u f called (replicate count item.Drop) rest (parameter_kinds f count) []
+  dropped_through : (count : ℕ) (rest : List Item) → Through (kinds u f called) (replicate count item.Drop) rest (parameter_kinds f count) []
   dropped_through zero rest = refl
   dropped_through (suc count) rest = (parameter_kinds f count, (local_kind f count, refl), dropped_through count rest)
 
@@ -54,8 +55,8 @@ module _ (u : UnitView) (f : FunctionView) (called : Option Bool) where
       let bound : List Item = bind_all f count (numbers_from 0 f.parameters) in
       let drops : List Item = replicate count item.Drop in
       let all : 0 + f.parameters ≡ count = omega arith in
-      let through : Through u f called (bound ++ drops) (body f) ks [] = through_both u f called bound drops (body f) ks ks [] (bound_through count 0 f.parameters (drops ++ body f) all) (dropped_through count (body f)) in
-      (ks, refl, through_does u f called (bound ++ drops) (body f) ks [] (left_kinds f called) through (body_does u f called kinded jumps))
+      let through : Through (kinds u f called) (bound ++ drops) (body f) ks [] = through_both (kinds u f called) bound drops (body f) ks ks [] (bound_through count 0 f.parameters (drops ++ body f) all) (dropped_through count (body f)) in
+      (ks, refl, through_does (kinds u f called) (bound ++ drops) (body f) ks [] (left_kinds f called) through (body_does u f called kinded jumps))
 
 -- ---- returns
 
@@ -74,9 +75,9 @@ epilogue_does u f caller = by (is_void f.returns) refl
     by false is = loaded caller.used is
 
 -- what is behind the body of a function leads to what the function leaves
-pub behind_does : (u : UnitView) (f : FunctionView) (hop : List Item) → ((called : Option Bool) → Leads u f called hop [] []) → (frames : List Frame) → Does u f (called_by frames) (behind_body f hop frames) [] (left_kinds f (called_by frames))
+pub behind_does : (u : UnitView) (f : FunctionView) (hop : List Item) → ((called : Option Bool) → Leads (kinds u f called) hop [] []) → (frames : List Frame) → Does u f (called_by frames) (behind_body f hop frames) [] (left_kinds f (called_by frames))
 behind_does u f hop leads [] = refl
-behind_does u f hop leads (c ∷ cs) = ([], refl, through_does u f (Some c.used) hop (epilogue f c) [] [] (left_kinds f (Some c.used)) (leads (Some c.used) (epilogue f c)) (epilogue_does u f c))
+behind_does u f hop leads (c ∷ cs) = ([], refl, through_does (kinds u f (Some c.used)) hop (epilogue f c) [] [] (left_kinds f (Some c.used)) (leads (Some c.used) (epilogue f c)) (epilogue_does u f c))
 
 -- ---- functions that wait
 

@@ -8,7 +8,8 @@ use Rattle.semantics.specs.SourceMachine.SourceStates.{Frame, function_at}
 use Rattle.source_items.specs.Operations.Kinds.{Kind, IsOf, AreOf}
 use Rattle.source_items.specs.StackKinds.KindedItems.{called_by, left_kinds, AtRest, Does}
 use Rattle.source_items.specs.StackKinds.KindedStates.{Runs}
-use Rattle.source_items.proofs.stack_kinds.Leading.{Through}
+use Rattle.source_items.proofs.stack_kinds.ItemWalks.{Through}
+use Rattle.source_items.proofs.stack_kinds.Leading.{kinds}
 
 -- a function goes on from kinds that its values have
 pub record Reaches (u : UnitView) (f : FunctionView) (called : Option Bool) (items : List Item) (left below : List Kind) (values : List Scalar) : Type 0 where
@@ -39,8 +40,8 @@ module _ (u : UnitView) where
   instead_of g items others frames values how r = revalued g items others frames values values (λ f is ks left below leaves does are. record { kinds = ks; does = how f is ks left leaves does; are = are }) r
 
   module _ (f : FunctionView) (called : Option Bool) where
-    pub resting : (items rest : List Item) (ks mid : List Kind) → AtRest ks mid → Through u f called items rest [] [] → Through u f called items rest ks mid
-    resting items rest ks mid rests through = subst (λ xs. Through u f called items rest xs mid) (sym rests.0) (subst (λ xs. Through u f called items rest [] xs) (sym rests.1) through)
+    pub resting : (items rest : List Item) (ks mid : List Kind) → AtRest ks mid → Through (kinds u f called) items rest [] [] → Through (kinds u f called) items rest ks mid
+    resting items rest ks mid rests through = subst (λ xs. Through (kinds u f called) items rest xs mid) (sym rests.0) (subst (λ xs. Through (kinds u f called) items rest [] xs) (sym rests.1) through)
 
     -- ---- jumps
 

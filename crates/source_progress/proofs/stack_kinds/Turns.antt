@@ -14,23 +14,22 @@ use Rattle.lower_conditions.specs.declared.branch_tests.NamedObject.{NamedObject
 use Rattle.lower_functions.specs.Functions.Functions.{local_type}
 use Rattle.memory_model.specs.Memory.Scalars.{Scalar, is_false}
 use Rattle.memory_model.specs.Effects.IntegerEffects.{truth}
-use Rattle.memory_model.specs.Effects.Worlds.{World, Reply, unviolated}
+use Rattle.memory_model.specs.Effects.Worlds.{unviolated}
 use Rattle.memory_model.specs.Effects.Accesses.{store}
 use Rattle.memory_model.specs.Effects.LibraryCalls.{fgets}
-use Rattle.memory_model.specs.Effects.Tests.{TestedSide}
 use Rattle.semantics.specs.SourceMachine.Operations.{Operation, perform}
 use Rattle.semantics.specs.SourceMachine.Items as item
-use Rattle.semantics.specs.SourceMachine.Items.{NamedSide, NamedTest, Item, Items, listed, Change}
+use Rattle.semantics.specs.SourceMachine.Items.{NamedTest, Item, Items, listed, Change}
 use Rattle.semantics.specs.SourceMachine.TermItems.{address_items}
 use Rattle.semantics.specs.SourceMachine.ConditionItems.{term_items}
 use Rattle.semantics.specs.SourceMachine.StatementItems.{of_statement, while_iteration, do_iteration, for_iteration, body}
 use Rattle.semantics.specs.SourceMachine.Scopes.{all_of, open_scopes, jump, leap_in, past_loop, past_iteration}
 use Rattle.semantics.specs.SourceMachine.LabelSearch as sought
 use Rattle.semantics.specs.SourceMachine.LabelSearch.{Sought, found, from_label, case_of}
-use Rattle.semantics.specs.SourceMachine.SourceStates.{Frame, State, with_world, first_do, pushed, function_at, result_object, type_of, instance_of}
+use Rattle.semantics.specs.SourceMachine.SourceStates.{Frame, State, first_do, pushed, function_at, result_object, type_of, instance_of}
 use Rattle.semantics.specs.SourceMachine.ObjectSteps.{point_to, point_to_literal, point_to_outcome, enter_if}
 use Rattle.semantics.specs.SourceMachine.ObjectSteps as objects
-use Rattle.semantics.specs.SourceMachine.BranchSteps.{in_world, with_side, testing, choose_by, choose, read_line, matching, on_case, landing, select_label, select}
+use Rattle.semantics.specs.SourceMachine.BranchSteps.{testing, choose_by, choose, read_line, on_case, landing, select_label, select}
 use Rattle.semantics.specs.SourceMachine.CallSteps.{prologue, waiting, behind_body, invoke, bind_value, bind_parameter, leave_function, end_body, leave_outcome}
 use Rattle.semantics.specs.SourceMachine.SourceSteps.{is_entry, operate, again, enter_all, leave_all, go_to, act, return_to, turn_by, turn}
 use Rattle.source_items.specs.Operations.Kinds.{Kind, Number, Address, IsOf, AreOf}
@@ -41,12 +40,14 @@ use Rattle.source_items.specs.StackKinds.KindedStatements.{KindedUnit}
 use Rattle.source_items.specs.StackKinds.KindedItems.{called_by, left_kinds, parameter_kinds, Invokes, Selects, AtRest, Effect, AllDo, Does}
 use Rattle.source_items.specs.StackKinds.KindedStates.{Runs, HasKinds}
 use Rattle.source_items.proofs.stack_kinds.Loops.{does_behind_loop, does_behind_turn}
-use Rattle.source_items.proofs.stack_kinds.Leading.{Through, does_from, through_does, listed_does}
-use Rattle.source_items.proofs.stack_kinds.LeadingConditions.{IfSome}
+use Rattle.source_items.proofs.stack_kinds.ItemWalks.{Through, does_from, through_does, listed_does}
+use Rattle.source_items.proofs.stack_kinds.Leading.{kinds}
+use Rattle.source_items.proofs.stack_kinds.FoundItems.{IfSome, some_map}
 use Rattle.source_items.proofs.stack_kinds.LeadingTerms.{address_leads, term_leads}
 use Rattle.source_items.proofs.stack_kinds.LeadingStatements.{while_through, do_through, for_through, statement_through}
 use Rattle.source_items.proofs.stack_kinds.Labels.{found_does, label_does}
-use Rattle.source_progress.proofs.stack_kinds.Replies.{some_map, goes_behind, goes_on, goes_if_some, goes_if_such, goes_if_known, goes_with_number}
+use Rattle.source_items.proofs.returns.TestReplies.{test_goes, case_goes}
+use Rattle.source_items.proofs.returns.Replies.{goes_behind, goes_on, goes_if_some, goes_if_such, goes_if_known, goes_with_number}
 use Rattle.source_progress.proofs.stack_kinds.Changes.{newest_of, one_less, revalued, instead_of, resting, jumped, leapt}
 use Rattle.source_progress.proofs.stack_kinds.Calls.{prologue_does, behind_does, back}
 
@@ -64,13 +65,13 @@ Follows u i rest P = (f : FunctionView) (called : Option Bool) (ks mid : List Ki
 module _ (u : UnitView) where
   -- ---- one item with others in its place
 
-  expanded : (s : State) (i : Item) (items : List Item) → Follows u i s.control (λ f called ks mid. Through u f called items s.control ks mid) → RunsAt u i s → RunsBy u (items ++ s.control) s
-  expanded s i items how r = instead_of u s.function (i ∷ s.control) (items ++ s.control) s.frames s.values (λ f is ks left leaves does. through_does u f (called_by s.frames) items s.control ks does.0 left (how f (called_by s.frames) ks does.0 does.1) does.2) r
+  expanded : (s : State) (i : Item) (items : List Item) → Follows u i s.control (λ f called ks mid. Through (kinds u f called) items s.control ks mid) → RunsAt u i s → RunsBy u (items ++ s.control) s
+  expanded s i items how r = instead_of u s.function (i ∷ s.control) (items ++ s.control) s.frames s.values (λ f is ks left leaves does. through_does (kinds u f (called_by s.frames)) items s.control ks does.0 left (how f (called_by s.frames) ks does.0 does.1) does.2) r
 
   passed : (s : State) (i : Item) → Follows u i s.control (λ f called ks mid. ks ≡ mid) → RunsAt u i s → HasKinds u s
   passed s i same r = expanded s i [] same r
 
-  rested : (s : State) (i : Item) (items : List Item) → Follows u i s.control (λ f called ks mid. AtRest ks mid × Through u f called items s.control [] []) → RunsAt u i s → RunsBy u (items ++ s.control) s
+  rested : (s : State) (i : Item) (items : List Item) → Follows u i s.control (λ f called ks mid. AtRest ks mid × Through (kinds u f called) items s.control [] []) → RunsAt u i s → RunsBy u (items ++ s.control) s
   rested s i items how r = expanded s i items (λ f called ks mid e. resting u f called items s.control ks mid (how f called ks mid e).0 (how f called ks mid e).1) r
 
   -- ---- values and objects
@@ -78,7 +79,7 @@ module _ (u : UnitView) where
   pushing : (s : State) (i : Item) (k : Kind) (v : Scalar) → IsOf k v → Follows u i s.control (λ f called ks mid. mid ≡ k ∷ ks) → RunsAt u i s → HasKinds u (pushed v s)
   pushing s i k v is_of same r = revalued u s.function (i ∷ s.control) s.control s.frames s.values (v ∷ s.values) (λ f is ks left below leaves does are. record {
     kinds = k ∷ ks;
-    does = does_from u f (called_by s.frames) s.control (k ∷ ks) does.0 left (sym (same f (called_by s.frames) ks does.0 does.1)) does.2;
+    does = does_from (kinds u f (called_by s.frames)) s.control (k ∷ ks) does.0 left (sym (same f (called_by s.frames) ks does.0 does.1)) does.2;
     are = (is_of, are);
   }) r
 
@@ -86,7 +87,7 @@ module _ (u : UnitView) where
   again_goes s [] r = tt
   again_goes s (v ∷ vs) r = revalued u s.function (item.Again ∷ s.control) s.control s.frames (v ∷ vs) (v ∷ (v ∷ vs)) (λ f is ks left below leaves does are. record {
     kinds = does.1.0 ∷ ks;
-    does = does_from u f (called_by s.frames) s.control (does.1.0 ∷ ks) does.0 left (sym does.1.3) does.2;
+    does = does_from (kinds u f (called_by s.frames)) s.control (does.1.0 ∷ ks) does.0 left (sym does.1.3) does.2;
     are = ((newest_of ks does.1.0 does.1.1 below v vs does.1.2 are).0, are);
   }) r
 
@@ -106,22 +107,22 @@ module _ (u : UnitView) where
       })
 
   pointing : (s : State) (i : Item) (o : ObjectRef) (offset : ℕ) → Follows u i s.control (λ f called ks mid. mid ≡ Address ∷ ks) → RunsAt u i s → IfGoes (HasKinds u) (point_to u s o offset)
-  pointing s i o offset same r = goes_if_some (HasKinds u) s (type_of u s o) _ (λ t. goes_if_some (HasKinds u) s (instance_of s.names o) _ (λ n. pushing s i Address _ tt same r))
+  pointing s i o offset same r = goes_if_some (HasKinds u) s (type_of u s o) _ (λ t is. goes_if_some (HasKinds u) s (instance_of s.names o) _ (λ n is. pushing s i Address _ tt same r))
 
   pointing_to_literal : (at : Place) (s : State) (n : ℕ) → RunsAt u (item.Literal at n) s → IfGoes (HasKinds u) (point_to_literal u s n)
-  pointing_to_literal at s n r = goes_if_some (HasKinds u) s (slice_get u.literals n) _ (λ l. pushing s (item.Literal at n) Address _ tt (λ f called ks mid e. e.1) r)
+  pointing_to_literal at s n r = goes_if_some (HasKinds u) s (slice_get u.literals n) _ (λ l is. pushing s (item.Literal at n) Address _ tt (λ f called ks mid e. e.1) r)
 
   pointing_to_outcome : (at : Place) (s : State) → RunsAt u (item.Outcome at) s → IfGoes (HasKinds u) (point_to_outcome u s)
-  pointing_to_outcome at s r = goes_if_some (HasKinds u) s (function_at u s.function) _ (λ f. pointing s (item.Outcome at) (Local (result_object f)) 0 (λ f called ks mid e. e.1) r)
+  pointing_to_outcome at s r = goes_if_some (HasKinds u) s (function_at u s.function) _ (λ f is. pointing s (item.Outcome at) (Local (result_object f)) 0 (λ f called ks mid e. e.1) r)
 
   changing : (at : Place) (s : State) (n : ℕ) (how : Change) → RunsAt u (item.OnObject at n how) s → IfGoes (HasKinds u) (objects.change s n how)
-  changing at s n how r = goes_if_some (HasKinds u) s (s.names n) _ (λ i. passed s (item.OnObject at n how) (λ f called ks mid e. sym e) r)
+  changing at s n how r = goes_if_some (HasKinds u) s (s.names n) _ (λ i is. passed s (item.OnObject at n how) (λ f called ks mid e. sym e) r)
 
   -- ---- lifetimes
 
   entering_if : (s : State) (n : ℕ) (ns : List ℕ) (o : Option ℕ) → RunsAt u (item.Enters (n ∷ ns)) s → IfGoes (HasKinds u) (enter_if u (first_do (item.Enters ns ∷ []) s) n o)
   entering_if s n ns (Some i) r = tt
-  entering_if s n ns None r = goes_if_some (HasKinds u) (first_do (item.Enters ns ∷ []) s) (function_at u s.function) _ (λ g. instead_of u s.function (item.Enters (n ∷ ns) ∷ s.control) (item.Enters ns ∷ s.control) s.frames s.values (λ f is ks left leaves does. does) r)
+  entering_if s n ns None r = goes_if_some (HasKinds u) (first_do (item.Enters ns ∷ []) s) (function_at u s.function) _ (λ g is. instead_of u s.function (item.Enters (n ∷ ns) ∷ s.control) (item.Enters ns ∷ s.control) s.frames s.values (λ f is ks left leaves does. does) r)
 
   entering : (s : State) (ns : List ℕ) → RunsAt u (item.Enters ns) s → IfGoes (HasKinds u) (enter_all u s ns).reply
   entering s [] r = passed s (item.Enters []) (λ f called ks mid e. sym e) r
@@ -129,33 +130,9 @@ module _ (u : UnitView) where
 
   leaving : (s : State) (ns : List ℕ) → RunsAt u (item.Leaves ns) s → IfGoes (HasKinds u) (leave_all u s ns).reply
   leaving s [] r = passed s (item.Leaves []) (λ f called ks mid e. sym e) r
-  leaving s (n ∷ ns) r = goes_if_some (HasKinds u) (first_do (item.Leaves ns ∷ []) s) (s.names n) _ (λ i. instead_of u s.function (item.Leaves (n ∷ ns) ∷ s.control) (item.Leaves ns ∷ s.control) s.frames s.values (λ f is ks left leaves does. does) r)
+  leaving s (n ∷ ns) r = goes_if_some (HasKinds u) (first_do (item.Leaves ns ∷ []) s) (s.names n) _ (λ i is. instead_of u s.function (item.Leaves (n ∷ ns) ∷ s.control) (item.Leaves ns ∷ s.control) s.frames s.values (λ f is ks left leaves does. does) r)
 
   -- ---- conditions
-
-  -- what does not speak of the world
-  module _ (Q : State → Type 0) (s : State) (holds : (w : World) → Q (with_world s w)) where
-    in_some_world : (reply : Reply (Unit {0})) → IfGoes Q (in_world s reply)
-    in_some_world reply = goes_on Q reply _ (λ x w. holds w)
-
-    with_some_side : (side : NamedSide) (use_it : TestedSide → Reply State) → ((t : TestedSide) → IfGoes Q (use_it t)) → IfGoes Q (with_side s side use_it)
-    with_some_side (item.named o) use_it h = goes_if_some Q s (instance_of s.names o.object) _ (λ i. h _)
-    with_some_side (item.number n) use_it h = h _
-    with_some_side item.nothing use_it h = h _
-
-    test_goes : (test : Option NamedTest) (held : Bool) → IfGoes Q (testing u s test held)
-    test_goes None held = holds s.world
-    test_goes (Some t) held = with_some_side t.left _ (λ left. with_some_side t.right _ (λ right. in_some_world _))
-
-    case_goes : (o : Option NamedObject) (l : Sought) (value : ℤ) → IfGoes Q (on_case u o l value s)
-    case_goes None l value = holds s.world
-    case_goes (Some o) (sought.label n) value = holds s.world
-    case_goes (Some o) sought.other value = holds s.world
-    case_goes (Some o) (sought.case n) value = by o.kind
-      where
-        by : (kind : declared.Scalar) → IfGoes Q (matching u s o kind value)
-        by (of.Int kind) = goes_if_some Q s (instance_of s.names o.object) _ (λ i. in_some_world _)
-        by of.Pointer = holds s.world
 
   -- items that are chosen by a value
   one_chosen : (g : ℕ) (i : Item) (items : Items) (rest : List Item) (frames : List Frame) (v : Scalar) (vs : List Scalar) → Follows u i rest (λ f called ks mid. (k : Kind) × (others : List Kind) × (ks ≡ k ∷ others) × AllDo u f called items rest others mid) → Runs u g (i ∷ rest) frames (v ∷ vs) → Runs u g (listed items ++ rest) frames vs
@@ -163,13 +140,13 @@ module _ (u : UnitView) where
       let taken = how f (called_by frames) ks does.0 does.1 in
       record {
         kinds = taken.1;
-        does = listed_does u f (called_by frames) items rest taken.1 does.0 left taken.3 does.2;
+        does = listed_does (kinds u f (called_by frames)) items rest taken.1 does.0 left taken.3 does.2;
         are = (newest_of ks taken.0 taken.1 below v vs taken.2 are).1;
       }) r
 
   chosen_by : (test : Option NamedTest) (held failed : Items) (s : State) (b : Bool) → HasKinds u (first_do (listed held) s) → HasKinds u (first_do (listed failed) s) → IfGoes (HasKinds u) (choose_by u test b held failed s)
-  chosen_by test held failed s true one other = goes_behind (HasKinds u) (λ t. HasKinds u (first_do (listed held) t)) (testing u s test true) _ (test_goes (λ t. HasKinds u (first_do (listed held) t)) s (λ w. one) test true) (λ t w r. r)
-  chosen_by test held failed s false one other = goes_behind (HasKinds u) (λ t. HasKinds u (first_do (listed failed) t)) (testing u s test false) _ (test_goes (λ t. HasKinds u (first_do (listed failed) t)) s (λ w. other) test false) (λ t w r. r)
+  chosen_by test held failed s true one other = goes_behind (HasKinds u) (λ t. HasKinds u (first_do (listed held) t)) (testing u s test true) _ (test_goes u (λ t. HasKinds u (first_do (listed held) t)) s (λ w. one) test true) (λ t w r. r)
+  chosen_by test held failed s false one other = goes_behind (HasKinds u) (λ t. HasKinds u (first_do (listed failed) t)) (testing u s test false) _ (test_goes u (λ t. HasKinds u (first_do (listed failed) t)) s (λ w. other) test false) (λ t w r. r)
 
   chosen : (at : Place) (test : Option NamedTest) (held failed : Items) (s : State) (vs : List Scalar) → Runs u s.function (item.Choose at test held failed ∷ s.control) s.frames vs → IfGoes (HasKinds u) (choose u test held failed s vs)
   chosen at test held failed s [] r = tt
@@ -184,7 +161,7 @@ module _ (u : UnitView) where
       let taken = how f (called_by frames) ks does.0 does.1 in
       record {
         kinds = taken.0;
-        does = listed_does u f (called_by frames) items rest taken.0 does.0 left taken.2 does.2;
+        does = listed_does (kinds u f (called_by frames)) items rest taken.0 does.0 left taken.2 does.2;
         are = (newest_of ks Address (Number ∷ (Address ∷ taken.0)) below stream (count ∷ (text ∷ vs)) taken.1 are).1.1.1;
       }) r
 
@@ -218,7 +195,7 @@ module _ (u : UnitView) where
     MayLand s = (l : Sought) → IfSome (λ to. RunsBy u (leap_in s.control to) s) (landing l (found u l statement s.control) s.control)
 
     may_land : (s : State) (v : Scalar) (vs : List Scalar) → Runs u s.function (item.Select at o labels statement ∷ s.control) s.frames (v ∷ vs) → MayLand (record s { values = vs })
-    may_land s v vs r l = some_map (λ to. Does u f called to [] r.left) (λ to. Runs u s.function (leap_in s.control to) s.frames vs) (landing l (found u l statement s.control) s.control) there (landed f called labels statement l s.control r.left does.1.0 (does_from u f called s.control [] does.0 r.left (sym does.1.2) does.2))
+    may_land s v vs r l = some_map (λ to. Does u f called to [] r.left) (λ to. Runs u s.function (leap_in s.control to) s.frames vs) (landing l (found u l statement s.control) s.control) there (landed f called labels statement l s.control r.left does.1.0 (does_from (kinds u f called) s.control [] does.0 r.left (sym does.1.2) does.2))
       where
         f : FunctionView
         f = r.goes.function
@@ -240,7 +217,7 @@ module _ (u : UnitView) where
         }
 
     matched : (l : Sought) (value : ℤ) (s : State) → MayLand s → IfGoes (HasKinds u) (select_label u o statement l value s)
-    matched l value s may = goes_behind (HasKinds u) MayLand (on_case u o l value s) _ (case_goes MayLand s (λ w. may) o l value) (λ t w may. goes_if_such (HasKinds u) (λ to. RunsBy u (leap_in t.control to) t) t (landing l (found u l statement t.control) t.control) _ (may l) (λ to r. r))
+    matched l value s may = goes_behind (HasKinds u) MayLand (on_case u o l value s) _ (case_goes u MayLand s (λ w. may) o l value) (λ t w may. goes_if_such (HasKinds u) (λ to. RunsBy u (leap_in t.control to) t) t (landing l (found u l statement t.control) t.control) _ (may l) (λ to r. r))
 
     selected : (s : State) (vs : List Scalar) → Runs u s.function (item.Select at o labels statement ∷ s.control) s.frames vs → IfGoes (HasKinds u) (select u o labels statement s vs)
     selected s [] r = tt
@@ -251,7 +228,7 @@ module _ (u : UnitView) where
   jumping : (s : State) (i : Item) (to : List Item) → ((f : FunctionView) (called : Option Bool) (ks mid left : List Kind) → Effect u f called i s.control ks mid → Does u f called s.control mid left → (ks ≡ []) × Does u f called to [] left) → RunsAt u i s → RunsBy u (jump s.control to) s
   jumping s i to how r = instead_of u s.function (i ∷ s.control) (jump s.control to) s.frames s.values (λ f is ks left leaves does.
       let there = how f (called_by s.frames) ks does.0 left does.1 does.2 in
-      does_from u f (called_by s.frames) (jump s.control to) ks [] left there.0 (jumped u f (called_by s.frames) s.control to left there.1)) r
+      does_from (kinds u f (called_by s.frames)) (jump s.control to) ks [] left there.0 (jumped u f (called_by s.frames) s.control to left there.1)) r
 
   module _ (kept : OperationsKeepKinds) (kinded : KindedUnit u) (stand : UnitJumpsStand u) where
     goes_to : (s : State) (n : ℕ) → RunsAt u (item.GoTo n) s → IfGoes (HasKinds u) (go_to u s n)
@@ -278,7 +255,7 @@ module _ (u : UnitView) where
           left = given;
           below = i.below ++ r.below;
           goes = record { function = i.function; is = i.is; leaves = refl; does = prologue_does u i.function (Some used) count i.counted (kinded.functions g i.function i.is) (stand g i.function i.is) };
-          wait = (i.below, r.left, r.below, refl, record { function = r.goes.function; is = r.goes.is; leaves = r.goes.leaves; does = does_from u r.goes.function (called_by s.frames) s.control (given ++ i.below) r.goes.does.0 r.left (sym i.given) r.goes.does.2 }, r.wait);
+          wait = (i.below, r.left, r.below, refl, record { function = r.goes.function; is = r.goes.is; leaves = r.goes.leaves; does = does_from (kinds u r.goes.function (called_by s.frames)) s.control (given ++ i.below) r.goes.does.0 r.left (sym i.given) r.goes.does.2 }, r.wait);
           are = subst (λ ks. AreOf ks s.values) (append_assoc (parameter_kinds i.function count) i.below r.below) (subst (λ ks. AreOf (ks ++ r.below) s.values) i.taken r.are);
         }
 
@@ -287,10 +264,10 @@ module _ (u : UnitView) where
 
     bound_value : (at : Place) (s : State) (f : FunctionView) (n depth : ℕ) (vs : List Scalar) → Runs u s.function (item.Bind at n depth ∷ s.control) s.frames vs → IfGoes (HasKinds u) (bind_value u s f n depth vs)
     bound_value at s f n depth [] r = tt
-    bound_value at s f n depth (p ∷ vs) r = goes_if_some (HasKinds u) s (slice_get vs depth) _ (λ v. goes_on (HasKinds u) (store u.model (scalar_of (local_type f n)) p v s.world) _ (λ x w. revalued u s.function (item.Bind at n depth ∷ s.control) s.control s.frames (p ∷ vs) vs (λ f is ks left below leaves does are. record { kinds = does.0; does = does.2; are = (newest_of ks Address does.0 below p vs does.1.0 are).1 }) r))
+    bound_value at s f n depth (p ∷ vs) r = goes_if_some (HasKinds u) s (slice_get vs depth) _ (λ v is. goes_on (HasKinds u) (store u.model (scalar_of (local_type f n)) p v s.world) _ (λ x w. revalued u s.function (item.Bind at n depth ∷ s.control) s.control s.frames (p ∷ vs) vs (λ f is ks left below leaves does are. record { kinds = does.0; does = does.2; are = (newest_of ks Address does.0 below p vs does.1.0 are).1 }) r))
 
     bound : (at : Place) (s : State) (n depth : ℕ) → RunsAt u (item.Bind at n depth) s → IfGoes (HasKinds u) (bind_parameter u s n depth)
-    bound at s n depth r = goes_if_some (HasKinds u) s (function_at u s.function) _ (λ f. bound_value at s f n depth s.values r)
+    bound at s n depth r = goes_if_some (HasKinds u) s (function_at u s.function) _ (λ f is. bound_value at s f n depth s.values r)
 
     -- the rest of a function is what is behind its body
     ended : (s : State) (i : Item) (others : List Item) → Follows u i s.control (λ f called ks mid. ks ≡ []) → (r : RunsAt u i s) → Does u r.goes.function (called_by s.frames) others [] (left_kinds r.goes.function (called_by s.frames)) → RunsBy u others s
@@ -318,14 +295,14 @@ module _ (u : UnitView) where
         goes_if_known (HasKinds u) s (function_at u s.function) f _ r.goes.is (ended s item.LeaveFunction (item.Leaves (all_of (open_scopes s.control)) ∷ others) (λ f called ks mid e. e.0) r ([], refl, behind_does u f (item.Hop ∷ []) (λ called rest. ([], refl, refl)) s.frames))
 
     outcome_left : (at : Place) (s : State) → RunsAt u (item.LeaveOutcome at) s → IfGoes (HasKinds u) (leave_outcome u s)
-    outcome_left at s r = goes_if_some (HasKinds u) s (function_at u s.function) _ (λ f. goes_if_some (HasKinds u) s (s.names (result_object f)) _ (λ i. passed s (item.LeaveOutcome at) (λ f called ks mid e. sym e) r))
+    outcome_left at s r = goes_if_some (HasKinds u) s (function_at u s.function) _ (λ f is. goes_if_some (HasKinds u) s (s.names (result_object f)) _ (λ i is. passed s (item.LeaveOutcome at) (λ f called ks mid e. sym e) r))
 
     -- ---- turns
 
     acts : (i : Item) (s : State) → RunsAt u i s → IfGoes (HasKinds u) (act u i s).reply
-    acts (item.Value e) s r = expanded s (item.Value e) (term_items u true e) (λ f called ks mid is. subst (λ ms. Through u f called (term_items u true e) s.control ks ms) (sym is.1) (term_leads u f called true e ks is.0 s.control)) r
-    acts (item.Unused e) s r = expanded s (item.Unused e) (term_items u false e) (λ f called ks mid is. subst (λ ms. Through u f called (term_items u false e) s.control ks ms) (sym is.1) (term_leads u f called false e ks is.0 s.control)) r
-    acts (item.Address l) s r = expanded s (item.Address l) (address_items u l) (λ f called ks mid is. subst (λ ms. Through u f called (address_items u l) s.control ks ms) (sym is.1) (address_leads u f called l ks is.0 s.control)) r
+    acts (item.Value e) s r = expanded s (item.Value e) (term_items u true e) (λ f called ks mid is. subst (λ ms. Through (kinds u f called) (term_items u true e) s.control ks ms) (sym is.1) (term_leads u f called true e ks is.0 s.control)) r
+    acts (item.Unused e) s r = expanded s (item.Unused e) (term_items u false e) (λ f called ks mid is. subst (λ ms. Through (kinds u f called) (term_items u false e) s.control ks ms) (sym is.1) (term_leads u f called false e ks is.0 s.control)) r
+    acts (item.Address l) s r = expanded s (item.Address l) (address_items u l) (λ f called ks mid is. subst (λ ms. Through (kinds u f called) (address_items u l) s.control ks ms) (sym is.1) (address_leads u f called l ks is.0 s.control)) r
     acts (item.Do at operation) s r = operating kept at operation s r
     acts (item.Truth b) s r = pushing s (item.Truth b) Number (truth b) tt (λ f called ks mid e. e) r
     acts item.Again s r = again_goes s s.values r

@@ -1,8 +1,8 @@
 -- Sizes and members.
-use Rattle.std.specs.Prelude.{◌≡◌, ℕ, zero, suc, ◌+◌, ◌-◌, ◌*◌, ◌^◌, ◌≤◌, ◌<◌, Bool, true, false, cond, nat_le, nat_lt, Option, List, [], ◌∷◌, ◌++◌, length, slice_get, get_or, refl}
+use Rattle.std.specs.Prelude.{◌≡◌, ℕ, zero, suc, ◌+◌, ◌-◌, ◌*◌, ◌^◌, ◌≤◌, ◌<◌, Bool, true, false, cond, nat_lt, Option, List, [], ◌∷◌, ◌++◌, length, slice_get, get_or, refl}
 use Rattle.std.specs.List.{list_all}
 use Rattle.std.proofs.Common.{arith, sym, ap, ◌∙◌}
-use Rattle.std.proofs.lemmas.Bool.{and_parts, leb-true, ltb-true, ltb-false}
+use Rattle.std.proofs.lemmas.Bool.{and_parts, ltb-true, ltb-false}
 use Rattle.std.proofs.lemmas.List.{length-append}
 use Rattle.std.proofs.lemmas.Nat.{mul-le}
 use Rattle.c_layout.specs.declared.data_model.Model.{Model}
@@ -11,12 +11,12 @@ use Rattle.c_layout.specs.Layout.{size_of_type}
 use Rattle.c_layout.specs.Leaves.{of_fields}
 use Rattle.c_layout.specs.StructViews.{FieldView, StructView}
 use Rattle.c_layout.specs.Types.{Ty, Int, Pointer, Array, Struct, Void}
-use Rattle.cfg.specs.BaseShapes.{ends_by}
 use Rattle.store_cells.specs.RowPositions.{capped}
 use Rattle.store_structs.specs.LeafCounts.{bytes_in}
 use Rattle.store_structs.specs.LeafNumbers.{count_of, member_with, at_element, found_at}
 use Rattle.store_structs.specs.LaidApart.{has_class_bytes, is_member_in, are_members_in}
 use Rattle.store_monotone.proofs.layouts.Extents.{member_leaf, all_members_as}
+use Rattle.store_monotone.proofs.tags.TypeTags.{member_is}
 use Rattle.struct_copies_sound.proofs.ordered_structs.RepeatedLeaves.{AreLeaves, left_of, right_of}
 
 -- what holds of all structs holds where there is none, if it holds of the empty one
@@ -33,18 +33,6 @@ no_larger n size = let a : 1 * size ≤ suc n * size = mul-le 1 size (suc n) siz
 
 module _ (structs : List StructView) (pointer : ℕ) where
   -- sizes in 64 bits are exact where they are small
-  pub same_size : (t : Ty) → bytes_in structs pointer t ≤ 2 ^ 30 → bytes_in structs pointer t ≡ size_of_type structs pointer t
-  same_size (Int k) h = refl
-  same_size (Pointer t) h = refl
-  same_size (Array t zero) h = omega arith
-  same_size (Array t (suc n)) h =
-      let a = no_larger n (bytes_in structs pointer t) in
-      let b = same_size t (omega (arith, a, h)) in
-      let c : suc n * bytes_in structs pointer t ≡ suc n * size_of_type structs pointer t = ap (λ z. suc n * z) b in
-      omega (arith, c, h)
-  same_size (Struct i) h = refl
-  same_size Void h = refl
-
   pub by_size : (t : Ty) → size_of_type structs pointer t ≤ 2 ^ 30 → bytes_in structs pointer t ≡ size_of_type structs pointer t
   by_size (Int k) h = refl
   by_size (Pointer t) h = refl
@@ -64,20 +52,6 @@ sum_of count [] = 0
 sum_of count (f ∷ fs) = count f.ctype + sum_of count fs
 
 module _ (m : Model) (structs : List StructView) (folded : Bool) (leaf : Ty → ℕ → ℕ → Option Leaf) (list : Ty → ℕ → List Leaf) (recorded : Ty → ℕ) (passes : Ty → Bool) (of_type : (t : Ty) → passes t ≡ true → has_class_bytes m t ≡ true → size_of_type structs m.pointer t ≤ 2 ^ 30 → AreLeaves (leaf t) (list t) (size_of_type structs m.pointer t) (recorded t) (count_of structs folded t)) where
-  record IsMember (room start : ℕ) (f : FieldView) : Type 0 where
-    kind : has_class_bytes m f.ctype ≡ true
-    from : start ≤ f.offset
-    to : f.offset + bytes_in structs m.pointer f.ctype ≤ room
-
-  member_is : (room from : ℕ) (f : FieldView) → is_member_in m structs room from f ≡ true → IsMember room from f
-  member_is room from f h =
-      let a = and_parts (has_class_bytes m f.ctype) _ h in
-      let b = and_parts (nat_le from f.offset) (ends_by f.offset (bytes_in structs m.pointer f.ctype) room) a.1 in
-      let c = and_parts (nat_le f.offset room) (nat_le (bytes_in structs m.pointer f.ctype) (room - f.offset)) b.1 in
-      let d = leb-true f.offset room c.0 in
-      let e = leb-true (bytes_in structs m.pointer f.ctype) (room - f.offset) c.1 in
-      record { kind = a.0; from = leb-true from f.offset b.0; to = omega (arith, d, e) }
-
   abbrev total : List FieldView → ℕ
   total = sum_of (count_of structs folded)
 
@@ -92,12 +66,12 @@ module _ (m : Model) (structs : List StructView) (folded : Bool) (leaf : Ty → 
   are_members room from (f ∷ fs) small within h k =
       let p = and_parts (is_member_in m structs room from f) (are_members_in m structs room (f.offset + bytes_in structs m.pointer f.ctype) fs) h in
       let q = and_parts (passes f.ctype) (list_all (λ f. passes f.ctype) fs) k in
-      let member = member_is room from f p.0 in
+      let member = member_is m structs room from f small p.0 in
       let to = member.to in
       let from_on = member.from in
-      let size = same_size structs m.pointer f.ctype (omega (arith, to, small)) in
-      let own = of_type f.ctype q.0 member.kind (omega (arith, to, small, size)) in
-      let others = are_members room (f.offset + bytes_in structs m.pointer f.ctype) fs small to p.1 q.1 in
+      let size = member.same in
+      let own = of_type f.ctype q.0 member.kind (omega (arith, to, small)) in
+      let others = are_members room (f.offset + bytes_in structs m.pointer f.ctype) fs small (omega (arith, to, size)) p.1 q.1 in
       let own_kept = own.kept in
       let others_kept = others.kept in
       let own_few = own.few in

@@ -5,9 +5,8 @@ use Rattle.lower_objects.specs.declared.counts.function_counts.FunctionCounts.{F
 use Rattle.lower_tables.specs.Counts.NormalizedTemplates.{NamesView, is_silent, with_begun, with_label, with_other, with_piece, with_pieces, no_names, renamed, renamed_exits, renamed_end, normalized}
 use Rattle.lower_template_theorems.specs.PendingLabels.Marks.{one}
 use Rattle.typed_programs.specs.PlainWorklists.LeadingPieces.{AllTo, Marked, NoLabel}
-use Rattle.simulation_layout.proofs.normalized.NormalizedPieces.{from, Once, once_next, own, all_once, normalized_from}
+use Rattle.simulation_layout.proofs.normalized.NormalizedPieces.{from, Once, number_of_next, once_next, own, all_once, normalized_from}
 use Rattle.typed_lowering.specs.LoopedUnits.CalmTemplates.{IsMarkedIn, IsCalm}
-use Rattle.typed_lowering.proofs.starts.NormalizedNumbers.{number_of_next}
 use Rattle.typed_lowering.proofs.starts.NormalizedKnowledge.{true_not, begun_behind, HasLabel, begun_count, piece_has}
 use Rattle.typed_lowering.proofs.starts.CalmPieces.{AreCalm, calm_lead, pieces_calm}
 

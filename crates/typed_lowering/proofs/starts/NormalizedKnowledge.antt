@@ -9,10 +9,9 @@ use Rattle.lower_tables.specs.Counts.NormalizedTemplates.{NamesView, is_silent, 
 use Rattle.typed_programs.specs.PlainWorklists.LeadingPieces.{Marked, NoLabel}
 use Rattle.typed_programs.specs.Types.TypedPrograms.{IsKept}
 use Rattle.typed_programs.specs.Types.TypedStates.{Temporaries}
-use Rattle.simulation_layout.proofs.normalized.NormalizedPieces.{Once, once_next}
+use Rattle.simulation_layout.proofs.normalized.NormalizedPieces.{Once, number_of_next, once_next}
 use Rattle.typed_lowering.specs.Conversions.TypedPieces.{State, Leads, IsTypedCall, AreTypedPieces}
 use Rattle.typed_lowering.proofs.conversions.KeptKnowledge.{kept_same, kept_trans}
-use Rattle.typed_lowering.proofs.starts.NormalizedNumbers.{number_of_next}
 
 pub true_not : {A : Type 0} → false ≡ true → A
 true_not e = absurd (cc)

@@ -7,7 +7,7 @@ use Rattle.c_layout.specs.declared.data_model.Model.{Model}
 use Rattle.c_layout.specs.Layout.{size_of_type}
 use Rattle.c_layout.specs.StructViews.{StructView, struct_at}
 use Rattle.c_layout.specs.Types.{Ty, Int, Pointer, Array, Struct, Void, same_type}
-use Rattle.c_types_theorems.proofs.stores.Types.{type_is}
+use Rattle.c_types_rules.proofs.SameTypes.{type_is}
 use Rattle.typed_programs.specs.Types.TypeBytes.{ScalarByte, own_scalar, scalar_byte, own_struct, struct_byte}
 use Rattle.typed_programs.specs.Types.StandingTypes.{AreLaidOut, Stands}
 use Rattle.typed_programs.proofs.layouts.StandingTypes.{stands_itself}

@@ -13,7 +13,7 @@ use Rattle.lower_preconditions.specs.Units.RegularStatements.{object_type}
 use Rattle.lower_preconditions.specs.Units.RegularStatements.{local_type as type_of_local}
 use Rattle.lower_preconditions.specs.Units.RegularTerms.{has_local}
 use Rattle.typed_programs.specs.Types.PointedTypes.{Element, Known, Zero, Null, Pointing, is_same, IsOfKind, number_kind, pointer_kind, IsStorable}
-use Rattle.c_types_theorems.proofs.stores.Types.{type_is}
+use Rattle.c_types_rules.proofs.SameTypes.{type_is}
 use Rattle.simulation_layout.proofs.function_checks.CountedLabels.{both_true}
 use Rattle.typed_lowering.specs.Conversions.KnownValues.{type_known, term_known}
 use Rattle.typed_lowering.specs.Conversions.TypedStatements.{is_copied_as}

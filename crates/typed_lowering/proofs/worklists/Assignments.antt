@@ -9,7 +9,7 @@ use Rattle.c_layout.specs.Types.{Ty, Int, Pointer, Array, Struct, Void, same_kin
 use Rattle.c_layout.specs.declared.checked_tree.checked_terms.StepTime.{StepTime}
 use Rattle.c_layout.specs.declared.syntax_tree.expressions.BinaryOp.{BinaryOp}
 use Rattle.c_layout.specs.declared.syntax_tree.expressions.StepOp.{StepOp}
-use Rattle.c_types_theorems.proofs.stores.Types.{type_is}
+use Rattle.c_types_rules.proofs.SameTypes.{type_is}
 use Rattle.cfg.specs.declared.machine_instructions.Amount.{Amount}
 use Rattle.cfg.specs.declared.machine_instructions.Amount.TheVariants as amount
 use Rattle.cfg.specs.declared.machine_instructions.Scalar.{Scalar}

@@ -8,7 +8,7 @@ use Rattle.c_layout.specs.CheckedUnits.{LocalView, FunctionView}
 use Rattle.c_layout.specs.Types.{Ty, Void, same_type}
 use Rattle.c_layout.specs.declared.library_functions.LibFn.{LibFn}
 use Rattle.c_layout.specs.declared.library_functions.LibFn.TheVariants.{Isalpha, Isdigit, Isspace, Isupper, Islower, Isalnum, Toupper, Tolower, Putchar, Exit, Abort}
-use Rattle.c_types_theorems.proofs.stores.Types.{type_is}
+use Rattle.c_types_rules.proofs.SameTypes.{type_is}
 use Rattle.lower_expressions.specs.Calls.{argued, argument_temps, own_call, result_temp, gives, target_size, library_call}
 use Rattle.lower_functions.specs.Functions.Functions.{type_or}
 use Rattle.typed_programs.specs.PlainUnits.PlainTerms.{is_plain_library, is_plain_term, are_plain_terms}

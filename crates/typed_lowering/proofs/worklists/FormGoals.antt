@@ -6,7 +6,7 @@ use Rattle.cc_base.specs.declared.int_types.IntType.{IntType}
 use Rattle.c_layout.specs.CheckedTrees as tree
 use Rattle.c_layout.specs.CheckedTrees.{TermTree, FormTree, Typed}
 use Rattle.c_layout.specs.Types.{Ty, Int, Pointer, Array, Struct, Void, same_type}
-use Rattle.c_types_theorems.proofs.stores.Types.{type_is}
+use Rattle.c_types_rules.proofs.SameTypes.{type_is}
 use Rattle.lower_expressions.specs.Branches.{arm}
 use Rattle.typed_programs.specs.PlainUnits.PlainTerms.{is_plain_term}
 use Rattle.lower_templates.specs.Worklist.Acts.{Step}

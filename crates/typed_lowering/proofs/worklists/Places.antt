@@ -14,7 +14,7 @@ use Rattle.c_layout.specs.StructViews.{FieldView, StructView, struct_at, no_stru
 use Rattle.c_layout.specs.Types.{Ty, Int, Pointer, Array, Struct, Void, same_type}
 use Rattle.c_layout.specs.declared.checked_tree.checked_terms.ObjectRef.{ObjectRef}
 use Rattle.c_layout.specs.declared.checked_tree.checked_terms.ObjectRef.TheVariants as ref
-use Rattle.c_types_theorems.proofs.stores.Types.{type_is}
+use Rattle.c_types_rules.proofs.SameTypes.{type_is}
 use Rattle.lower_expressions.specs.LvaluePointers.{address, base_address}
 use Rattle.typed_programs.specs.PlainUnits.PlainTerms.{is_plain_designator, is_plain_term, is_plain_place}
 use Rattle.lower_templates.specs.Worklist.Acts as acts

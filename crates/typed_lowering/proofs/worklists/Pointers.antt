@@ -10,7 +10,7 @@ use Rattle.c_layout.specs.CheckedUnits.{UnitView}
 use Rattle.c_layout.specs.Layout.{size_of_type}
 use Rattle.c_layout.specs.Types.{Ty, Int, Pointer, Array, Struct, Void, same_type}
 use Rattle.c_layout.specs.declared.checked_tree.checked_terms.ConversionKind.{ConversionKind}
-use Rattle.c_types_theorems.proofs.stores.Types.{type_is}
+use Rattle.c_types_rules.proofs.SameTypes.{type_is}
 use Rattle.cfg.specs.declared.machine_instructions.Amount.TheVariants as amount
 use Rattle.cfg.specs.declared.machine_instructions.Scalar.TheVariants as scalar
 use Rattle.lower_expressions.specs.Values.{moved_pointer, of_form}
