@@ -3,7 +3,7 @@ ghost use Rattle.cli.specs.Theorems as spec;
 
 use analysis_sound::checked_runs_are_found;
 use c_types_well_formed_units::{
-    checks_are_well_typed, checks_are_scoped, checks_are_small, trees_are_proper,
+    checks_are_scoped, checks_are_small, checks_are_well_typed, trees_are_proper,
     trees_declare_in_blocks,
 };
 use certificate_theorems::accepted_certificates_hold_units;

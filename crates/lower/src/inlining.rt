@@ -1,8 +1,8 @@
 //! Lowering of a checked unit to its control-flow program.
 
 mod counted_bases;
-mod moved_operations;
 mod inlined_program;
+mod moved_operations;
 mod resolved_edges;
 mod theorems;
 mod unit_lowering;

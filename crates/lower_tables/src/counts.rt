@@ -1,8 +1,8 @@
 //! What a unit's control-flow program has, counted without making it, and what passes a limit.
 
 mod count_limits;
-mod prepared_functions;
 mod normalized_templates;
+mod prepared_functions;
 mod theorems;
 
 pub use count_limits::{UnitCounts, all_within, pool_values, unit_counts, within};
