@@ -197,7 +197,7 @@ def missing_entries(pages):
     if "docs/ARCHITECTURE.md" in pages:
         yield from missing_crates(pages["docs/ARCHITECTURE.md"])
     code = code_of_crates()
-    rules = sorted(set(re.findall(r'Rule::\w+ => "([a-z]+)"', code)))
+    rules = sorted(set(re.findall(r'Rule::\w+ => RuleWords \{\s+tag: "([a-z]+)"', code)))
     enum = re.search(r"pub enum Refusal \{(.*?)\n\}", code, re.S)
     refusals = re.findall(r"^    ([A-Z]\w+)", enum.group(1), re.M) if enum else []
     for path, names in (("docs/rules.md", rules), ("docs/refusals.md", refusals)):
